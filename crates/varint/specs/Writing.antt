@@ -9,7 +9,9 @@ use lib.Dec.{ltb}
 -- The first argument only bounds the recursion; the number itself is bound enough.
 unfoldable pub groupsOf : ℕ → ℕ → List ℕ
 groupsOf zero n = n ∷ []
-groupsOf (suc bound) n = cond (ltb n 64) (n ∷ []) (n % 64 ∷ groupsOf bound (n / 64))
+groupsOf (suc bound) n =
+    let higher = groupsOf bound (n / 64) in
+    cond (ltb n 64) (n ∷ []) (n % 64 ∷ higher)
 
 unfoldable pub groups : ℕ → List ℕ
 unfolding groupsOf

@@ -6,7 +6,7 @@ ghost use lib.ListN.{length, take, drop};
 ghost use mir.Syntax.{w32};
 ghost use mir.Val.{ofZ};
 ghost use Rattle.varint.specs.Writing.{littleEndian, bigEndian, bigEndianWithStart, signedCode};
-ghost use Rattle.varint.specs.Reading.{readGroups, readVarint, readVarintWithStart};
+ghost use Rattle.varint.specs.Reading.{readVarint, readVarintWithStart};
 ghost use Rattle.varint.specs.Answers.{stored, storedSigned};
 
 // A writer's answer: how many bytes were written, or a refusal's number and place.
@@ -106,8 +106,9 @@ pub fn read_varint_with_start(data: &[u8], at: usize) -> Found
     read_varint(data, at)
 }
 
-// The bytes of `val`, lowest first, from the array's start; the answer is their number.
-fn little_endian(bytes: &mut [u8; 6], val: u32) -> usize
+// The bytes of `val`, lowest first, from the start of six; the answer is their number.
+fn little_endian(bytes: &mut [u8], val: u32) -> usize
+    requires { ⌜ length (now bytes) ≡ 6 ⌝ }
     ensures { λ r. ⌜ (r ≤ 6) × (take r (now (bytes .exit)) ≡ littleEndian val) ⌝ }
 {
     let mut i = 0;
@@ -121,8 +122,9 @@ fn little_endian(bytes: &mut [u8; 6], val: u32) -> usize
     i + 1
 }
 
-// The bytes of `val`, highest first, to the array's end; the answer is where they start.
-fn big_endian(bytes: &mut [u8; 6], val: u32) -> usize
+// The bytes of `val`, highest first, to the end of six; the answer is where they start.
+fn big_endian(bytes: &mut [u8], val: u32) -> usize
+    requires { ⌜ length (now bytes) ≡ 6 ⌝ }
     ensures { λ r. ⌜ (r ≤ 5) × (drop r (now (bytes .exit)) ≡ bigEndian val) ⌝ }
 {
     let mut i = 5;
