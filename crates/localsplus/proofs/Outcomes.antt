@@ -34,10 +34,10 @@ pub record Room (count sum : ℕ) (rooms : Rooms) (s : ℕ) : Type 0 where
   pub map : count ≤ rooms .map
   pub arguments : count ≤ rooms .arguments
 
-pub room : (count names sum s : ℕ) (rooms : Rooms) → checks count names sum rooms ≡ Fits s → Room count sum rooms s
+pub room : (count names sum s : ℕ) (rooms : Rooms) {checked : Checked} → checked ≡ checks count names sum rooms → checked ≡ Fits s → Room count sum rooms s
 unfolding checks roomFor
-room count names sum s rooms e =
-    let a = passed (ltb mostBytes count) _ _ s _ e in
+room count names sum s rooms r e =
+    let a = passed (ltb mostBytes count) _ _ s _ (sym r ∙ e) in
     let b = passed (not (eqb names count)) _ _ s _ (a .1) in
     let c = passed (leb (2 ^ 32) sum) _ _ s _ (b .1) in
     let l = passed (ltb (rooms .locals) names) _ _ s _ (c .1) in
@@ -56,11 +56,12 @@ room count names sum s rooms e =
       arguments = omega (arith, ltb-false (rooms .arguments) names (p .0));
     }
 
-module _ {kinds locals cells frees map arguments locals′ cells′ frees′ map′ arguments′ : List ℕ} {names args kwonly flags sum : ℕ} where
+module _ {kinds locals cells frees map arguments locals′ cells′ frees′ map′ arguments′ : List ℕ} {names args kwonly flags sum : ℕ} {checked : Checked} where
   -- refused: every store is zero
   pub refused : {number place : ℕ}
       → sum ≡ argumentSum args kwonly flags
-      → checks (length kinds) names sum (roomsOf locals cells frees map arguments) ≡ Fails number place
+      → checked ≡ checks (length kinds) names sum (roomsOf locals cells frees map arguments)
+      → checked ≡ Fails number place
       → locals′ ≡ zeros (length locals)
       → cells′ ≡ zeros (length cells)
       → frees′ ≡ zeros (length frees)
@@ -68,30 +69,27 @@ module _ {kinds locals cells frees map arguments locals′ cells′ frees′ map
       → arguments′ ≡ zeros (length arguments)
       → IsSplit kinds names args kwonly flags locals cells frees map arguments (Refused number place) locals′ cells′ frees′ map′ arguments′
   unfolding splitOf answered stored
-  refused s e l c f m a =
-      record { answer = rw (← s, e); holds-locals = l; holds-cells = c; holds-frees = f; holds-map = m; holds-arguments = a }
+  refused q r e l c f m a =
+      record { answer = rw (← q, ← r, e); holds-locals = l; holds-cells = c; holds-frees = f; holds-map = m; holds-arguments = a }
 
   -- accepted: every store holds its list, then zeros
   pub accepted : {s nl nc nf : ℕ} {p : Bool}
       → sum ≡ argumentSum args kwonly flags
-      → checks (length kinds) names sum (roomsOf locals cells frees map arguments) ≡ Fits s
-      → nl ≡ length (positions localBit kinds)
-      → nc ≡ length (positions cellBit kinds)
-      → nf ≡ length (positions freeBit kinds)
-      → p ≡ present s kinds
-      → locals′ ≡ padded (length locals) (positions localBit kinds)
-      → cells′ ≡ padded (length cells) (positions cellBit kinds)
-      → frees′ ≡ padded (length frees) (positions freeBit kinds)
+      → checked ≡ checks (length kinds) names sum (roomsOf locals cells frees map arguments)
+      → checked ≡ Fits s
+      → (nl ≡ length (positions localBit kinds)) × (nl ≤ mostBytes) × (locals′ ≡ padded (length locals) (positions localBit kinds))
+      → (nc ≡ length (positions cellBit kinds)) × (nc ≤ mostBytes) × (cells′ ≡ padded (length cells) (positions cellBit kinds))
+      → (nf ≡ length (positions freeBit kinds)) × (nf ≤ mostBytes) × (frees′ ≡ padded (length frees) (positions freeBit kinds))
       → map′ ≡ padded (length map) (mapFrom 0 nc kinds)
-      → arguments′ ≡ padded (length arguments) (cellToArgument s kinds)
+      → (p ≡ present s kinds) × (arguments′ ≡ padded (length arguments) (cellToArgument s kinds))
       → IsSplit kinds names args kwonly flags locals cells frees map arguments (Done nl nc nf p) locals′ cells′ frees′ map′ arguments′
   unfolding splitOf answered stored
-  accepted {s} q e cl cc′ cf cp l c f m a =
+  accepted {s} q r e l c f m a =
       record {
-        answer = rw (← q, e, cl, cc′, cf, cp);
-        holds-locals = l;
-        holds-cells = c;
-        holds-frees = f;
-        holds-map = rw (← cc′) m;
-        holds-arguments = rw (← q, room _ names sum s _ e .sums) a;
+        answer = rw (← q, ← r, e, l .0, c .0, f .0, a .0);
+        holds-locals = l .2;
+        holds-cells = c .2;
+        holds-frees = f .2;
+        holds-map = rw (← c .0) m;
+        holds-arguments = rw (← q, room _ names sum s _ r e .sums) (a .1);
       }

@@ -1,9 +1,11 @@
-use Rattle.localsplus.proofs.Turns.{argument-some, argument-none, arguments-end}
-use Rattle.localsplus.specs.Lists.{cellArgsFrom, allNothing}
-use lib.ListN.{length, drop}
-use mathlib.Core.Path.{_≡_, refl, sym, _∙_}
+-- `localsplus::any_argument` meets its contract: what is left of the list says as much as the whole on whether all are nothing.
+-- Assumes nothing.
 use Prim.Native.Nat.{_-_, _≤_}
+use mathlib.Core.Path.{_≡_, refl, sym, _∙_}
+use lib.ListN.{length, drop}
 use borrow.Author.Needs.{needs}
+use Rattle.localsplus.specs.Lists.{cellArgsFrom, allNothing}
+use Rattle.localsplus.proofs.Turns.{argument-some, argument-none, arguments-end}
 use Rattle.localsplus.proofs.any_argument.Statement.{statement}
 use Rattle.localsplus.proofs.any_argument.Tie as tie
 

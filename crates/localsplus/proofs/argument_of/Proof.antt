@@ -1,6 +1,8 @@
+-- `localsplus::argument_of` meets its contract: each `return` goes by the bits and the test that led to it.
+-- Assumes nothing.
 use borrow.Author.Tests.{lt-ltb, le-ltb}
-use Rattle.localsplus.specs.Lists.{argumentOf, argumentCell}
 use borrow.Author.Needs.{needs}
+use Rattle.localsplus.specs.Lists.{argumentOf, argumentCell}
 use Rattle.localsplus.proofs.argument_of.Statement.{statement}
 use Rattle.localsplus.proofs.argument_of.Tie as tie
 

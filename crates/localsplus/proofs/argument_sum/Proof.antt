@@ -1,5 +1,7 @@
-use Rattle.localsplus.specs.Sum.{argumentSum}
+-- `localsplus::argument_sum` meets its contract: the definition is the code's own sum, and no part of it passes 64 bits.
+-- Assumes nothing.
 use borrow.Author.Needs.{needs}
+use Rattle.localsplus.specs.Sum.{argumentSum}
 use Rattle.localsplus.proofs.argument_sum.Statement.{statement}
 use Rattle.localsplus.proofs.argument_sum.Tie as tie
 

@@ -1,6 +1,8 @@
-use Rattle.lent.proofs.Laws.{padded-none}
+-- `localsplus::cell_to_argument` meets its contract: either arm goes by whether an argument cell was found.
+-- Assumes nothing.
 use mathlib.Core.Path.{sym, _∙_}
 use borrow.Author.Needs.{needs}
+use Rattle.lent.proofs.Laws.{padded-none}
 use Rattle.localsplus.proofs.cell_to_argument.Statement.{statement}
 use Rattle.localsplus.proofs.cell_to_argument.Tie as tie
 

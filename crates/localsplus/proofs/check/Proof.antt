@@ -1,6 +1,8 @@
+-- `localsplus::check` meets its contract: each `return` goes by the tests that led to it, the last by what `room_for` ensures.
+-- Assumes nothing.
 use borrow.Author.Tests.{lt-ltb, le-ltb, eq-eqb, ne-eqb, le-leb, lt-leb}
-use Rattle.localsplus.specs.Answer.{checks}
 use borrow.Author.Needs.{needs}
+use Rattle.localsplus.specs.Answer.{checks}
 use Rattle.localsplus.proofs.check.Statement.{statement}
 use Rattle.localsplus.proofs.check.Tie as tie
 

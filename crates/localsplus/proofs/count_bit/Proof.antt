@@ -1,5 +1,7 @@
-use Rattle.localsplus.specs.Lists.{counted}
+-- `localsplus::count_bit` meets its contract: either arm goes by the bit that was found.
+-- Assumes nothing.
 use borrow.Author.Needs.{needs}
+use Rattle.localsplus.specs.Lists.{counted}
 use Rattle.localsplus.proofs.count_bit.Statement.{statement}
 use Rattle.localsplus.proofs.count_bit.Tie as tie
 

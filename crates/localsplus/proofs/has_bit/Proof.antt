@@ -1,5 +1,7 @@
-use Rattle.localsplus.specs.Kind.{has}
+-- `localsplus::has_bit` meets its contract: the definition is the code's own quotient and remainder.
+-- Assumes nothing.
 use borrow.Author.Needs.{needs}
+use Rattle.localsplus.specs.Kind.{has}
 use Rattle.localsplus.proofs.has_bit.Statement.{statement}
 use Rattle.localsplus.proofs.has_bit.Tie as tie
 

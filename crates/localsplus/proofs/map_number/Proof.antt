@@ -1,5 +1,7 @@
-use Rattle.localsplus.specs.Lists.{mapped}
+-- `localsplus::map_number` meets its contract: each `return` goes by the bits that were found.
+-- Assumes nothing.
 use borrow.Author.Needs.{needs}
+use Rattle.localsplus.specs.Lists.{mapped}
 use Rattle.localsplus.proofs.map_number.Statement.{statement}
 use Rattle.localsplus.proofs.map_number.Tie as tie
 

@@ -1,6 +1,8 @@
+-- `localsplus::room_for` meets its contract: each `return` goes by the tests that led to it.
+-- Assumes nothing.
 use borrow.Author.Tests.{lt-ltb, le-ltb}
-use Rattle.localsplus.specs.Answer.{roomFor}
 use borrow.Author.Needs.{needs}
+use Rattle.localsplus.specs.Answer.{roomFor}
 use Rattle.localsplus.proofs.room_for.Statement.{statement}
 use Rattle.localsplus.proofs.room_for.Tie as tie
 

@@ -1,6 +1,7 @@
-use Rattle.localsplus.proofs.Outcomes.{Room, room, refused, accepted}
-use mathlib.Core.Path.{sym, _∙_}
+-- `localsplus::split_localplus` meets its contract: `room` hands each writer what it asks; the two ends are the laws of `Outcomes`.
+-- Assumes nothing.
 use borrow.Author.Needs.{needs}
+use Rattle.localsplus.proofs.Outcomes.{room, refused, accepted}
 use Rattle.localsplus.proofs.split_localplus.Statement.{statement}
 use Rattle.localsplus.proofs.split_localplus.Tie as tie
 
@@ -32,19 +33,29 @@ enum-known-sum : tie.Need-enum-known-sum
 enum-known-sum c = search needs
 
 write-positions-requires : tie.Need-write-positions-requires
-write-positions-requires c κs = let k = room _ _ _ _ _ (sym (c .before .before .before .before .check .ensures) ∙ c .before .before .sum .given .1) in (search needs, k .small, k .locals)
+write-positions-requires c κs =
+    let k = room _ _ _ _ _ (c .before .before .before .before .check .ensures) (c .before .before .sum .given .1) in
+    (search needs, k .small, k .locals)
 
 write-positions-requires-2 : tie.Need-write-positions-requires-2
-write-positions-requires-2 c κs = let k = room _ _ _ _ _ (sym (c .before .before .before .before .before .before .before .before .check .ensures) ∙ c .before .before .before .before .before .before .sum .given .1) in (search needs, k .small, k .cells)
+write-positions-requires-2 c κs =
+    let k = room _ _ _ _ _ (c .before .before .before .before .before .before .before .before .check .ensures) (c .before .before .before .before .before .before .sum .given .1) in
+    (search needs, k .small, k .cells)
 
 write-positions-requires-3 : tie.Need-write-positions-requires-3
-write-positions-requires-3 c κs = let k = room _ _ _ _ _ (sym (c .before .before .before .before .before .before .before .before .before .before .before .before .check .ensures) ∙ c .before .before .before .before .before .before .before .before .before .before .sum .given .1) in (search needs, k .small, k .frees)
+write-positions-requires-3 c κs =
+    let k = room _ _ _ _ _ (c .before .before .before .before .before .before .before .before .before .before .before .before .check .ensures) (c .before .before .before .before .before .before .before .before .before .before .sum .given .1) in
+    (search needs, k .small, k .frees)
 
 write-map-requires : tie.Need-write-map-requires
-write-map-requires c κs = let k = room _ _ _ _ _ (sym (c .before .before .before .before .before .before .before .before .before .before .before .before .before .before .before .before .check .ensures) ∙ c .before .before .before .before .before .before .before .before .before .before .before .before .before .before .sum .given .1) in (c .before .before .before .before .before .before .before .write-positions2 .ensures .1, k .small, k .map)
+write-map-requires c κs =
+    let k = room _ _ _ _ _ (c .before .before .before .before .before .before .before .before .before .before .before .before .before .before .before .before .check .ensures) (c .before .before .before .before .before .before .before .before .before .before .before .before .before .before .sum .given .1) in
+    (c .before .before .before .before .before .before .before .write-positions2 .ensures .1, k .small, k .map)
 
 cell-to-argument-requires : tie.Need-cell-to-argument-requires
-cell-to-argument-requires c κs = let k = room _ _ _ _ _ (sym (c .before .before .before .before .before .before .before .before .before .before .before .before .before .before .before .before .before .before .before .before .check .ensures) ∙ c .before .before .before .before .before .before .before .before .before .before .before .before .before .before .before .before .before .before .sum .given .1) in (k .small, k .arguments)
+cell-to-argument-requires c κs =
+    let k = room _ _ _ _ _ (c .before .before .before .before .before .before .before .before .before .before .before .before .before .before .before .before .before .before .before .before .check .ensures) (c .before .before .before .before .before .before .before .before .before .before .before .before .before .before .before .before .before .before .sum .given .1) in
+    (k .small, k .arguments)
 
 same-length : tie.Need-same-length
 same-length c = search needs
@@ -62,15 +73,7 @@ same-length-5 : tie.Need-same-length-5
 same-length-5 c = search needs
 
 returns : tie.Need-returns
-returns c =
-    refused
-    (c .before .before .before .before .before .before .before .before .before .before .before .before .before .before .before .before .before .before .before .before .before .before .before .before .argument-sum .ensures)
-    (sym (c .before .before .before .before .before .before .before .before .before .before .before .before .before .before .before .before .before .before .before .before .before .before .before .check .ensures) ∙ c .before .before .before .before .before .before .before .before .before .before .before .before .before .before .before .before .before .before .before .before .before .number .given .1)
-    (c .before .before .before .before .before .before .before .before .before .before .before .before .before .before .before .before .before .before .clear-words .ensures)
-    (c .before .before .before .before .before .before .before .before .before .before .before .before .before .before .clear-words2 .ensures)
-    (c .before .before .before .before .before .before .before .before .before .before .clear-words3 .ensures)
-    (c .before .before .before .before .before .before .clear-words4 .ensures)
-    (c .before .before .clear-words5 .ensures)
+returns c = search (refused, needs)
 
 same-length-6 : tie.Need-same-length-6
 same-length-6 c = search needs
@@ -88,23 +91,7 @@ same-length-10 : tie.Need-same-length-10
 same-length-10 c = search needs
 
 returns-2 : tie.Need-returns-2
-returns-2 c =
-    let l = c .before .before .before .before .before .before .before .before .before .before .before .before .before .before .before .before .before .before .write-positions .ensures in
-    let m = c .before .before .before .before .before .before .before .before .before .before .before .before .before .before .write-positions2 .ensures in
-    let f = c .before .before .before .before .before .before .before .before .before .before .write-positions3 .ensures in
-    let a = c .before .before .cell-to-argument .ensures in
-    accepted
-    (c .before .before .before .before .before .before .before .before .before .before .before .before .before .before .before .before .before .before .before .before .before .before .before .before .argument-sum .ensures)
-    (sym (c .before .before .before .before .before .before .before .before .before .before .before .before .before .before .before .before .before .before .before .before .before .before .before .check .ensures) ∙ c .before .before .before .before .before .before .before .before .before .before .before .before .before .before .before .before .before .before .before .before .before .sum .given .1)
-    (l .0)
-    (m .0)
-    (f .0)
-    (a .0)
-    (l .2)
-    (m .2)
-    (f .2)
-    (c .before .before .before .before .before .before .write-map .ensures)
-    (a .1)
+returns-2 c = search (accepted, needs)
 
 pub split-localplus-spec : {M : Type 1} → statement M
 split-localplus-spec =

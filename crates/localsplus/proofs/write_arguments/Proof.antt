@@ -1,12 +1,14 @@
-use Rattle.localsplus.proofs.Turns.{arguments-has, arguments-lacks, arguments-end}
-use Rattle.localsplus.specs.Lists.{cellArgsFrom}
-use mathlib.Core.Logic.{⊎-elim}
-use Rattle.localsplus.proofs.Walk.{Walk, walk-start, walk-put, walk-pass, walk-done}
-use Rattle.lent.specs.Lent.{zeros}
-use lib.ListN.{length, drop}
-use mathlib.Core.Path.{refl, sym, ap, _∙_}
+-- `localsplus::write_arguments` meets its contract: the laws of a walk carry the loop, one turn of the list each arm.
+-- Assumes nothing.
 use Prim.Native.Nat.{_-_}
+use mathlib.Core.Logic.{⊎-elim}
+use mathlib.Core.Path.{sym, ap, _∙_}
+use lib.ListN.{length, drop}
 use borrow.Author.Needs.{needs}
+use Rattle.lent.specs.Lent.{zeros}
+use Rattle.localsplus.specs.Lists.{cellArgsFrom}
+use Rattle.localsplus.proofs.Turns.{arguments-has, arguments-lacks, arguments-end}
+use Rattle.localsplus.proofs.Walk.{Walk, walk-start, walk-put, walk-pass, walk-done}
 use Rattle.localsplus.proofs.write_arguments.Statement.{statement}
 use Rattle.localsplus.proofs.write_arguments.Tie as tie
 

@@ -1,12 +1,13 @@
-use Rattle.localsplus.proofs.Turns.{map-one, map-end}
-use Rattle.localsplus.specs.Lists.{mapFrom}
-use Prim.Native.Nat.{_+_, _≤_}
-use Rattle.localsplus.proofs.Walk.{Walk, walk-start, walk-put, walk-pass, walk-done}
-use Rattle.lent.specs.Lent.{zeros}
-use lib.ListN.{length, drop}
+-- `localsplus::write_map` meets its contract: the laws of a walk carry the loop; the ranks stay below the names passed.
+-- Assumes nothing.
+use Prim.Native.Nat.{_+_, _≤_, _-_}
 use mathlib.Core.Path.{refl, sym, ap, _∙_}
-use Prim.Native.Nat.{_-_}
+use lib.ListN.{length, drop}
 use borrow.Author.Needs.{needs}
+use Rattle.lent.specs.Lent.{zeros}
+use Rattle.localsplus.specs.Lists.{mapFrom}
+use Rattle.localsplus.proofs.Turns.{map-one, map-end}
+use Rattle.localsplus.proofs.Walk.{Walk, walk-start, walk-put, walk-done}
 use Rattle.localsplus.proofs.write_map.Statement.{statement}
 use Rattle.localsplus.proofs.write_map.Tie as tie
 

@@ -1,12 +1,14 @@
-use Rattle.localsplus.proofs.Turns.{positions-has, positions-lacks, positions-end}
-use Rattle.localsplus.proofs.Walk.{Walk, walk-start, walk-put, walk-pass, walk-done}
-use Rattle.localsplus.specs.Lists.{positionsFrom, positions}
-use Rattle.lent.specs.Lent.{zeros}
-use mathlib.Core.Path.{sym, ap, _∙_}
+-- `localsplus::write_positions` meets its contract: the laws of a walk carry the loop, one turn of the positions each arm.
+-- Assumes nothing.
 use Prim.Native.Nat.{_-_}
+use mathlib.Core.Path.{sym, ap, _∙_}
 use mathlib.Core.Logic.{⊎-elim}
 use lib.ListN.{length, drop}
 use borrow.Author.Needs.{needs}
+use Rattle.lent.specs.Lent.{zeros}
+use Rattle.localsplus.specs.Lists.{positionsFrom, positions}
+use Rattle.localsplus.proofs.Turns.{positions-has, positions-lacks, positions-end}
+use Rattle.localsplus.proofs.Walk.{Walk, walk-start, walk-put, walk-pass, walk-done}
 use Rattle.localsplus.proofs.write_positions.Statement.{statement}
 use Rattle.localsplus.proofs.write_positions.Tie as tie
 
