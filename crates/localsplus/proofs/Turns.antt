@@ -13,6 +13,11 @@ use Rattle.refusals.specs.Limits.{mostBytes, nothing}
 use Rattle.localsplus.specs.Kind.{localBit, cellBit, freeBit, has}
 use Rattle.localsplus.specs.Lists.{positionsFrom, mapped, counted, mapFrom, argumentCell, argumentOf, cellArgsFrom, allNothing}
 
+-- what follows from a test whichever way it falls
+pub by-test : {P : Type 0} (t : Bool) → (t ≡ true → P) → (t ≡ false → P) → P
+by-test true f g = f refl
+by-test false f g = g refl
+
 module _ (kinds : List ℕ) (i : ℕ) (h : i < length kinds) where
   pub positions-has : (bit : ℕ) → has bit (getD kinds i 0) ≡ true → positionsFrom bit i (drop i kinds) ≡ i ∷ positionsFrom bit (i + 1) (drop (i + 1) kinds)
   unfolding positionsFrom
@@ -39,20 +44,14 @@ module _ (kinds : List ℕ) (i : ℕ) (h : i < length kinds) where
   -- a name without an argument says nothing on whether all are nothing
   pub argument-none : (sum : ℕ) → argumentOf sum i (getD kinds i 0) ≡ nothing → allNothing (cellArgsFrom sum i (drop i kinds)) ≡ allNothing (cellArgsFrom sum (i + 1) (drop (i + 1) kinds))
   unfolding allNothing
-  argument-none sum e = go (has cellBit (getD kinds i 0)) refl
-    where
-      go : (t : Bool) → has cellBit (getD kinds i 0) ≡ t → allNothing (cellArgsFrom sum i (drop i kinds)) ≡ allNothing (cellArgsFrom sum (i + 1) (drop (i + 1) kinds))
-      go true q = rw (arguments-has sum q refl, e)
-      go false q = rw (arguments-lacks sum q)
+  argument-none sum e =
+      by-test (has cellBit (getD kinds i 0)) (λ q. rw (arguments-has sum q refl, e)) (λ q. rw (arguments-lacks sum q))
 
   -- a name with one says that they are not
   pub argument-some : (sum : ℕ) → (argumentOf sum i (getD kinds i 0) ≡ nothing → ⊥) → allNothing (cellArgsFrom sum i (drop i kinds)) ≡ false
   unfolding allNothing argumentOf argumentCell
-  argument-some sum e = go (has cellBit (getD kinds i 0)) refl
-    where
-      go : (t : Bool) → has cellBit (getD kinds i 0) ≡ t → allNothing (cellArgsFrom sum i (drop i kinds)) ≡ false
-      go true q = rw (arguments-has sum q refl, ne-eqb _ _ e)
-      go false q = absurd (e (rw (q, and-false)))
+  argument-some sum e =
+      by-test (has cellBit (getD kinds i 0)) (λ q. rw (arguments-has sum q refl, ne-eqb _ _ e)) (λ q. absurd (e (rw (q, and-false))))
 
 -- no byte is left
 module _ (kinds : List ℕ) (i : ℕ) (h : length kinds ≤ i) where
