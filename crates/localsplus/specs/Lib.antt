@@ -1,0 +1,4 @@
+pub mod Sum
+pub mod Kind
+pub mod Lists
+pub mod Answer
