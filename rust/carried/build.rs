@@ -19,11 +19,7 @@ fn main() {
     println!("cargo::rerun-if-changed=build.rs");
     println!("cargo::rerun-if-changed=src");
     let folders = candidates();
-    match folders
-        .iter()
-        .map(|folder| folder.join("src"))
-        .find(|src| is_complete(src))
-    {
+    match folders.iter().map(|folder| folder.join("src")).find(|src| is_complete(src)) {
         Some(src) => lay_out(&fs::canonicalize(src).unwrap()),
         None => say_absent(&folders),
     }
@@ -66,11 +62,7 @@ fn lay_out(src: &Path) {
         unix::fs::symlink(src.join(file), tree.join(file)).unwrap();
     }
     let added = Path::new(env!("CARGO_MANIFEST_DIR")).join("src/within_marshal.rs");
-    let marshal = format!(
-        "include!({:?});\ninclude!({:?});\n",
-        src.join("marshal.rs"),
-        added
-    );
+    let marshal = format!("include!({:?});\ninclude!({:?});\n", src.join("marshal.rs"), added);
     fs::write(tree.join("marshal.rs"), marshal).unwrap();
     fs::write(tree.join("frozen.rs"), "").unwrap();
     fs::write(tree.join("mode.rs"), "pub enum Mode {}\n").unwrap();

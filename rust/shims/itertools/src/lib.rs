@@ -34,10 +34,7 @@ where
     F: FnOnce(ProcessResults<'_, I::IntoIter, E>) -> R,
 {
     let mut error = None;
-    let answer = work(ProcessResults {
-        results: results.into_iter(),
-        error: &mut error,
-    });
+    let answer = work(ProcessResults { results: results.into_iter(), error: &mut error });
     match error {
         None => Ok(answer),
         Some(error) => Err(error),
@@ -49,10 +46,7 @@ pub trait Itertools: Iterator {
     where
         Self: Sized,
     {
-        Format {
-            separator,
-            items: Cell::new(Some(self)),
-        }
+        Format { separator, items: Cell::new(Some(self)) }
     }
 }
 

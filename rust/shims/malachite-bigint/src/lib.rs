@@ -78,11 +78,7 @@ impl TryFrom<&BigInt> for i32 {
         let mut four = [0; 4];
         four[..value.bytes.len()].copy_from_slice(&value.bytes);
         let magnitude = i64::from(u32::from_le_bytes(four));
-        let signed = if value.sign == Sign::Minus {
-            -magnitude
-        } else {
-            magnitude
-        };
+        let signed = if value.sign == Sign::Minus { -magnitude } else { magnitude };
         i32::try_from(signed).map_err(|_| ())
     }
 }
@@ -122,8 +118,7 @@ impl ops::AddAssign for BigInt {
         }
         let mut carried = 0;
         for (i, byte) in bytes.iter_mut().enumerate() {
-            let sum =
-                u16::from(*byte) + u16::from(other.bytes.get(i).copied().unwrap_or(0)) + carried;
+            let sum = u16::from(*byte) + u16::from(other.bytes.get(i).copied().unwrap_or(0)) + carried;
             *byte = sum as u8;
             carried = sum >> 8;
         }
@@ -135,15 +130,7 @@ impl ops::AddAssign for BigInt {
 /// In hexadecimal, which the original does not: no comparison looks at it.
 impl fmt::Display for BigInt {
     fn fmt(&self, f: &mut fmt::Formatter<'_>) -> fmt::Result {
-        f.write_str(if self.sign == Sign::Minus {
-            "-0x"
-        } else {
-            "0x"
-        })?;
-        self.to_bytes_le()
-            .1
-            .iter()
-            .rev()
-            .try_for_each(|byte| write!(f, "{byte:02x}"))
+        f.write_str(if self.sign == Sign::Minus { "-0x" } else { "0x" })?;
+        self.to_bytes_le().1.iter().rev().try_for_each(|byte| write!(f, "{byte:02x}"))
     }
 }
