@@ -1,5 +1,6 @@
 //! Stores as the port is lent them: full of marks before the call, guarded on both sides, and held afterwards to
 //! "what was written, then zeros".
+use sillgarland_sys::Location;
 use std::fmt::Debug;
 
 pub trait Cell: Copy + PartialEq + Debug {
@@ -15,6 +16,11 @@ impl Cell for u8 {
 impl Cell for u32 {
     const MARK: Self = 0xA5A5_A5A5;
     const ZERO: Self = 0;
+}
+
+impl Cell for Location {
+    const MARK: Self = Location { line: 7, column: 7, end_line: 7, end_column: 7 };
+    const ZERO: Self = Location { line: 0, column: 0, end_line: 0, end_column: 0 };
 }
 
 const GUARD: usize = 4;
@@ -36,17 +42,20 @@ impl<T: Cell> Lent<T> {
         self.cells[GUARD..].as_mut_ptr()
     }
 
+    pub fn cells(&self) -> &[T] {
+        &self.cells[GUARD..GUARD + self.len()]
+    }
+
     /// The store holds what was written and then zeros, and the cells beside it are untouched.
     pub fn holds(&self, name: &str, written: &[T]) -> Result<(), String> {
-        let end = GUARD + self.len();
-        let store = &self.cells[GUARD..end];
+        let store = self.cells();
         if !store.starts_with(written) {
             return Err(format!("{name} holds {store:?} and not {written:?}"));
         }
         if store[written.len()..].iter().any(|cell| *cell != T::ZERO) {
             return Err(format!("{name} is not zero past what was written: {store:?}"));
         }
-        let mut guards = self.cells[..GUARD].iter().chain(&self.cells[end..]);
+        let mut guards = self.cells[..GUARD].iter().chain(&self.cells[GUARD + self.len()..]);
         if guards.any(|cell| *cell != T::MARK) {
             return Err(format!("cells beside {name} were written"));
         }
