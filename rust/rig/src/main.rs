@@ -1,0 +1,163 @@
+//! The rig: holds the port, called as a static library, to the Rust it carries over, to what CPython says of its own
+//! code, and to lists of answers kept in the repository. `rig --help` says how to call it.
+mod cpython;
+mod lent;
+mod linetable;
+mod localsplus;
+#[cfg(carried)]
+mod panics;
+#[cfg(carried)]
+mod random;
+mod subject;
+mod tally;
+mod text;
+mod varint;
+
+use linetable::LineTables;
+use localsplus::LocalNames;
+use std::process::ExitCode;
+use subject::replay;
+use varint::Varints;
+
+const USAGE: &str = "\
+usage: rig [--long] [--tables FILE]              compare with the carried Rust, then replay the lists
+       rig --replay                              replay the lists only: tests/fixed and tests/vectors
+       rig --cpython FILE                        hold the port to what CPython says
+       rig --write-fixed FOLDER [--tables FILE]  write the carried Rust's answers as lists into FOLDER
+FILE is what tools/cpython-tables writes. Runs from the repository's root.
+Exit status: 0 no differences, 1 differences or a file that cannot be used, 2 called wrongly.";
+
+#[derive(Default)]
+struct Options {
+    help: bool,
+    long: bool,
+    replay: bool,
+    tables: Option<String>,
+    cpython: Option<String>,
+    write_fixed: Option<String>,
+}
+
+fn main() -> ExitCode {
+    let options = match options(std::env::args().skip(1)) {
+        Ok(options) => options,
+        Err(fault) => {
+            eprintln!("rig: {fault}; rig --help says how to call it");
+            return ExitCode::from(2);
+        }
+    };
+    match run(options) {
+        Ok(true) => ExitCode::SUCCESS,
+        Ok(false) => ExitCode::FAILURE,
+        Err(fault) => {
+            eprintln!("rig: {fault}");
+            ExitCode::FAILURE
+        }
+    }
+}
+
+fn options(mut words: impl Iterator<Item = String>) -> Result<Options, String> {
+    let mut options = Options::default();
+    while let Some(word) = words.next() {
+        let mut file = || words.next().ok_or(format!("{word} wants a name after it")).map(Some);
+        match word.as_str() {
+            "--help" => options.help = true,
+            "--long" => options.long = true,
+            "--replay" => options.replay = true,
+            "--tables" => options.tables = file()?,
+            "--cpython" => options.cpython = file()?,
+            "--write-fixed" => options.write_fixed = file()?,
+            _ => return Err(format!("unknown option {word}")),
+        }
+    }
+    let tasks = [options.help, options.replay, options.cpython.is_some(), options.write_fixed.is_some()];
+    if tasks.iter().filter(|asked| **asked).count() > 1 {
+        return Err("one task at a time".to_string());
+    }
+    Ok(options)
+}
+
+fn run(options: Options) -> Result<bool, String> {
+    if options.help {
+        println!("{USAGE}");
+        return Ok(true);
+    }
+    if let Some(file) = options.cpython {
+        return Ok(cpython::hold(&contents(&file)?));
+    }
+    if options.replay {
+        return Ok(replay_lists());
+    }
+    #[cfg(carried)]
+    panics::keep_quiet();
+    match options.write_fixed {
+        Some(folder) => beside_the_rust::write_fixed(&folder, options.tables),
+        None => Ok(all([beside_the_rust::compare(options.long, options.tables)?, replay_lists()])),
+    }
+}
+
+fn contents(file: &str) -> Result<String, String> {
+    std::fs::read_to_string(file).map_err(|error| format!("{file}: {error}"))
+}
+
+fn replay_lists() -> bool {
+    let lists = ["fixed", "vectors"];
+    all(lists
+        .map(|folder| all([replay::<Varints>(folder), replay::<LineTables>(folder), replay::<LocalNames>(folder)])))
+}
+
+fn all<const N: usize>(held: [bool; N]) -> bool {
+    held.iter().all(|held| *held)
+}
+
+#[cfg(carried)]
+mod beside_the_rust {
+    use super::{LineTables, LocalNames, Varints, all, contents, cpython, linetable, localsplus, varint};
+    use crate::subject::{compare as compare_all, write_list};
+    use linetable::carried_side::Extent;
+
+    /// How many cases: of the short form, for the gate, and of the long one.
+    struct Sizes {
+        varints: usize,
+        tables: Extent,
+        lists: (u32, usize),
+    }
+
+    const SHORT: Sizes =
+        Sizes { varints: 1_000_000, tables: Extent { of_three: 1, random: 500_000 }, lists: (3, 200_000) };
+    const LONG: Sizes =
+        Sizes { varints: 20_000_000, tables: Extent { of_three: 6, random: 20_000_000 }, lists: (4, 5_000_000) };
+
+    pub fn compare(long: bool, tables: Option<String>) -> Result<bool, String> {
+        let made = made_tables(tables)?;
+        let sizes = if long { LONG } else { SHORT };
+        Ok(all([
+            compare_all::<Varints>(varint::carried_side::asks(sizes.varints)),
+            compare_all::<LineTables>(linetable::carried_side::asks(sizes.tables, made)),
+            compare_all::<LocalNames>(localsplus::carried_side::asks(sizes.lists.0, sizes.lists.1)),
+        ]))
+    }
+
+    pub fn write_fixed(folder: &str, tables: Option<String>) -> Result<bool, String> {
+        let made = made_tables(tables)?;
+        write_list::<Varints>(folder, varint::carried_side::asks_to_list())?;
+        write_list::<LineTables>(folder, linetable::carried_side::asks_to_list(made))?;
+        write_list::<LocalNames>(folder, localsplus::carried_side::asks_to_list())?;
+        Ok(true)
+    }
+
+    fn made_tables(file: Option<String>) -> Result<Vec<linetable::Ask>, String> {
+        Ok(file.map(|file| contents(&file)).transpose()?.map_or(Vec::new(), |text| cpython::tables(&text)))
+    }
+}
+
+#[cfg(not(carried))]
+mod beside_the_rust {
+    pub fn compare(_long: bool, _tables: Option<String>) -> Result<bool, String> {
+        println!("rig: built without the carried Rust, so nothing is compared with it: the fixed lists stand in");
+        Ok(true)
+    }
+
+    pub fn write_fixed(_folder: &str, _tables: Option<String>) -> Result<bool, String> {
+        Err("built without the carried Rust, so there are no answers to list".to_string())
+    }
+}

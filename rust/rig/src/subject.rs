@@ -1,0 +1,85 @@
+//! What a subject of the rig is: a kind of question that the port answers, and that something else answers too. With it
+//! goes what is done with any subject: compare with the carried Rust, list the Rust's answers, replay a list.
+use crate::tally::Tally;
+use std::fs;
+
+pub trait Subject {
+    /// Names the subject's lines of output and its lists.
+    const NAME: &'static str;
+    type Ask;
+    type Answer;
+
+    /// The class that the case is counted under.
+    fn class(ask: &Self::Ask, answer: &Self::Answer) -> &'static str;
+
+    /// Asks the port, in several sizes of the lent stores, and says where it departs from the answer.
+    fn check(ask: &Self::Ask, answer: &Self::Answer) -> Result<(), String>;
+
+    /// A case as a line of a list.
+    fn row(ask: &Self::Ask, answer: &Self::Answer) -> String;
+
+    /// The case that a line of a list stands for, unless it is malformed.
+    fn of_row(row: &str) -> Option<(Self::Ask, Self::Answer)>;
+}
+
+/// A subject that the carried Rust answers.
+#[cfg(carried)]
+pub trait Carried: Subject {
+    fn by_the_rust(ask: &Self::Ask) -> Self::Answer;
+}
+
+fn held<S: Subject>(ask: &S::Ask, answer: &S::Answer) -> Result<(), String> {
+    S::check(ask, answer).map_err(|difference| {
+        let row: String = S::row(ask, answer).chars().take(2000).collect();
+        format!("{row}; {difference}")
+    })
+}
+
+#[cfg(carried)]
+pub fn compare<S: Carried>(asks: impl Iterator<Item = S::Ask>) -> bool {
+    let mut tally = Tally::new(format!("rust {}", S::NAME));
+    for ask in asks {
+        let answer = S::by_the_rust(&ask);
+        tally.count(S::class(&ask, &answer), held::<S>(&ask, &answer));
+    }
+    tally.finish()
+}
+
+/// Writes the Rust's answers; the list is whole or not there.
+#[cfg(carried)]
+pub fn write_list<S: Carried>(folder: &str, asks: impl Iterator<Item = S::Ask>) -> Result<(), String> {
+    let mut text = format!(
+        "# {}: what the carried Rust (rustpython-compiler-core 0.6.0, unchanged, built with overflow checks) answers.\n\
+         # Made by `rig --write-fixed`; replayed against the port without the Rust.\n",
+        S::NAME
+    );
+    for ask in asks {
+        text += &S::row(&ask, &S::by_the_rust(&ask));
+        text.push('\n');
+    }
+    let path = format!("{folder}/{}.txt", S::NAME);
+    let part = format!("{path}.part");
+    fs::write(&part, text).and_then(|()| fs::rename(&part, &path)).map_err(|error| format!("{path}: {error}"))
+}
+
+/// Holds the port to every case of a list.
+pub fn replay<S: Subject>(folder: &str) -> bool {
+    let path = format!("tests/{folder}/{}.txt", S::NAME);
+    let mut tally = Tally::new(format!("{folder} {}", S::NAME));
+    match fs::read_to_string(&path) {
+        Err(error) => tally.count("", Err(format!("{path}: {error} (the rig runs from the repository's root)"))),
+        Ok(text) => {
+            for row in text.lines().filter(|row| !row.starts_with('#')) {
+                replay_row::<S>(&mut tally, row);
+            }
+        }
+    }
+    tally.finish()
+}
+
+fn replay_row<S: Subject>(tally: &mut Tally, row: &str) {
+    match S::of_row(row) {
+        None => tally.count("", Err(format!("malformed: {row}"))),
+        Some((ask, answer)) => tally.count(S::class(&ask, &answer), held::<S>(&ask, &answer)),
+    }
+}

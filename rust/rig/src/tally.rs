@@ -1,0 +1,47 @@
+//! Counts cases by class, keeps the first difference, and prints both.
+
+pub struct Tally {
+    name: String,
+    classes: Vec<(&'static str, u64)>,
+    failed: u64,
+    first_difference: Option<String>,
+}
+
+impl Tally {
+    pub fn new(name: impl Into<String>) -> Self {
+        Self { name: name.into(), classes: Vec::new(), failed: 0, first_difference: None }
+    }
+
+    /// One case of a class: agreed, or a difference in words.
+    pub fn count(&mut self, class: &'static str, outcome: Result<(), String>) {
+        match outcome {
+            Ok(()) => self.passed(class),
+            Err(difference) => {
+                self.failed += 1;
+                self.first_difference.get_or_insert(difference);
+            }
+        }
+    }
+
+    fn passed(&mut self, class: &'static str) {
+        match self.classes.iter_mut().find(|(known, _)| *known == class) {
+            Some((_, count)) => *count += 1,
+            None => self.classes.push((class, 1)),
+        }
+    }
+
+    /// Prints the counts; true if nothing differed and something was tried.
+    pub fn finish(self) -> bool {
+        let Self { name, classes, failed, first_difference } = self;
+        for (class, count) in &classes {
+            println!("{name}: {count} {class}");
+        }
+        if let Some(difference) = first_difference {
+            println!("{name}: first difference: {difference}");
+        }
+        let passed: u64 = classes.iter().map(|(_, count)| count).sum();
+        let failed = if passed + failed == 0 { 1 } else { failed };
+        println!("{name}: {passed} passed, {failed} failed");
+        failed == 0
+    }
+}

@@ -1,0 +1,273 @@
+//! Varints: the four writers and the two readers of varint.rs.
+use crate::lent::{Lent, Part};
+use crate::subject::Subject;
+use crate::text::{hex, of_hex};
+use sillgarland_sys::{self as sys, Varint, Written, refusals};
+
+#[derive(Clone, Copy, PartialEq, Eq)]
+pub enum Writer {
+    Little,
+    Signed,
+    Big,
+    WithStart,
+}
+
+pub const WRITERS: [Writer; 4] = [Writer::Little, Writer::Signed, Writer::Big, Writer::WithStart];
+
+pub enum Ask {
+    /// A number to write; of a signed one, its bits.
+    Write(Writer, u32),
+    /// A place to read at, both without and with the marker.
+    Read(Vec<u8>, usize),
+}
+
+pub enum Answer {
+    Bytes(Vec<u8>),
+    Numbers { plain: Option<Number>, marked: Option<Number> },
+}
+
+#[derive(Clone, Copy, PartialEq, Eq, Debug)]
+pub struct Number {
+    pub value: u32,
+    pub next: usize,
+    pub whole: bool,
+}
+
+pub struct Varints;
+
+impl Subject for Varints {
+    const NAME: &'static str = "varint";
+    type Ask = Ask;
+    type Answer = Answer;
+
+    fn class(ask: &Ask, answer: &Answer) -> &'static str {
+        match (ask, answer) {
+            (ask, _) if is_smallest(ask) => {
+                "listed difference: the smallest 32-bit integer is refused (the Rust writes 1)"
+            }
+            (Ask::Write(Writer::Little, _), _) => "write_varint",
+            (Ask::Write(Writer::Signed, _), _) => "write_signed_varint",
+            (Ask::Write(Writer::Big, _), _) => "write_varint_be",
+            (Ask::Write(Writer::WithStart, _), _) => "write_varint_with_start",
+            (_, Answer::Numbers { plain: None, .. }) => "read: none",
+            (_, Answer::Numbers { marked: None, .. }) => "read: a number without the marker",
+            _ => "read: a number with the marker",
+        }
+    }
+
+    fn check(ask: &Ask, answer: &Answer) -> Result<(), String> {
+        match (ask, answer) {
+            (ask, Answer::Bytes(bytes)) if is_smallest(ask) => check_smallest(bytes),
+            (Ask::Write(writer, value), Answer::Bytes(bytes)) => check_written(*writer, *value, bytes),
+            (Ask::Read(data, at), Answer::Numbers { plain, marked }) => {
+                let part = Part::new(data);
+                check_read("read_varint", sys::sill_read_varint, &part, *at, *plain)?;
+                check_read("read_varint_with_start", sys::sill_read_varint_with_start, &part, *at, *marked)
+            }
+            _ => Err("the answer is of another kind than the question".to_string()),
+        }
+    }
+
+    fn row(ask: &Ask, answer: &Answer) -> String {
+        let asked = match ask {
+            Ask::Write(Writer::Signed, value) => format!("signed {}", *value as i32),
+            Ask::Write(writer, value) => format!("{} {value}", word(*writer)),
+            Ask::Read(data, at) => format!("read {} {at}", hex(data)),
+        };
+        match answer {
+            Answer::Bytes(bytes) => format!("{asked} {}", hex(bytes)),
+            Answer::Numbers { plain, marked } => format!("{asked} {} {}", shown(*plain), shown(*marked)),
+        }
+    }
+
+    fn of_row(row: &str) -> Option<(Ask, Answer)> {
+        match row.split(' ').collect::<Vec<_>>()[..] {
+            ["read", data, at, plain, marked] => Some((
+                Ask::Read(of_hex(data)?, at.parse().ok()?),
+                Answer::Numbers { plain: of_shown(plain)?, marked: of_shown(marked)? },
+            )),
+            ["signed", value, bytes] => {
+                let bits = value.parse::<i32>().ok()? as u32;
+                Some((Ask::Write(Writer::Signed, bits), Answer::Bytes(of_hex(bytes)?)))
+            }
+            [name, value, bytes] => {
+                let writer = WRITERS.into_iter().find(|writer| word(*writer) == name)?;
+                Some((Ask::Write(writer, value.parse().ok()?), Answer::Bytes(of_hex(bytes)?)))
+            }
+            _ => None,
+        }
+    }
+}
+
+fn is_smallest(ask: &Ask) -> bool {
+    matches!(ask, Ask::Write(Writer::Signed, value) if *value as i32 == i32::MIN)
+}
+
+/// The Rust writes 1 here; the port refuses, whatever the room.
+fn check_smallest(bytes_of_the_rust: &[u8]) -> Result<(), String> {
+    if bytes_of_the_rust != [1] {
+        return Err("the listed difference says that the Rust writes 1".to_string());
+    }
+    for room in [0, 1, 6] {
+        let refused = Written { refusal: refusals::NUMBER_RANGE, place: 0, written: 0 };
+        check_room(Writer::Signed, i32::MIN as u32, room, refused, &[])?;
+    }
+    Ok(())
+}
+
+/// Exact room, more room (zeros follow), one byte less and none at all (no room, at the capacity).
+fn check_written(writer: Writer, value: u32, bytes: &[u8]) -> Result<(), String> {
+    let written = Written { refusal: refusals::ACCEPTED, place: 0, written: bytes.len() as u32 };
+    for room in [bytes.len(), bytes.len() + 1, bytes.len() + 7] {
+        check_room(writer, value, room, written, bytes)?;
+    }
+    for room in [0, bytes.len() - 1] {
+        let refused = Written { refusal: refusals::NO_ROOM, place: room as u32, written: 0 };
+        check_room(writer, value, room, refused, &[])?;
+    }
+    Ok(())
+}
+
+fn check_room(writer: Writer, value: u32, room: usize, expected: Written, bytes: &[u8]) -> Result<(), String> {
+    let mut out = Lent::<u8>::new(room);
+    let (pointer, len) = (out.pointer(), out.len());
+    // SAFETY: the store is lent for the length given.
+    let answered = unsafe {
+        match writer {
+            Writer::Little => sys::sill_write_varint(pointer, len, value),
+            Writer::Signed => sys::sill_write_signed_varint(pointer, len, value as i32),
+            Writer::Big => sys::sill_write_varint_be(pointer, len, value),
+            Writer::WithStart => sys::sill_write_varint_with_start(pointer, len, value),
+        }
+    };
+    if answered != expected {
+        return Err(format!("with room {room}: {answered:?} and not {expected:?}"));
+    }
+    out.holds("out", bytes)
+}
+
+type Reader = unsafe extern "C" fn(*const u8, usize, usize) -> Varint;
+
+fn check_read(name: &str, reader: Reader, part: &Part, at: usize, number: Option<Number>) -> Result<(), String> {
+    let data = part.bytes();
+    // SAFETY: the bytes are lent for the length given.
+    let answered = unsafe { reader(data.as_ptr(), data.len(), at) };
+    let expected = match number {
+        None => Varint { found: 0, value: 0, whole: 0, pad: 0, next: at as u64 },
+        Some(n) => Varint { found: 1, value: n.value, whole: n.whole.into(), pad: 0, next: n.next as u64 },
+    };
+    if answered != expected {
+        return Err(format!("{name}: {answered:?} and not {expected:?}"));
+    }
+    Ok(())
+}
+
+fn word(writer: Writer) -> &'static str {
+    match writer {
+        Writer::Little => "little",
+        Writer::Signed => "signed",
+        Writer::Big => "big",
+        Writer::WithStart => "start",
+    }
+}
+
+fn shown(number: Option<Number>) -> String {
+    match number {
+        None => "none".to_string(),
+        Some(n) => format!("{}:{}:{}", n.value, n.next, u32::from(n.whole)),
+    }
+}
+
+fn of_shown(text: &str) -> Option<Option<Number>> {
+    if text == "none" {
+        return Some(None);
+    }
+    match text.split(':').collect::<Vec<_>>()[..] {
+        [value, next, whole] => {
+            Some(Some(Number { value: value.parse().ok()?, next: next.parse().ok()?, whole: whole == "1" }))
+        }
+        _ => None,
+    }
+}
+
+#[cfg(carried)]
+pub mod carried_side {
+    //! The Rust's answers, and the questions put to both.
+    use super::{Answer, Ask, Number, Varints, WRITERS, Writer};
+    use crate::random::Random;
+    use crate::subject::Carried;
+    use carried::varint;
+
+    impl Carried for Varints {
+        fn by_the_rust(ask: &Ask) -> Answer {
+            match ask {
+                Ask::Write(writer, value) => Answer::Bytes(written(*writer, *value)),
+                Ask::Read(data, at) => Answer::Numbers {
+                    plain: read(varint::read_varint, data, *at),
+                    marked: read(varint::read_varint_with_start, data, *at),
+                },
+            }
+        }
+    }
+
+    fn written(writer: Writer, value: u32) -> Vec<u8> {
+        let mut bytes = Vec::new();
+        match writer {
+            Writer::Little => drop(varint::write_varint(&mut bytes, value)),
+            Writer::Signed => drop(varint::write_signed_varint(&mut bytes, value as i32)),
+            Writer::Big => drop(varint::write_varint_be(&mut bytes, value)),
+            Writer::WithStart => varint::write_varint_with_start(&mut bytes, value),
+        }
+        bytes
+    }
+
+    /// The Rust does not say whether the number was whole: it was, unless its last byte says "more".
+    fn read(reader: fn(&[u8], &mut usize) -> Option<u32>, data: &[u8], at: usize) -> Option<Number> {
+        let mut next = at;
+        let value = reader(data, &mut next)?;
+        Some(Number { value, next, whole: data[next - 1] & 0x40 == 0 })
+    }
+
+    /// Every value around a power of two and all strings up to three bytes; then so many random ones of each.
+    pub fn asks(random: usize) -> impl Iterator<Item = Ask> {
+        let strings = (0..=3).flat_map(strings_of).map(|data| Ask::Read(data, 0));
+        around_powers().chain(strings).chain(random_writes(random)).chain(random_reads(random))
+    }
+
+    /// A selection of the above for the list in the repository.
+    pub fn asks_to_list() -> impl Iterator<Item = Ask> {
+        let strings = (0..=1).flat_map(strings_of).map(|data| Ask::Read(data, 0));
+        around_powers().chain(strings).chain(random_writes(1000)).chain(random_reads(3000))
+    }
+
+    fn around_powers() -> impl Iterator<Item = Ask> {
+        let values = (0..=32).flat_map(|power| (-3..=3).map(move |step| ((1i64 << power) + step) as u32));
+        values
+            .flat_map(|value| [value, value.wrapping_neg()])
+            .flat_map(|value| WRITERS.map(|writer| Ask::Write(writer, value)))
+    }
+
+    pub fn strings_of(len: u32) -> impl Iterator<Item = Vec<u8>> {
+        (0..1u32 << (8 * len)).map(move |number| number.to_be_bytes()[4 - len as usize..].to_vec())
+    }
+
+    fn random_writes(count: usize) -> impl Iterator<Item = Ask> {
+        let mut random = Random::new(1);
+        (0..count).map(move |_| Ask::Write(random.one_of(&WRITERS), random.of_any_width()))
+    }
+
+    /// Strings in which most bytes say "more", read at any place, also beyond the end.
+    fn random_reads(count: usize) -> impl Iterator<Item = Ask> {
+        let mut random = Random::new(2);
+        (0..count).map(move |_| {
+            let len = random.below(12);
+            let data = (0..len).map(|_| random.byte() | random.one_of(&[0, 0x40, 0x40, 0x80])).collect();
+            let at = match random.below(20) {
+                0 => usize::MAX - random.below(3),
+                1 => len + random.below(3),
+                _ => random.below(len + 1),
+            };
+            Ask::Read(data, at)
+        })
+    }
+}

@@ -1,0 +1,132 @@
+//! The port's exports, declared as include/sillgarland.h declares them; `tools/check-abi` holds the two, and the `.rt`
+//! source, to one another.
+//!
+//! A slice is a pointer and a count of elements; null with count 0 is fine; lent stores do not overlap. Refusal 0 means
+//! accepted, and place is then 0; on a refusal every other field is 0 and every store lent for writing is all zero.
+//! Truth is 0 or 1.
+#![no_std]
+
+/// What a varint writer answers: how many bytes it wrote.
+#[repr(C)]
+#[derive(Clone, Copy, Debug, PartialEq, Eq)]
+pub struct Written {
+    pub refusal: u32,
+    pub place: u32,
+    pub written: u32,
+}
+
+/// What a varint reader answers. None found: found, value and whole are 0 and next is where reading was to begin.
+#[repr(C)]
+#[derive(Clone, Copy, Debug, PartialEq, Eq)]
+pub struct Varint {
+    pub found: u32,
+    pub value: u32,
+    pub whole: u32,
+    pub pad: u32,
+    pub next: u64,
+}
+
+/// What reading a line table answers: how many instructions came from entries, and whether the table was whole.
+#[repr(C)]
+#[derive(Clone, Copy, Debug, PartialEq, Eq)]
+pub struct Located {
+    pub refusal: u32,
+    pub place: u32,
+    pub from_entries: u32,
+    pub whole: u32,
+}
+
+/// Where one instruction comes from; lines and columns count from 1.
+#[repr(C)]
+#[derive(Clone, Copy, Debug, PartialEq, Eq)]
+pub struct Location {
+    pub line: u32,
+    pub column: u32,
+    pub end_line: u32,
+    pub end_column: u32,
+}
+
+/// What splitting local names answers: how many of each kind, and whether the cell-to-argument list is present.
+#[repr(C)]
+#[derive(Clone, Copy, Debug, PartialEq, Eq)]
+pub struct Split {
+    pub refusal: u32,
+    pub place: u32,
+    pub locals: u32,
+    pub cells: u32,
+    pub frees: u32,
+    pub present: u32,
+}
+
+unsafe extern "C" {
+    pub fn sill_write_varint(out: *mut u8, out_len: usize, value: u32) -> Written;
+    pub fn sill_write_signed_varint(out: *mut u8, out_len: usize, value: i32) -> Written;
+    pub fn sill_write_varint_be(out: *mut u8, out_len: usize, value: u32) -> Written;
+    pub fn sill_write_varint_with_start(out: *mut u8, out_len: usize, value: u32) -> Written;
+    pub fn sill_read_varint(data: *const u8, len: usize, at: usize) -> Varint;
+    pub fn sill_read_varint_with_start(data: *const u8, len: usize, at: usize) -> Varint;
+    pub fn sill_locate(
+        table: *const u8,
+        len: usize,
+        first_line: i32,
+        count: u32,
+        records: *mut u32,
+        records_len: usize,
+    ) -> Located;
+    pub fn sill_locations(
+        table: *const u8,
+        len: usize,
+        first_line: i32,
+        count: u32,
+        flat: *mut u32,
+        flat_len: usize,
+        out: *mut Location,
+        out_len: usize,
+    ) -> Located;
+    pub fn sill_split(
+        kinds: *const u8,
+        kinds_len: usize,
+        names: u32,
+        args: u32,
+        kwonly: u32,
+        flags: u32,
+        locals: *mut u32,
+        locals_len: usize,
+        cells: *mut u32,
+        cells_len: usize,
+        frees: *mut u32,
+        frees_len: usize,
+        map: *mut u32,
+        map_len: usize,
+        cell_args: *mut u32,
+        cell_args_len: usize,
+    ) -> Split;
+}
+
+/// The refusal numbers and limits of document 01, under the names of the crate `refusals`.
+pub mod refusals {
+    pub const ACCEPTED: u32 = 0;
+    pub const EOF_OBJECT: u32 = 1;
+    pub const DATA_TOO_SHORT: u32 = 2;
+    pub const UNKNOWN_TYPE: u32 = 3;
+    pub const NULL_OBJECT: u32 = 4;
+    pub const INVALID_REF: u32 = 5;
+    pub const BAD_SIZE: u32 = 6;
+    pub const BAD_TYPE: u32 = 7;
+    pub const INVALID_BYTECODE: u32 = 8;
+    pub const INVALID_UTF8: u32 = 9;
+    pub const TOO_DEEP: u32 = 10;
+    pub const NO_NODE: u32 = 11;
+    pub const NO_ENTRY: u32 = 12;
+    pub const NO_SLOT: u32 = 13;
+    pub const INPUT_TOO_LONG: u32 = 14;
+    pub const NOT_CARRIED: u32 = 15;
+    pub const BAD_TABLE: u32 = 16;
+    pub const NO_ROOM: u32 = 17;
+    pub const NUMBER_RANGE: u32 = 18;
+
+    pub const MOST_BYTES: u32 = 16_777_216;
+    pub const MOST_RECORDS: u32 = 1_048_576;
+    pub const MOST_NESTING: u32 = 2_000;
+    pub const NOTHING: u32 = 4_294_967_295;
+}
