@@ -30,7 +30,7 @@ typedef struct {
     uint32_t refusal; /* 17: no room, place is the output's capacity; 18: the smallest 32-bit integer, at 0 */
     uint32_t place;
     uint32_t written; /* how many bytes */
-} sill_written;
+} sill_written_t;
 
 typedef struct {
     uint32_t found; /* 0: nothing left, or the start marker is missing; then next is the position asked for */
@@ -38,19 +38,38 @@ typedef struct {
     uint32_t whole; /* 0: the bytes ended before the number did, and value is what they gave */
     uint32_t pad;
     uint64_t next; /* the position after the number */
-} sill_found;
+} sill_varint_t;
 
 /* Little-endian, as in line tables. */
-sill_written sill_write_varint(uint8_t *out, size_t out_len, uint32_t value);
-sill_written sill_write_signed_varint(uint8_t *out, size_t out_len, int32_t value);
+sill_written_t sill_write_varint(uint8_t *out, size_t out_len, uint32_t value);
+sill_written_t sill_write_signed_varint(uint8_t *out, size_t out_len, int32_t value);
 
 /* Big-endian, as in exception tables; with_start puts 0x80 on the first byte. */
-sill_written sill_write_varint_be(uint8_t *out, size_t out_len, uint32_t value);
-sill_written sill_write_varint_with_start(uint8_t *out, size_t out_len, uint32_t value);
+sill_written_t sill_write_varint_be(uint8_t *out, size_t out_len, uint32_t value);
+sill_written_t sill_write_varint_with_start(uint8_t *out, size_t out_len, uint32_t value);
 
 /* Big-endian reading at any position, also beyond the end; with_start asks for 0x80 on the first byte. */
-sill_found sill_read_varint(const uint8_t *data, size_t data_len, size_t at);
-sill_found sill_read_varint_with_start(const uint8_t *data, size_t data_len, size_t at);
+sill_varint_t sill_read_varint(const uint8_t *data, size_t data_len, size_t at);
+sill_varint_t sill_read_varint_with_start(const uint8_t *data, size_t data_len, size_t at);
+
+/* ---- Local names by their kinds: Local 0x20, Cell 0x40, Free 0x80. */
+
+typedef struct {
+    uint32_t refusal; /* 14: too many kinds; 8: names and kinds differ in number; 18: the argument sum; all three at 0;
+                         17: an output is shorter than the names, place is its length */
+    uint32_t place;
+    uint32_t locals; /* how many positions of each kind */
+    uint32_t cells;
+    uint32_t frees;
+    uint32_t present; /* whether the cell-to-argument list is there; where not, its store is all zero */
+} sill_split_t;
+
+/* Each output must hold as many numbers as there are names. 4,294,967,295 stands for none (in the map) and for -1 (in
+ * cell_args). */
+sill_split_t sill_split(const uint8_t *kinds, size_t kinds_len, uint32_t names, uint32_t args, uint32_t kwonly,
+                        uint32_t flags, uint32_t *locals, size_t locals_len, uint32_t *cells, size_t cells_len,
+                        uint32_t *frees, size_t frees_len, uint32_t *map, size_t map_len, uint32_t *cell_args,
+                        size_t cell_args_len);
 
 #ifdef __cplusplus
 }

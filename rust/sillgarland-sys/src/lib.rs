@@ -63,11 +63,11 @@ unsafe extern "C" {
     pub fn sill_write_signed_varint(out: *mut u8, out_len: usize, value: i32) -> Written;
     pub fn sill_write_varint_be(out: *mut u8, out_len: usize, value: u32) -> Written;
     pub fn sill_write_varint_with_start(out: *mut u8, out_len: usize, value: u32) -> Written;
-    pub fn sill_read_varint(data: *const u8, len: usize, at: usize) -> Varint;
-    pub fn sill_read_varint_with_start(data: *const u8, len: usize, at: usize) -> Varint;
+    pub fn sill_read_varint(data: *const u8, data_len: usize, at: usize) -> Varint;
+    pub fn sill_read_varint_with_start(data: *const u8, data_len: usize, at: usize) -> Varint;
     pub fn sill_locate(
         table: *const u8,
-        len: usize,
+        table_len: usize,
         first_line: i32,
         count: u32,
         records: *mut u32,
@@ -75,7 +75,7 @@ unsafe extern "C" {
     ) -> Located;
     pub fn sill_locations(
         table: *const u8,
-        len: usize,
+        table_len: usize,
         first_line: i32,
         count: u32,
         flat: *mut u32,
