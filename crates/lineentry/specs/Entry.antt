@@ -64,15 +64,19 @@ noColumns s line n p =
     covers n to (atLine to) p₁ missing
 
 -- "14: signed step, end-line step, columns plus one (0 = none)." "the end-line step is taken as signed"
+unfoldable pub longColumns : List ℕ → ℕ → ℕ → ℕ → ℕ → Entry
+longColumns s to end n p =
+    withNumber (varintAt s p) λ column p₁ _.
+    withNumber (varintAt s p₁) λ endColumn p₂ missing.
+    covers n to (location (shown to) (max 1 column) (shown end) (max 1 endColumn)) p₂ missing
+
 unfoldable pub longForm : List ℕ → ℕ → ℕ → ℕ → Entry
 longForm s line n p =
     withNumber (signedAt s p) λ step p₁ _.
     withNumber (varintAt s p₁) λ endStep p₂ _.
-    withNumber (varintAt s p₂) λ column p₃ _.
-    withNumber (varintAt s p₃) λ endColumn p₄ missing.
     withLine (moved line step) λ to.
     withLine (moved to (asSigned endStep)) λ end.
-    covers n to (location (shown to) (max 1 column) (shown end) (max 1 endColumn)) p₄ missing
+    longColumns s to end n p₂
 
 -- By the code. "15: no place": the running line, and no columns.
 unfoldable pub byCode : List ℕ → ℕ → ℕ → ℕ → ℕ → Entry

@@ -4,7 +4,7 @@ ghost use mathlib.Core.Path.{_≡_};
 ghost use Prim.Native.Nat.{ℕ, _<_, _≤_, max};
 ghost use Rattle.lineentry.specs.Varint.{byteAt, varintWithin, varintAt, signedAt};
 ghost use Rattle.lineentry.specs.Line.{asSigned, moved, shown};
-ghost use Rattle.lineentry.specs.Entry.{atLine, shortForm, oneLine, noColumns, longForm, entryAt};
+ghost use Rattle.lineentry.specs.Entry.{atLine, shortForm, oneLine, noColumns, longColumns, longForm, entryAt};
 
 // A byte of the table; a missing one is 0, and nothing is passed.
 pub struct Byte {
@@ -277,7 +277,41 @@ fn no_columns(table: &[u8], line: u32, instructions: usize, at: usize) -> Entry
     })
 }
 
-// Code 14: the signed line step, the end-line step, the two columns plus one.
+// The columns of code 14, each written plus one.
+fn long_columns(table: &[u8], to: u32, end: u32, instructions: usize, at: usize) -> Entry
+    ensures { λ r. ⌜ r ≡ longColumns (now (table .entry)) to end instructions at ⌝ }
+{
+    let Varint::Value {
+        value: column,
+        next: at2,
+        missing: _,
+    } = lt_read_varint(table, at)
+    else {
+        return Entry::OutOfRange;
+    };
+    let Varint::Value {
+        value: end_column,
+        next,
+        missing,
+    } = lt_read_varint(table, at2)
+    else {
+        return Entry::OutOfRange;
+    };
+    Entry::Covers(Span {
+        instructions,
+        line: to,
+        location: Location {
+            line: show_line(to),
+            column: show_column(column),
+            end_line: show_line(end),
+            end_column: show_column(end_column),
+        },
+        next,
+        missing,
+    })
+}
+
+// Code 14: the signed line step, the end-line step, then the columns.
 fn long_form(table: &[u8], line: u32, instructions: usize, at: usize) -> Entry
     ensures { λ r. ⌜ r ≡ longForm (now (table .entry)) line instructions at ⌝ }
 {
@@ -297,40 +331,13 @@ fn long_form(table: &[u8], line: u32, instructions: usize, at: usize) -> Entry
     else {
         return Entry::OutOfRange;
     };
-    let Varint::Value {
-        value: column,
-        next: at4,
-        missing: _,
-    } = lt_read_varint(table, at3)
-    else {
-        return Entry::OutOfRange;
-    };
-    let Varint::Value {
-        value: end_column,
-        next,
-        missing,
-    } = lt_read_varint(table, at4)
-    else {
-        return Entry::OutOfRange;
-    };
     let Moved::To(to) = move_line(line, step) else {
         return Entry::OutOfRange;
     };
     let Moved::To(end) = move_line(to, as_signed(end_step)) else {
         return Entry::OutOfRange;
     };
-    Entry::Covers(Span {
-        instructions,
-        line: to,
-        location: Location {
-            line: show_line(to),
-            column: show_column(column),
-            end_line: show_line(end),
-            end_column: show_column(end_column),
-        },
-        next,
-        missing,
-    })
+    long_columns(table, to, end, instructions, at3)
 }
 
 // The entry at a place of the table, where the line so far is `line`; past the end it is a stop.

@@ -11,8 +11,8 @@ ghost use Rattle.lent.specs.Lent.{zeros};
 ghost use Rattle.lineentry.specs.Entry.{atLine};
 ghost use Rattle.linetable.specs.Walk.{walk};
 ghost use Rattle.linetable.specs.Answer.{firstLine, located, locatedIn, answer, numbers, recordsOf, locationsOf, locationAt, locationsFrom};
-
-use lineentry::{Entry, Location};
+use lineentry::Entry;
+use lineentry::Location;
 
 // How many instructions came from entries, and whether the table was whole; or the refusal's number and place.
 pub enum Located {
@@ -135,7 +135,7 @@ fn records_within(
     ensures { λ r. ⌜ (r ≡ answer (located (now (table .entry)) (firstLine «first_line») count (min (length (now (records .entry)) / 4) most)))
         × (now (records .exit) ≡ recordsOf (length (now (records .entry))) (located (now (table .entry)) (firstLine «first_line») count (min (length (now (records .entry)) / 4) most))) ⌝ }
 {
-    if refusals::MOST_BYTES as usize < table.len() {
+    if (refusals::MOST_BYTES as usize) < table.len() {
         return refuse(records, refusals::INPUT_TOO_LONG, 0);
     }
     let room = smaller(records.len() / 4, most);
@@ -172,7 +172,7 @@ pub fn linetable_in(
     ensures { λ r. ⌜ (r ≡ answer (locatedIn (now (input .entry)) place size (firstLine «first_line») count (length (now (records .entry)) / 4)))
         × (now (records .exit) ≡ recordsOf (length (now (records .entry))) (locatedIn (now (input .entry)) place size (firstLine «first_line») count (length (now (records .entry)) / 4))) ⌝ }
 {
-    if refusals::MOST_BYTES as usize < input.len() {
+    if (refusals::MOST_BYTES as usize) < input.len() {
         return refuse(records, refusals::INPUT_TOO_LONG, 0);
     }
     let start = place as usize;
