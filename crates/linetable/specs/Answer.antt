@@ -1,6 +1,6 @@
 -- 01, 'Locals, numbers and locations': what is answered for a table, and what each lent store then holds.
 -- "Each instruction fills one record of line, column, end line and end column".
-use Prim.Native.Int.{ℤ}
+use lib.IntN.{ℤ}
 use mathlib.Core.Bool.{cond}
 use mathlib.Core.List.{List, [], _∷_, _++_}
 use Prim.Native.Nat.{ℕ, zero, suc, _+_, _-_, _*_}
