@@ -1,0 +1,3 @@
+pub mod Varint
+pub mod Line
+pub mod Entry

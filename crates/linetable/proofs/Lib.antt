@@ -1,0 +1,3 @@
+-- Laws that belong to no one function, and the theorems.
+pub mod Stores
+pub mod Walking
