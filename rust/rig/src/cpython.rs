@@ -6,7 +6,7 @@ use crate::localsplus::{self, split};
 use crate::subject::Subject;
 use crate::tally::Tally;
 use crate::text::{of_hex, of_numbers};
-use sillgarland_sys::{self as sys, Location, Varint, refusals};
+use sillgarland_sys::{self as sys, Found, Location, refusals};
 
 /// Holds the port to every line of the file.
 pub fn hold(text: &str) -> bool {
@@ -96,12 +96,12 @@ fn hold_cut(ask: &linetable::Ask) -> Result<(), String> {
 }
 
 /// All local names and the three groups of them, each name as a number.
-struct Names {
+struct Named {
     all: Vec<u32>,
     groups: [Vec<u32>; 3],
 }
 
-fn of_names(row: &str) -> Option<(localsplus::Ask, Names)> {
+fn of_names(row: &str) -> Option<(localsplus::Ask, Named)> {
     let ["names", kinds, args, kwonly, flags, all, locals, cells, frees] = row.split(' ').collect::<Vec<_>>()[..]
     else {
         return None;
@@ -114,11 +114,11 @@ fn of_names(row: &str) -> Option<(localsplus::Ask, Names)> {
         kwonly: kwonly.parse().ok()?,
         flags: flags.parse().ok()?,
     };
-    Some((ask, Names { all, groups: [of_numbers(locals)?, of_numbers(cells)?, of_numbers(frees)?] }))
+    Some((ask, Named { all, groups: [of_numbers(locals)?, of_numbers(cells)?, of_numbers(frees)?] }))
 }
 
 /// The names at the positions that the split gives; CPython has no map and no list of argument cells to compare.
-fn hold_names(ask: &localsplus::Ask, said: &Names) -> Result<(), String> {
+fn hold_names(ask: &localsplus::Ask, said: &Named) -> Result<(), String> {
     let (answered, stores) = split(ask, &Part::new(&ask.kinds), [said.all.len(); 5]);
     let counts = [answered.locals, answered.cells, answered.frees];
     let named = |position: &u32| said.all.get(*position as usize).copied();
@@ -162,7 +162,7 @@ fn hold_exceptions(table: &[u8], said: &[Entry]) -> Result<(), String> {
     Ok(())
 }
 
-type Reader = unsafe extern "C" fn(*const u8, usize, usize) -> Varint;
+type Reader = unsafe extern "C" fn(*const u8, usize, usize) -> Found;
 
 fn number(reader: Reader, table: &[u8], at: &mut usize) -> Result<u64, String> {
     // SAFETY: the bytes are lent for the length given.

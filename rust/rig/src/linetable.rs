@@ -127,18 +127,20 @@ fn check_refused(ask: &Ask, part: &Part, number: u32, place: Option<u32>) -> Res
     out.holds("out", &[])
 }
 
-/// Fewer records than instructions: refused at the capacity (the smaller one), before the table is read.
+/// Fewer records than instructions in one store or in both: refused at the smaller capacity, before the table is read.
 fn check_no_room(ask: &Ask, part: &Part) -> Result<(), String> {
-    if ask.count == 0 || is_too_long(ask) {
+    if ask.count < 2 || is_too_long(ask) {
         return Ok(());
     }
     let count = ask.count as usize;
-    let expected = refused(refusals::NO_ROOM, ask.count - 1);
     let (answered, flat) = locate(ask, part, 4 * count - 1);
-    same("sill_locate without room", answered, expected)?;
+    same("sill_locate without room", answered, refused(refusals::NO_ROOM, ask.count - 1))?;
     flat.holds("records", &[])?;
-    for (flat_len, out_len) in [(4 * count - 1, count), (4 * count, count - 1)] {
-        let (answered, flat, out) = locations(ask, part, flat_len, out_len);
+    for (flat_room, out_room) in
+        [(count - 1, count), (count, count - 1), (count - 2, count - 1), (count - 1, count - 2)]
+    {
+        let (answered, flat, out) = locations(ask, part, 4 * flat_room + 3, out_room);
+        let expected = refused(refusals::NO_ROOM, flat_room.min(out_room) as u32);
         same("sill_locations without room", answered, expected)?;
         flat.holds("flat", &[])?;
         out.holds("out", &[])?;

@@ -2,7 +2,7 @@
 use crate::lent::{Lent, Part};
 use crate::subject::Subject;
 use crate::text::{hex, of_hex};
-use sillgarland_sys::{self as sys, Varint, Written, refusals};
+use sillgarland_sys::{self as sys, Found, Written, refusals};
 
 #[derive(Clone, Copy, PartialEq, Eq)]
 pub enum Writer {
@@ -146,15 +146,15 @@ fn check_room(writer: Writer, value: u32, room: usize, expected: Written, bytes:
     out.holds("out", bytes)
 }
 
-type Reader = unsafe extern "C" fn(*const u8, usize, usize) -> Varint;
+type Reader = unsafe extern "C" fn(*const u8, usize, usize) -> Found;
 
 fn check_read(name: &str, reader: Reader, part: &Part, at: usize, number: Option<Number>) -> Result<(), String> {
     let data = part.bytes();
     // SAFETY: the bytes are lent for the length given.
     let answered = unsafe { reader(data.as_ptr(), data.len(), at) };
     let expected = match number {
-        None => Varint { found: 0, value: 0, whole: 0, pad: 0, next: at as u64 },
-        Some(n) => Varint { found: 1, value: n.value, whole: n.whole.into(), pad: 0, next: n.next as u64 },
+        None => Found { found: 0, value: 0, whole: 0, pad: 0, next: at as u64 },
+        Some(n) => Found { found: 1, value: n.value, whole: n.whole.into(), pad: 0, next: n.next as u64 },
     };
     if answered != expected {
         return Err(format!("{name}: {answered:?} and not {expected:?}"));

@@ -18,7 +18,7 @@ pub struct Written {
 /// What a varint reader answers. None found: found, value and whole are 0 and next is where reading was to begin.
 #[repr(C)]
 #[derive(Clone, Copy, Debug, PartialEq, Eq)]
-pub struct Varint {
+pub struct Found {
     pub found: u32,
     pub value: u32,
     pub whole: u32,
@@ -49,7 +49,7 @@ pub struct Location {
 /// What splitting local names answers: how many of each kind, and whether the cell-to-argument list is present.
 #[repr(C)]
 #[derive(Clone, Copy, Debug, PartialEq, Eq)]
-pub struct Split {
+pub struct Names {
     pub refusal: u32,
     pub place: u32,
     pub locals: u32,
@@ -63,8 +63,8 @@ unsafe extern "C" {
     pub fn sill_write_signed_varint(out: *mut u8, out_len: usize, value: i32) -> Written;
     pub fn sill_write_varint_be(out: *mut u8, out_len: usize, value: u32) -> Written;
     pub fn sill_write_varint_with_start(out: *mut u8, out_len: usize, value: u32) -> Written;
-    pub fn sill_read_varint(data: *const u8, data_len: usize, at: usize) -> Varint;
-    pub fn sill_read_varint_with_start(data: *const u8, data_len: usize, at: usize) -> Varint;
+    pub fn sill_read_varint(data: *const u8, data_len: usize, at: usize) -> Found;
+    pub fn sill_read_varint_with_start(data: *const u8, data_len: usize, at: usize) -> Found;
     pub fn sill_locate(
         table: *const u8,
         table_len: usize,
@@ -100,7 +100,7 @@ unsafe extern "C" {
         map_len: usize,
         cell_args: *mut u32,
         cell_args_len: usize,
-    ) -> Split;
+    ) -> Names;
 }
 
 /// The refusal numbers and limits of document 01, under the names of the crate `refusals`.
