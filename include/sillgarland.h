@@ -38,7 +38,7 @@ typedef struct {
     uint32_t whole; /* 0: the bytes ended before the number did, and value is what they gave */
     uint32_t pad;
     uint64_t next; /* the position after the number */
-} sill_varint_t;
+} sill_found_t;
 
 /* Little-endian, as in line tables. */
 sill_written_t sill_write_varint(uint8_t *out, size_t out_len, uint32_t value);
@@ -49,8 +49,8 @@ sill_written_t sill_write_varint_be(uint8_t *out, size_t out_len, uint32_t value
 sill_written_t sill_write_varint_with_start(uint8_t *out, size_t out_len, uint32_t value);
 
 /* Big-endian reading at any position, also beyond the end; with_start asks for 0x80 on the first byte. */
-sill_varint_t sill_read_varint(const uint8_t *data, size_t data_len, size_t at);
-sill_varint_t sill_read_varint_with_start(const uint8_t *data, size_t data_len, size_t at);
+sill_found_t sill_read_varint(const uint8_t *data, size_t data_len, size_t at);
+sill_found_t sill_read_varint_with_start(const uint8_t *data, size_t data_len, size_t at);
 
 /* ---- Local names by their kinds: Local 0x20, Cell 0x40, Free 0x80. */
 

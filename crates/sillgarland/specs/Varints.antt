@@ -5,7 +5,7 @@ use Rattle.varint.specs.declared.Written.{Written}
 use Rattle.varint.specs.declared.Found.{Found}
 use Rattle.varint.specs.Answers.{writtenNumbers, foundNumbers}
 use Rattle.sillgarland.specs.declared.varints.SillWritten.{SillWritten}
-use Rattle.sillgarland.specs.declared.varints.SillVarint.{SillVarint}
+use Rattle.sillgarland.specs.declared.varints.SillFound.{SillFound}
 
 abbrev pub writtenStruct : Written → SillWritten
 writtenStruct answer =
@@ -15,8 +15,8 @@ writtenStruct answer =
 abbrev pub writtenAs : Written × List ℕ → SillWritten × List ℕ
 writtenAs outcome = (writtenStruct (outcome .0), outcome .1)
 
-abbrev pub varintStruct : ℕ → Found → SillVarint
-varintStruct at answer =
+abbrev pub foundStruct : ℕ → Found → SillFound
+foundStruct at answer =
     record {
       found = foundNumbers at answer .found;
       value = foundNumbers at answer .value;

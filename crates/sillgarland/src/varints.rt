@@ -8,7 +8,7 @@ ghost use mir.Val.{ofZ};
 ghost use Rattle.varint.specs.Writing.{littleEndian, bigEndian, bigEndianWithStart};
 ghost use Rattle.varint.specs.Reading.{readVarint, readVarintWithStart};
 ghost use Rattle.varint.specs.Answers.{stored, storedSigned};
-ghost use Rattle.sillgarland.specs.Varints.{writtenStruct, writtenAs, varintStruct};
+ghost use Rattle.sillgarland.specs.Varints.{writtenStruct, writtenAs, foundStruct};
 
 // A writer's answer: its refusal and place, or how many bytes were written.
 #[repr(C)]
@@ -20,7 +20,7 @@ pub struct SillWritten {
 
 // A reader's answer: whether there is a number, its value, whether it was whole, and the position after it.
 #[repr(C)]
-pub struct SillVarint {
+pub struct SillFound {
     pub found: u32,
     pub value: u32,
     pub whole: u32,
@@ -62,18 +62,18 @@ pub extern "C" fn sill_write_varint_with_start(out: &mut [u8], value: u32) -> Si
 
 // `read_varint`.
 #[no_mangle]
-pub extern "C" fn sill_read_varint(data: &[u8], at: usize) -> SillVarint
-    ensures { λ r. ⌜ r ≡ varintStruct at (readVarint (now («data» .entry)) at) ⌝ }
+pub extern "C" fn sill_read_varint(data: &[u8], at: usize) -> SillFound
+    ensures { λ r. ⌜ r ≡ foundStruct at (readVarint (now («data» .entry)) at) ⌝ }
 {
-    varint_numbers(varint::read_varint(data, at), at)
+    found_numbers(varint::read_varint(data, at), at)
 }
 
 // `read_varint_with_start`.
 #[no_mangle]
-pub extern "C" fn sill_read_varint_with_start(data: &[u8], at: usize) -> SillVarint
-    ensures { λ r. ⌜ r ≡ varintStruct at (readVarintWithStart (now («data» .entry)) at) ⌝ }
+pub extern "C" fn sill_read_varint_with_start(data: &[u8], at: usize) -> SillFound
+    ensures { λ r. ⌜ r ≡ foundStruct at (readVarintWithStart (now («data» .entry)) at) ⌝ }
 {
-    varint_numbers(varint::read_varint_with_start(data, at), at)
+    found_numbers(varint::read_varint_with_start(data, at), at)
 }
 
 fn written_numbers(answer: Written) -> SillWritten
@@ -93,18 +93,18 @@ fn written_numbers(answer: Written) -> SillWritten
     }
 }
 
-fn varint_numbers(answer: Found, at: usize) -> SillVarint
-    ensures { λ r. ⌜ r ≡ varintStruct at answer ⌝ }
+fn found_numbers(answer: Found, at: usize) -> SillFound
+    ensures { λ r. ⌜ r ≡ foundStruct at answer ⌝ }
 {
     match answer {
-        Found::Number { value, next, whole } => SillVarint {
+        Found::Number { value, next, whole } => SillFound {
             found: 1,
             value,
             whole: whole as u32,
             pad: 0,
             next: next as u64,
         },
-        Found::Nothing => SillVarint {
+        Found::Nothing => SillFound {
             found: 0,
             value: 0,
             whole: 0,

@@ -1,8 +1,8 @@
--- `sillgarland::varints::varint_numbers` meets its contract, case by case.
+-- `sillgarland::varints::found_numbers` meets its contract, case by case.
 -- Assumes nothing.
 use borrow.Author.Needs.{needs}
-use Rattle.sillgarland.proofs.varints.varint_numbers.Statement.{statement}
-use Rattle.sillgarland.proofs.varints.varint_numbers.Tie as tie
+use Rattle.sillgarland.proofs.varints.found_numbers.Statement.{statement}
+use Rattle.sillgarland.proofs.varints.found_numbers.Tie as tie
 
 enum-known-answer : tie.Need-enum-known-answer
 enum-known-answer c = search needs
@@ -19,5 +19,5 @@ returns c = rw (c .before .answer .given .1)
 returns-2 : tie.Need-returns-2
 returns-2 c = rw (c .enum-told .given .1)
 
-pub varint-numbers-spec : {M : Type 1} → statement M
-varint-numbers-spec = tie.close (tie.spec enum-known-answer cast-t7 enum-told returns returns-2)
+pub found-numbers-spec : {M : Type 1} → statement M
+found-numbers-spec = tie.close (tie.spec enum-known-answer cast-t7 enum-told returns returns-2)
