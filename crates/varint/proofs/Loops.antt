@@ -56,10 +56,10 @@ little-end {val} {i} {left} {bytes} k h =
     let e : i < length bytes = omega arith in
     rw (add-one, take-suc-set bytes i left e, ← little-last left h) (k .comes)
 
--- big-endian bytes to the end of six: those from i on stand, those of `left` go in front
-pub record BigSoFar (val : ℕ) (bytes : List ℕ) (i left : ℕ) : Type 0 where
-  pub comes : ahead left ++ drop i bytes ≡ bigEndian val
-  pub room : length (ahead left) ≤ i
+-- big-endian bytes to the end of six: those from i on stand, those of `above` go in front
+pub record BigSoFar (val : ℕ) (bytes : List ℕ) (i above : ℕ) : Type 0 where
+  pub comes : ahead above ++ drop i bytes ≡ bigEndian val
+  pub room : length (ahead above) ≤ i
   pub array : length bytes ≡ 6
   pub within : i ≤ 5
 
@@ -78,24 +78,24 @@ big-start val bytes h k =
       within = omega arith;
     }
 
-pub big-room : {val i left : ℕ} {bytes : List ℕ} → BigSoFar val bytes i left → 0 < left → 1 ≤ i
-big-room {val} {i} {left} k h = omega (arith, simp length-append at (ap length (ahead-more left h)))
+pub big-room : {val i above : ℕ} {bytes : List ℕ} → BigSoFar val bytes i above → 0 < above → 1 ≤ i
+big-room {val} {i} {above} k h = omega (arith, simp length-append at (ap length (ahead-more above h)))
 
-pub big-turn : {val i left : ℕ} {bytes : List ℕ} → BigSoFar val bytes i left → 0 < left
-    → BigSoFar val (set bytes (i - 1) (0x40 + left % 64)) (i - 1) (left / 64)
-big-turn {val} {i} {left} {bytes} k h =
-    let m = simp length-append at (ap length (ahead-more left h)) in
+pub big-turn : {val i above : ℕ} {bytes : List ℕ} → BigSoFar val bytes i above → 0 < above
+    → BigSoFar val (set bytes (i - 1) (0x40 + above % 64)) (i - 1) (above / 64)
+big-turn {val} {i} {above} {bytes} k h =
+    let m = simp length-append at (ap length (ahead-more above h)) in
     let s : suc (i - 1) ≡ i = omega arith in
     record {
       comes =
-          rw (drop-set bytes (i - 1) (0x40 + left % 64) (omega arith), s)
-          (rw (ahead-more left h, append-assoc) at (k .comes));
+          rw (drop-set bytes (i - 1) (0x40 + above % 64) (omega arith), s)
+          (rw (ahead-more above h, append-assoc) at (k .comes));
       room = omega arith;
       array = simp length-set (k .array);
       within = omega arith;
     }
 
-pub big-end : {val i left : ℕ} {bytes : List ℕ} → BigSoFar val bytes i left → left ≡ 0 → drop i bytes ≡ bigEndian val
+pub big-end : {val i above : ℕ} {bytes : List ℕ} → BigSoFar val bytes i above → above ≡ 0 → drop i bytes ≡ bigEndian val
 big-end k h = rw (h, ahead-none) at (k .comes)
 
 -- the end of six bytes, from i on
