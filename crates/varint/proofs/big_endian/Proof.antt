@@ -2,7 +2,7 @@
 -- Assumes nothing.
 use native.Mathlib.Omega.{arith}
 use borrow.Author.Needs.{needs}
-use Rattle.varint.proofs.Loops.{BigSoFar, big-start, big-room, big-turn, big-end}
+use Rattle.varint.proofs.WriteLoops.{BigSoFar, big-start, big-room, big-turn, big-end}
 use Rattle.varint.proofs.big_endian.Statement.{statement}
 use Rattle.varint.proofs.big_endian.Tie as tie
 
