@@ -98,7 +98,7 @@ length-chained [] = refl
 length-chained (g ∷ []) = refl
 length-chained (g ∷ h ∷ gs) = ap suc (length-chained (h ∷ gs))
 
-length-started : (bytes : List ℕ) → length (started bytes) ≡ length bytes
+pub length-started : (bytes : List ℕ) → length (started bytes) ≡ length bytes
 unfolding started
 length-started [] = refl
 length-started (b ∷ bytes) = refl

@@ -1,3 +1,10 @@
 pub mod Groups
 pub mod Bytes
-pub mod Loops
+pub mod WriteLoops
+pub mod ReadLoop
+pub mod ReadsBack
+pub mod Stores
+pub mod Shortest
+pub mod NoTwoAlike
+pub mod Numbers
+pub mod Sheet

@@ -51,8 +51,8 @@ pub fn write_varint_be(out: &mut [u8], val: u32) -> Written
     ensures { λ r. ⌜ (r, now (out .exit)) ≡ stored (length (now (out .entry))) (bigEndian val) ⌝ }
 {
     let mut bytes = [0u8; 6];
-    let first = big_endian(&mut bytes, val);
-    store(out, &bytes[first..])
+    let start = big_endian(&mut bytes, val);
+    store(out, &bytes[start..])
 }
 
 // Writes a big-endian varint with the start marker (0x80) on the first byte.
@@ -128,12 +128,12 @@ fn big_endian(bytes: &mut [u8], val: u32) -> usize
     ensures { λ r. ⌜ (r ≤ 5) × (drop r (now (bytes .exit)) ≡ bigEndian val) ⌝ }
 {
     let mut i = 5;
-    let mut left = val / 64;
+    let mut above = val / 64;
     bytes[5] = (val % 64) as u8;
-    while 0 < left {
+    while 0 < above {
         i -= 1;
-        bytes[i] = 0x40 + (left % 64) as u8;
-        left /= 64;
+        bytes[i] = 0x40 + (above % 64) as u8;
+        above /= 64;
     }
     i
 }

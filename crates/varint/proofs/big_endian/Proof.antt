@@ -2,15 +2,15 @@
 -- Assumes nothing.
 use native.Mathlib.Omega.{arith}
 use borrow.Author.Needs.{needs}
-use Rattle.varint.proofs.Loops.{BigSoFar, big-start, big-room, big-turn, big-end}
+use Rattle.varint.proofs.WriteLoops.{BigSoFar, big-start, big-room, big-turn, big-end}
 use Rattle.varint.proofs.big_endian.Statement.{statement}
 use Rattle.varint.proofs.big_endian.Tie as tie
 
 abbrev Inv-loop : tie.InvT-loop
-Inv-loop bytes₀ val i₀ left₀ bytes i left = BigSoFar val bytes i left
+Inv-loop bytes₀ val i₀ above₀ bytes i above = BigSoFar val bytes i above
 
 abbrev μ-loop : tie.MeasureT-loop
-μ-loop bytes₀ val i₀ left₀ bytes i left = left
+μ-loop bytes₀ val i₀ above₀ bytes i above = above
 
 cast-bytes : tie.Need-cast-bytes Inv-loop μ-loop
 cast-bytes c = search needs

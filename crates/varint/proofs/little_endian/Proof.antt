@@ -4,7 +4,7 @@ use native.Mathlib.Omega.{arith}
 use lib.ListN.{length-set}
 use borrow.Author.Needs.{needs}
 use Rattle.varint.proofs.Groups.{size-last, size-more}
-use Rattle.varint.proofs.Loops.{LittleSoFar, little-start, little-turn, little-end}
+use Rattle.varint.proofs.WriteLoops.{LittleSoFar, little-start, little-turn, little-end}
 use Rattle.varint.proofs.little_endian.Statement.{statement}
 use Rattle.varint.proofs.little_endian.Tie as tie
 

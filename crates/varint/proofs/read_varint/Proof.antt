@@ -5,7 +5,7 @@ use lib.ListN.{length}
 use borrow.Author.Needs.{needs}
 use borrow.Author.Tests.{le-ltb}
 use Rattle.varint.specs.Reading.{readVarint}
-use Rattle.varint.proofs.Loops.{ReadSoFar, read-start, read-turn, read-end, read-cut}
+use Rattle.varint.proofs.ReadLoop.{ReadSoFar, read-start, read-turn, read-end, read-cut}
 use Rattle.varint.proofs.read_varint.Statement.{statement}
 use Rattle.varint.proofs.read_varint.Tie as tie
 

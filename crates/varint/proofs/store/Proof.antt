@@ -3,7 +3,7 @@
 use Prim.Native.Nat.{_-_}
 use lib.ListN.{length}
 use borrow.Author.Needs.{needs}
-use Rattle.varint.proofs.Loops.{StoredSoFar, stored-start, stored-turn, stored-none, stored-all}
+use Rattle.varint.proofs.WriteLoops.{StoredSoFar, stored-start, stored-turn, stored-none, stored-all}
 use Rattle.varint.proofs.store.Statement.{statement}
 use Rattle.varint.proofs.store.Tie as tie
 

@@ -3,7 +3,7 @@
 use native.Mathlib.Omega.{arith}
 use lib.ListN.{length-take}
 use borrow.Author.Needs.{needs}
-use Rattle.varint.proofs.Loops.{rest-of-six}
+use Rattle.varint.proofs.WriteLoops.{rest-of-six}
 use Rattle.varint.proofs.write_varint_be.Statement.{statement}
 use Rattle.varint.proofs.write_varint_be.Tie as tie
 

@@ -4,7 +4,7 @@ use native.Mathlib.Omega.{arith}
 use lib.ListN.{length-take, length-set}
 use borrow.Author.Needs.{needs}
 use Rattle.varint.specs.Writing.{bigEndianWithStart}
-use Rattle.varint.proofs.Loops.{first-of-six, started-of-six}
+use Rattle.varint.proofs.WriteLoops.{first-of-six, started-of-six}
 use Rattle.varint.proofs.write_varint_with_start.Statement.{statement}
 use Rattle.varint.proofs.write_varint_with_start.Tie as tie
 
