@@ -53,15 +53,21 @@ fn print_answer(answer: Split) {
     }
 }
 
-// One split: its title, its answer, and its five stores of seven numbers, the last cut to `room`.
-fn show(title: &[u8], kinds: &[u8], names: u32, args: u32, kwonly: u32, flags: u32, room: usize) {
+// One split: its title, its answer and its five stores, the last of which is lent.
+fn show(
+    title: &[u8],
+    kinds: &[u8],
+    names: u32,
+    args: u32,
+    kwonly: u32,
+    flags: u32,
+    arguments: &mut [u32],
+) {
     io::write_all(OUT, title);
     let mut locals = [7u32; 7];
     let mut cells = [7u32; 7];
     let mut frees = [7u32; 7];
     let mut map = [7u32; 7];
-    let mut arguments = [7u32; 7];
-    let last = if room < 7 { room } else { 7 };
     print_answer(localsplus::split_localplus(
         kinds,
         names,
@@ -72,18 +78,18 @@ fn show(title: &[u8], kinds: &[u8], names: u32, args: u32, kwonly: u32, flags: u
         &mut cells,
         &mut frees,
         &mut map,
-        &mut arguments[..last],
+        arguments,
     ));
     print_store(b"  Local", &locals);
     print_store(b"  Cell", &cells);
     print_store(b"  Free", &frees);
     print_store(b"  map", &map);
-    print_store(b"  cell-to-argument", &arguments[..last]);
+    print_store(b"  cell-to-argument", arguments);
 }
 
 fn main() {
     let kinds = [0x20u8, 0x60, 0x20, 0x40, 0xC0, 0x80];
-    show(b"two arguments\n", &kinds, 6, 2, 0, 0, 7);
+    show(b"two arguments\n", &kinds, 6, 2, 0, 0, &mut [7; 7]);
     show(
         b"one argument, so no argument cell\n",
         &kinds,
@@ -91,10 +97,18 @@ fn main() {
         1,
         0,
         0,
-        7,
+        &mut [7; 7],
     );
-    show(b"one argument and flag 0x08\n", &kinds, 6, 1, 0, 8, 7);
-    show(b"no names\n", &[], 0, 0, 0, 0, 0);
+    show(
+        b"one argument and flag 0x08\n",
+        &kinds,
+        6,
+        1,
+        0,
+        8,
+        &mut [7; 7],
+    );
+    show(b"no names\n", &[], 0, 0, 0, 0, &mut [7; 0]);
     show(
         b"five names for six kinds\n",
         &kinds,
@@ -102,9 +116,17 @@ fn main() {
         4_294_967_295,
         1,
         0,
-        4,
+        &mut [7; 4],
     );
-    show(b"a sum of 2^32\n", &kinds, 6, 4_294_967_295, 0, 4, 4);
+    show(
+        b"a sum of 2^32\n",
+        &kinds,
+        6,
+        4_294_967_295,
+        0,
+        4,
+        &mut [7; 4],
+    );
     show(
         b"a sum of 2^32 - 1, and four numbers of room at the end\n",
         &kinds,
@@ -112,6 +134,6 @@ fn main() {
         4_294_967_294,
         1,
         0,
-        4,
+        &mut [7; 4],
     );
 }
