@@ -1,6 +1,6 @@
 -- The two ends of a split: what the checks tell where all of them hold, and the contract from the parts of each end.
 -- Assumes nothing.
-use mathlib.Core.Path.{_≡_, refl, sym, ap, _∙_}
+use mathlib.Core.Path.{_≡_, refl, sym, _∙_}
 use mathlib.Core.Bool.{Bool, true, false, cond, not}
 use mathlib.Core.List.{List}
 use Prim.Native.Nat.{ℕ, _≤_, _^_}
@@ -16,7 +16,7 @@ use Rattle.localsplus.specs.declared.Checked.the-variants.{Fits, Fails}
 use Rattle.localsplus.specs.declared.Split.the-variants.{Done, Refused}
 use Rattle.localsplus.specs.Sum.{argumentSum}
 use Rattle.localsplus.specs.Kind.{localBit, cellBit, freeBit}
-use Rattle.localsplus.specs.Lists.{positions, mapFrom, derefMap, present, cellToArgument}
+use Rattle.localsplus.specs.Lists.{positions, mapFrom, present, cellToArgument}
 use Rattle.localsplus.specs.Answer.{roomsOf, roomFor, checks, answered, splitOf, stored, IsSplit}
 
 -- a check that a passing answer went by

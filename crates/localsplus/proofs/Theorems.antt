@@ -1,20 +1,24 @@
 -- The split's promises, over its definitions and its contract: one answer per input, and each list said of one name at a time.
 -- They rest on `Ranks` and assume nothing.
-use mathlib.Core.Path.{_≡_, refl, sym, ap, _∙_}
-use mathlib.Core.Bool.{true, false, cond}
+use mathlib.Core.Path.{_≡_, sym, ap, _∙_}
+use mathlib.Core.Bool.{true}
 use mathlib.Core.List.{List}
 use mathlib.Core.Logic.{_⊎_, inl, inr}
-use Prim.Native.Nat.{ℕ, _+_, _≤_, _<_}
+use Prim.Native.Nat.{ℕ, _+_, _<_}
 use native.Mathlib.Nat.{zero-add}
 use native.Mathlib.Omega.{arith}
 use lib.ListN.{length, getD}
-use Rattle.refusals.specs.Limits.{nothing}
+use borrow.Author.Tests.{lt-ltb}
+use Rattle.refusals.specs.Numbers.{inputTooLong}
+use Rattle.refusals.specs.Limits.{mostBytes, nothing}
+use Rattle.localsplus.specs.declared.Rooms.{Rooms}
 use Rattle.localsplus.specs.declared.Split.{Split}
+use Rattle.localsplus.specs.declared.Split.the-variants.{Refused}
 use Rattle.localsplus.specs.Kind.{cellBit, freeBit, has}
 use Rattle.localsplus.specs.Lists.{positions, mapped, derefMap, argumentOf, cellArgsFrom}
-use Rattle.localsplus.specs.Answer.{IsSplit}
+use Rattle.localsplus.specs.Answer.{checks, answered, splitOf, IsSplit}
 use Rattle.localsplus.proofs.Turns.{by-test}
-use Rattle.localsplus.proofs.Ranks.{rank, count, Rising, length-positions, positions-rise, positions-at, rank-below, length-map-from, map-at, length-arguments, arguments-at}
+use Rattle.localsplus.proofs.Ranks.{rank, Rising, length-positions, positions-rise, positions-at, rank-below, length-map-from, map-at, length-arguments, arguments-at}
 
 -- One answer per input: two calls with the same arguments, whose stores are as long, agree in the answer and in every store,
 -- whatever the stores held before.
@@ -28,6 +32,11 @@ pub one-answer : {kinds : List ℕ} {names args kwonly flags : ℕ} {l c f m a l
     → IsSplit kinds names args kwonly flags l₀ c₀ f₀ m₀ a₀ s l₂ c₂ f₂ m₂ a₂
     → (r ≡ s) × (l₁ ≡ l₂) × (c₁ ≡ c₂) × (f₁ ≡ f₂) × (m₁ ≡ m₂) × (a₁ ≡ a₂)
 one-answer el ec ef em ea p q = (cc, cc, cc, cc, cc, cc)
+
+-- Too many kind bytes are refused before all else, whatever the other arguments are.
+pub too-long : (kinds : List ℕ) (names args kwonly flags : ℕ) (rooms : Rooms) → mostBytes < length kinds → splitOf kinds names args kwonly flags rooms ≡ Refused inputTooLong 0
+unfolding splitOf answered checks
+too-long kinds names args kwonly flags rooms h = rw (lt-ltb mostBytes (length kinds) h)
 
 module _ (kinds : List ℕ) where
   -- The positions rise and are positions of names, so no name comes twice.

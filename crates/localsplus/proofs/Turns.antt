@@ -1,16 +1,14 @@
 -- Each list of the split, one kind byte on from position i, and where the bytes end. Assumes nothing.
-use mathlib.Core.Path.{_≡_, refl, sym, ap, _∙_}
-use mathlib.Core.Bool.{Bool, true, false, _&&_, and-false}
+use mathlib.Core.Path.{_≡_, refl}
+use mathlib.Core.Bool.{Bool, true, false, and-false}
 use mathlib.Core.List.{List, [], _∷_}
 use Prim.Native.Nat.{ℕ, _+_, _≤_, _<_}
 use native.Mathlib.Numerals.{add-one}
-use native.Mathlib.Omega.{arith}
-use lib.Dec.{eqb}
 use lib.ListN.{length, getD, drop, drop-of-length-le}
 use lib.Seq.{drop-cons}
-use borrow.Author.Tests.{eq-eqb, ne-eqb}
-use Rattle.refusals.specs.Limits.{mostBytes, nothing}
-use Rattle.localsplus.specs.Kind.{localBit, cellBit, freeBit, has}
+use borrow.Author.Tests.{ne-eqb}
+use Rattle.refusals.specs.Limits.{nothing}
+use Rattle.localsplus.specs.Kind.{cellBit, freeBit, has}
 use Rattle.localsplus.specs.Lists.{positionsFrom, mapped, counted, mapFrom, argumentCell, argumentOf, cellArgsFrom, allNothing}
 
 -- what follows from a test whichever way it falls

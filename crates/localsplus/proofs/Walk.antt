@@ -1,6 +1,6 @@
 -- A walk over the kind bytes that writes a list into a cleared store, one number or none a byte: the loops of the three writers.
 -- What stands in the store and what is left to write come to the whole list. Assumes nothing.
-use mathlib.Core.Path.{_≡_, sym, ap, _∙_}
+use mathlib.Core.Path.{_≡_, ap, _∙_}
 use mathlib.Core.List.{List, [], _∷_}
 use Prim.Native.Nat.{ℕ, _+_, _≤_, _<_}
 use native.Mathlib.Nat.{zero-add}

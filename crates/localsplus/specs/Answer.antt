@@ -19,10 +19,11 @@ use Rattle.localsplus.specs.Sum.{argumentSum}
 use Rattle.localsplus.specs.Kind.{localBit, cellBit, freeBit}
 use Rattle.localsplus.specs.Lists.{positions, derefMap, present, cellToArgument}
 
--- the lengths of the outputs: Local, Cell, Free, map, cell-to-argument
+-- the outputs in the order of the checks: Local, Cell, Free, map, cell-to-argument
 abbrev pub inOrder : Rooms → List ℕ
 inOrder rooms = rooms .locals ∷ rooms .cells ∷ rooms .frees ∷ rooms .map ∷ rooms .arguments ∷ []
 
+-- the lengths of five stores
 abbrev pub roomsOf : List ℕ → List ℕ → List ℕ → List ℕ → List ℕ → Rooms
 roomsOf locals cells frees map arguments =
     record {

@@ -1,6 +1,6 @@
 -- The five lists that the split writes, each by one walk over the kind bytes, in the order of 01's sentences.
 -- 01, 'Locals, numbers and locations', first paragraph. No refusal stands here: `Answer` has those.
-use mathlib.Core.Bool.{Bool, true, false, cond, not, _&&_}
+use mathlib.Core.Bool.{Bool, true, cond, not, _&&_}
 use mathlib.Core.List.{List, [], _∷_}
 use Prim.Native.Nat.{ℕ, _+_}
 use lib.Dec.{ltb, eqb}

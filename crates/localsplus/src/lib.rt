@@ -3,7 +3,7 @@
 ghost use mathlib.Core.Path.{_≡_};
 ghost use Prim.Native.Nat.{_+_, _≤_, _<_};
 ghost use lib.ListN.{length};
-ghost use Rattle.refusals.specs.Limits.{mostBytes};
+ghost use Rattle.refusals.specs.Limits.{mostBytes, nothing};
 ghost use Rattle.lent.specs.Lent.{padded};
 ghost use Rattle.localsplus.specs.Sum.{argumentSum};
 ghost use Rattle.localsplus.specs.Kind.{has};
@@ -131,7 +131,7 @@ fn map_number(cell: u32, free: u32, kind: u8) -> u32
 
 // One more if the kind has the bit.
 fn count_bit(bit: u8, kind: u8, n: u32) -> u32
-    requires { ⌜ (0 < bit) × (n < 4294967295) ⌝ }
+    requires { ⌜ (0 < bit) × (n < nothing) ⌝ }
     ensures { λ r. ⌜ (r ≡ counted bit kind n) × (r ≤ n + 1) ⌝ }
 {
     if has_bit(bit, kind) { n + 1 } else { n }
