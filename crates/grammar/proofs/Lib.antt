@@ -1,2 +1,4 @@
+pub mod Fitting
+pub mod Exactness
 pub mod Sheets
 pub mod Vectors
