@@ -3,5 +3,7 @@ pub mod Exactness
 pub mod Unrolling
 pub mod Extension
 pub mod Appended
+pub mod Following
+pub mod Links
 pub mod Sheets
 pub mod Vectors
