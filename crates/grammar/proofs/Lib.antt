@@ -5,5 +5,6 @@ pub mod Extension
 pub mod Appended
 pub mod Following
 pub mod Links
+pub mod Standing
 pub mod Sheets
 pub mod Vectors
