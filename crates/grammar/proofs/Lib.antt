@@ -6,5 +6,6 @@ pub mod Appended
 pub mod Following
 pub mod Links
 pub mod Standing
+pub mod Fielding
 pub mod Sheets
 pub mod Vectors
