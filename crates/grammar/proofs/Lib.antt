@@ -7,5 +7,6 @@ pub mod Following
 pub mod Links
 pub mod Standing
 pub mod Fielding
+pub mod Keeping
 pub mod Sheets
 pub mod Vectors
