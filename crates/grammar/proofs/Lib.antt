@@ -8,5 +8,6 @@ pub mod Links
 pub mod Standing
 pub mod Fielding
 pub mod Keeping
+pub mod Bounded
 pub mod Sheets
 pub mod Vectors
