@@ -183,21 +183,23 @@ ruled-sound s l at f c (keeps form) said filled =
     (omega (arith, z, said .within), reads-as (fields s form (f .place)) f (closing l f c) (ap (fields s form) (said .place) ∙ said .told) z (filled-counted s at (f .children) c (said .children) filled))
 ruled-sound s l at f c (contains sort) said filled =
     let no-parts : NotParts (f .children) = rw (said .children) tt in
-    let z = plain-size (f .children) (f .place) (f .size) (c .line) no-parts in
-    (omega (arith, z, said .within),
-    both (eqb (length (c .kids)) 0) (containing s (closing l f c) sort) (eq-eqb (length (c .kids)) 0 (rw (said .children) at filled)) (said .good (closing l f c) refl z))
+    let z = plain-size (f .children) (f .place) (f .size) (c .line) no-parts in (
+      omega (arith, z, said .within),
+      both (eqb (length (c .kids)) 0) (containing s (closing l f c) sort) (eq-eqb (length (c .kids)) 0 (rw (said .children) at filled)) (said .good (closing l f c) refl z),
+    )
 ruled-sound s l at f c codes said filled = coded (rw (said .is) at filled)
   where
     coded : FilledCode s at c → (closing l f c .place + closing l f c .size ≤ length s) × (ruled s (closing l f c) codes ≡ true)
     coded k =
-        rw (said .is)
-        (omega (arith, k .line, k .within),
-        both (leb codeNumbers (c .line - at) && leb (at + (c .line - at) + 4) (length s) && eqb (length (c .kids)) codeParts) (ltb (sumAt s at) 4294967296)
-        (both (leb codeNumbers (c .line - at) && leb (at + (c .line - at) + 4) (length s)) (eqb (length (c .kids)) codeParts)
-        (both (leb codeNumbers (c .line - at)) (leb (at + (c .line - at) + 4) (length s))
-        (le-leb codeNumbers (c .line - at) (omega (arith, k .line))) (le-leb (at + (c .line - at) + 4) (length s) (omega (arith, k .line, k .within))))
-        (eq-eqb (length (c .kids)) codeParts (k .count)))
-        (lt-ltb (sumAt s at) 4294967296 (k .sum)))
+        rw (said .is) (
+          omega (arith, k .line, k .within),
+          both (leb codeNumbers (c .line - at) && leb (at + (c .line - at) + 4) (length s) && eqb (length (c .kids)) codeParts) (ltb (sumAt s at) 4294967296)
+              (both (leb codeNumbers (c .line - at) && leb (at + (c .line - at) + 4) (length s)) (eqb (length (c .kids)) codeParts)
+              (both (leb codeNumbers (c .line - at)) (leb (at + (c .line - at) + 4) (length s))
+              (le-leb codeNumbers (c .line - at) (omega (arith, k .line))) (le-leb (at + (c .line - at) + 4) (length s) (omega (arith, k .line, k .within))))
+              (eq-eqb (length (c .kids)) codeParts (k .count)))
+              (lt-ltb (sumAt s at) 4294967296 (k .sum)),
+        )
 
 -- the record test passes
 pub closing-sound : (s : List ℕ) (l at : ℕ) (f : Fields) (c : Chain) → Said s (classOf l) at f → Filled s at (f .children) c → sound s (closing l f c) ≡ true

@@ -108,11 +108,12 @@ module _ (s : List ℕ) (small : length s ≤ mostBytes) (bytes : (i : ℕ) → 
 
   front-keeps : (st : State) (t : Need) (depth : ℕ) → Holds s t st → Follows Q C (Fronted s st) t (front s depth (st .at) (length (st .nodes)) (length (st .slots)) (st .slots))
   unfolding front
-  front-keeps st t depth h =
-      (h .within,
-      follows-cond Q C (Fronted s st) (raise level (depth + 1) t) (ltb (st .at) (length s)) _ (refused eofObject (length s))
-      (λ e. header-keeps st (raise level (depth + 1) t) depth _ _ (classOf (letterOf (getD s (st .at) 0))) (deeper (depth + 1) h) (ltb-true (st .at) (length s) e) refl)
-      (λ e. (refl, omega arith)))
+  front-keeps st t depth h = (
+    h .within,
+    follows-cond Q C (Fronted s st) (raise level (depth + 1) t) (ltb (st .at) (length s)) _ (refused eofObject (length s))
+        (λ e. header-keeps st (raise level (depth + 1) t) depth _ _ (classOf (letterOf (getD s (st .at) 0))) (deeper (depth + 1) h) (ltb-true (st .at) (length s) e) refl)
+        (λ e. (refl, omega arith)),
+  )
 
   -- The children.
 
@@ -151,17 +152,17 @@ module _ (s : List ℕ) (small : length s ≤ mostBytes) (bytes : (i : ℕ) → 
       let h = k .holds in
       record {
         holds =
-          record {
-            within = l;
-            few-nodes = omega (arith, h .few-nodes);
-            few-entries = omega (arith, h .few-entries);
-            few-slots = omega (arith, h .few-slots);
-            claimed-nodes = h .claimed-nodes;
-            claimed-entries = h .claimed-entries;
-            claimed-slots = h .claimed-slots;
-            entries-in = h .entries-in;
-            slots-in = h .slots-in;
-          };
+            record {
+              within = l;
+              few-nodes = omega (arith, h .few-nodes);
+              few-entries = omega (arith, h .few-entries);
+              few-slots = omega (arith, h .few-slots);
+              claimed-nodes = h .claimed-nodes;
+              claimed-entries = h .claimed-entries;
+              claimed-slots = h .claimed-slots;
+              entries-in = h .entries-in;
+              slots-in = h .slots-in;
+            };
         since = record { on = omega (arith, k .since .on); more-nodes = k .since .more-nodes; same-nodes = k .since .same-nodes; entries = k .since .entries };
         spent = omega (arith, k .spent);
         built = k .built;
@@ -251,13 +252,15 @@ module _ (s : List ℕ) (small : length s ≤ mostBytes) (bytes : (i : ℕ) → 
   unfolding ended
   ended-keeps b at t c l start p =
       follows-cond Q C (Filling b at parts) t (eqb (faultOf s at c) accepted) (done c) (refused (faultOf s at c) at)
-      (λ e. (p .chained,
-      record {
-        count = p .count;
-        line = omega (arith, p .lined .line (omega arith));
-        within = omega (arith, p .lined .behind (omega arith), p .chained .holds .within);
-        sum = no-fault (sumAt s (at + 1)) (size codePart) (count localsPart) (size kindsPart) e;
-      }))
+      (λ e. (
+        p .chained,
+        record {
+          count = p .count;
+          line = omega (arith, p .lined .line (omega arith));
+          within = omega (arith, p .lined .behind (omega arith), p .chained .holds .within);
+          sum = no-fault (sumAt s (at + 1)) (size codePart) (count localsPart) (size kindsPart) e;
+        },
+      ))
       (λ e. (fault-own (sumAt s (at + 1)) (size codePart) (count localsPart) (size kindsPart) e, l))
     where
       size : ℕ → ℕ
@@ -304,17 +307,17 @@ module _ (s : List ℕ) (small : length s ≤ mostBytes) (bytes : (i : ℕ) → 
       let q = k .holds in
       record {
         holds =
-          record {
-            within = k .within;
-            few-nodes = omega (arith, q .few-nodes, k .past);
-            few-entries = omega (arith, q .few-entries, k .past);
-            few-slots = omega (arith, q .few-slots, k .past);
-            claimed-nodes = q .claimed-nodes;
-            claimed-entries = q .claimed-entries;
-            claimed-slots = q .claimed-slots;
-            entries-in = q .entries-in;
-            slots-in = q .slots-in;
-          };
+            record {
+              within = k .within;
+              few-nodes = omega (arith, q .few-nodes, k .past);
+              few-entries = omega (arith, q .few-entries, k .past);
+              few-slots = omega (arith, q .few-slots, k .past);
+              claimed-nodes = q .claimed-nodes;
+              claimed-entries = q .claimed-entries;
+              claimed-slots = q .claimed-slots;
+              entries-in = q .entries-in;
+              slots-in = q .slots-in;
+            };
         since = since-refl st at (omega (arith, k .past));
         past = k .past;
         spent = omega (arith, k .past);

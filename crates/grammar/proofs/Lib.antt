@@ -9,5 +9,8 @@ pub mod Standing
 pub mod Fielding
 pub mod Keeping
 pub mod Bounded
+pub mod Contents
+pub mod Root
 pub mod Sheets
+pub mod Substance
 pub mod Vectors

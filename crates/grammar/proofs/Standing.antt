@@ -154,28 +154,28 @@ attached {s} {b} {t} {t′} {c} {v} {st} small k r =
     let h = r .holds in
     record {
       holds =
-        record {
-          within = h .within;
-          few-nodes = h .few-nodes;
-          few-entries = omega (arith, a .longer, r .spent, k .holds .few-entries);
-          few-slots = h .few-slots;
-          claimed-nodes = h .claimed-nodes;
-          claimed-entries = omega (arith, a .longer, h .claimed-entries);
-          claimed-slots = h .claimed-slots;
-          entries-in = new-entries-in a (r .named) (h .entries-in);
-          slots-in = h .slots-in;
-        };
+          record {
+            within = h .within;
+            few-nodes = h .few-nodes;
+            few-entries = omega (arith, a .longer, r .spent, k .holds .few-entries);
+            few-slots = h .few-slots;
+            claimed-nodes = h .claimed-nodes;
+            claimed-entries = omega (arith, a .longer, h .claimed-entries);
+            claimed-slots = h .claimed-slots;
+            entries-in = new-entries-in a (r .named) (h .entries-in);
+            slots-in = h .slots-in;
+          };
       since =
-        record {
-          on = omega (arith, sn .on);
-          more-nodes = sn .more-nodes;
-          same-nodes = sn .same-nodes;
-          entries =
-            record {
-              longer = omega (arith, a .longer, sn .entries .longer);
-              entry = λ i l. added-kept a bt i l (omega (arith, sn .entries .longer)) ∙ sn .entries .entry i l;
-            };
-        };
+          record {
+            on = omega (arith, sn .on);
+            more-nodes = sn .more-nodes;
+            same-nodes = sn .same-nodes;
+            entries =
+                record {
+                  longer = omega (arith, a .longer, sn .entries .longer);
+                  entry = λ i l. added-kept a bt i l (omega (arith, sn .entries .longer)) ∙ sn .entries .entry i l;
+                };
+          };
       spent = omega (arith, a .longer, r .spent, k .spent);
       built = built-added (omega (arith, sn .entries .longer)) a bt;
       finished = λ i l u. grown i l u (ltb i (length (c .st .nodes))) refl;
@@ -278,24 +278,24 @@ closed {s} {t₀} {t} {st} {c} l g at f h past k own =
     let kn = k .since .more-nodes in
     record {
       holds =
-        record {
-          within = kh .within;
-          few-nodes = omega (arith, set-length, kh .few-nodes);
-          few-entries = kh .few-entries;
-          few-slots = omega (arith, filled, kh .few-slots);
-          claimed-nodes = kh .claimed-nodes ∙ sym set-length;
-          claimed-entries = kh .claimed-entries;
-          claimed-slots = kh .claimed-slots ∙ sym filled;
-          entries-in = λ e q. record { child = omega (arith, kh .entries-in e q .child, set-length); next = kh .entries-in e q .next };
-          slots-in = fill-in _ g (length (st .slots)) (length (st .nodes)) (c .st .slots) (omega (arith, set-length, ln, kn)) (λ i. omega (arith, kh .slots-in i, set-length));
-        };
+          record {
+            within = kh .within;
+            few-nodes = omega (arith, set-length, kh .few-nodes);
+            few-entries = kh .few-entries;
+            few-slots = omega (arith, filled, kh .few-slots);
+            claimed-nodes = kh .claimed-nodes ∙ sym set-length;
+            claimed-entries = kh .claimed-entries;
+            claimed-slots = kh .claimed-slots ∙ sym filled;
+            entries-in = λ e q. record { child = omega (arith, kh .entries-in e q .child, set-length); next = kh .entries-in e q .next };
+            slots-in = fill-in _ g (length (st .slots)) (length (st .nodes)) (c .st .slots) (omega (arith, set-length, ln, kn)) (λ i. omega (arith, kh .slots-in i, set-length));
+          };
       since =
-        record {
-          on = omega (arith, k .since .on);
-          more-nodes = omega (arith, set-length, ln, kn);
-          same-nodes = λ i q. before i q;
-          entries = k .since .entries;
-        };
+          record {
+            on = omega (arith, k .since .on);
+            more-nodes = omega (arith, set-length, ln, kn);
+            same-nodes = λ i q. before i q;
+            entries = k .since .entries;
+          };
       past = omega (arith, k .since .on);
       spent = omega (arith, k .spent);
       named = omega (arith, set-length, ln, kn);
