@@ -5,16 +5,16 @@ use Prim.Native.Nat.{ℕ, _+_, _≤_}
 use native.Mathlib.Omega.{arith}
 use mathlib.Core.Bool.{Bool, true, false, cond}
 use mathlib.Core.List.{List, _++_}
-use lib.ListN.{length, getD, drop, length-append, List·getD-append}
+use lib.ListN.{length, drop, length-append, List·getD-append}
 use lib.Seq.{take-append-le}
 use lib.Dec.{leb}
 use Rattle.refusals.specs.Limits.{mostBytes}
-use Rattle.grammar.specs.Reading.{Kind, Reading, done, refused, claim, Answer, gives, stops}
+use Rattle.grammar.specs.Reading.{Reading, done, refused, claim, Answer, stops}
 use Rattle.grammar.specs.Room.{Rooms, roomFor, numberOf, run}
 use Rattle.grammar.specs.State.{State, start}
 use Rattle.grammar.specs.Steps.{value}
 use Rattle.grammar.specs.Answer.{plain, roomsOf, reading, outcomeOf, readOf}
-use Rattle.grammar.proofs.Extension.{cut, Stays, uncut, even, Ext, Front-of, On, value-ext}
+use Rattle.grammar.proofs.Extension.{cut, uncut, even, Ext, Front-of, On, value-ext}
 use Rattle.grammar.proofs.Exactness.{within-room}
 
 appended : (s t : List ℕ) → Front-of s (s ++ t)

@@ -1,23 +1,21 @@
 -- What the answer says is bounded by the input, and what the stores name is there: consequences of Keeping for the whole reading.
 -- Assumes that the input is bytes, 16 MiB of them at most.
 use mathlib.Core.Path.{_≡_, refl, sym, ap, _∙_}
-use Prim.Native.Nat.{ℕ, zero, suc, _+_, _*_, _/_, _≤_, _<_, max, min}
+use Prim.Native.Nat.{ℕ, _≤_, _<_, max}
 use native.Mathlib.Omega.{arith}
-use mathlib.Core.Bool.{Bool, true, false, cond}
+use mathlib.Core.Bool.{true, cond}
 use mathlib.Core.List.{List, [], _∷_, _++_}
 use lib.ListN.{length, getD}
-use lib.Dec.{eqb}
 use Rattle.refusals.specs.Numbers.{tooDeep}
-use Rattle.refusals.specs.Limits.{mostBytes, mostNesting}
-use Rattle.grammar.specs.Reading.{Kind, level, node, entry, slot, Reading, done, refused, claim, Answer, gives, stops}
+use Rattle.refusals.specs.Limits.{mostBytes}
+use Rattle.grammar.specs.Reading.{Kind, level, node, entry, slot, gives, stops}
 use Rattle.grammar.specs.Letters.{among}
-use Rattle.grammar.specs.Room.{Rooms, roomFor, numberOf, run, plainly, Claim, claims, same, most, AllFit}
+use Rattle.grammar.specs.Room.{Rooms, roomFor, numberOf, run, plainly, Claim, same, most}
 use Rattle.grammar.specs.State.{State, start, unlinked, blank}
-use Rattle.grammar.specs.Steps.{value}
-use Rattle.grammar.specs.Answer.{plain, roomsOf, reading}
+use Rattle.grammar.specs.Answer.{plain}
 use Rattle.grammar.proofs.Fitting.{exact-where-all-fit, most-fits, Over, Fitted, all, some-over, fitted, refused-where-one-is-over, fits-unless-of-room, gives-not-of-room}
-use Rattle.grammar.proofs.Exactness.{needed, claimsOf, within-room, exact-where-it-fits, first-over-refuses, fits-or-over}
-use Rattle.grammar.proofs.Following.{Need, needOf, Follows, Gave, follows-gives, follows-stops, AllAt, follows-claims}
+use Rattle.grammar.proofs.Exactness.{needed, claimsOf}
+use Rattle.grammar.proofs.Following.{Need, Follows, follows-gives, follows-stops, AllAt, follows-claims}
 use Rattle.grammar.proofs.Links.{UsedOrNone, linked-first}
 use Rattle.grammar.proofs.Standing.{Holds, EntryIn, Finished, Valued}
 use Rattle.grammar.proofs.Fielding.{ofInput, Own}

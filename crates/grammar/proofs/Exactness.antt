@@ -1,7 +1,7 @@
 -- Demand 3 over the whole reading: exact where the four counts fit, the first claim's refusal where one does not; more room changes no other
 -- answer, and no number of the stores but for the zeros at their end; one answer to each input. The laws of Fitting carry it. Assumes nothing.
-use mathlib.Core.Path.{_≡_, refl, sym, ap, _∙_}
-use Prim.Native.Nat.{ℕ, _≤_, _<_, _/_, min}
+use mathlib.Core.Path.{_≡_, refl, sym, _∙_}
+use Prim.Native.Nat.{ℕ, _≤_, _<_}
 use native.Mathlib.Omega.{arith}
 use mathlib.Core.Bool.{Bool, true, false, cond}
 use mathlib.Core.List.{List}
@@ -10,11 +10,10 @@ use lib.Dec.{ltb}
 use borrow.Author.Tests.{le-ltb, lt-ltb}
 use Rattle.refusals.specs.Numbers.{inputTooLong}
 use Rattle.refusals.specs.Limits.{mostBytes}
-use Rattle.grammar.specs.Reading.{Kind, level, node, entry, slot, Answer, gives, stops}
-use Rattle.grammar.specs.Room.{Rooms, roomFor, numberOf, run, plainly, Claim, claims, most}
-use Rattle.grammar.specs.State.{State, nodeCapacity, entryCapacity, slotCapacity}
+use Rattle.grammar.specs.Reading.{Kind, level, node, entry, slot, stops}
+use Rattle.grammar.specs.Room.{roomFor, numberOf, run, plainly, Claim, claims, most}
 use Rattle.grammar.specs.Answer.{plain, roomsOf, reading, Outcome, readOf}
-use Rattle.grammar.proofs.Fitting.{exact-where-all-fit, all-fit, Over, Fitted, all, some-over, fitted, refused-where-one-is-over, NotOfRoom, more-room}
+use Rattle.grammar.proofs.Fitting.{exact-where-all-fit, all-fit, Over, Fitted, fitted, refused-where-one-is-over, NotOfRoom, more-room}
 
 -- How much of a kind the plain reading of an input needs, counted to where it stops.
 abbrev pub needed : List ℕ → Kind → ℕ

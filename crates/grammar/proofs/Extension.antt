@@ -1,22 +1,21 @@
 -- Two readings side by side, of s and of s′, which has s at its front. `Ext P m m′`: m′ claims what m claims and ends as m ends, unless m
 -- is refused with 1 or 2 and s′ is longer; P holds of what m gives. One law a definition of Steps. Assumes nothing.
-use mathlib.Core.Path.{_≡_, refl, sym, ap, _∙_}
-use Prim.Native.Nat.{ℕ, zero, suc, _+_, _-_, _*_, _/_, _%_, _≤_, _<_}
+use mathlib.Core.Path.{_≡_, refl, ap, _∙_}
+use Prim.Native.Nat.{ℕ, zero, suc, _+_, _*_, _≤_, _<_}
 use native.Mathlib.Omega.{arith}
 use mathlib.Core.Bool.{Bool, true, false, cond}
-use mathlib.Core.Option.{Option, none, some}
-use mathlib.Core.List.{List, [], _∷_, _++_}
+use mathlib.Core.List.{List}
 use lib.ListN.{length, getD}
 use lib.Dec.{leb, ltb, eqb}
 use borrow.Author.Tests.{lt-ltb, le-ltb, le-leb, lt-leb, ltb-true, ltb-false, leb-true, leb-false}
-use Rattle.refusals.specs.Numbers.{accepted, eofObject, dataTooShort, invalidRef, badSize, badType, invalidBytecode, invalidUtf8}
+use Rattle.refusals.specs.Numbers.{accepted, eofObject, dataTooShort, badSize, invalidBytecode, invalidUtf8}
 use Rattle.wtf8.specs.Forms.{wellFormed}
-use Rattle.grammar.specs.Reading.{Kind, level, node, entry, slot, Reading, done, refused, claim, bind, reads, Answer, gives, stops}
+use Rattle.grammar.specs.Reading.{Reading, done, refused, claim, bind, reads, Answer, gives, stops}
 use Rattle.grammar.specs.Letters as letter
 use Rattle.grammar.specs.Letters.{Form, Sort, Class, refers, keeps, contains, codes, refuses, flagOf, letterOf, classOf, endsDict}
-use Rattle.grammar.specs.Fields.{Fields, Children, items, pairs, parts, le16, le32, notNegative, contents, span, field, size32, string, digitCount, digits, lastDigit, pylong, numbers, codeNumbers, sumAt, fields, contained, codeFields, codeFault}
+use Rattle.grammar.specs.Fields.{Fields, Children, items, pairs, parts, le16, le32, notNegative, contents, field, size32, string, digitCount, digits, lastDigit, pylong, numbers, codeNumbers, fields, contained, codeFields}
 use Rattle.grammar.specs.State.{State}
-use Rattle.grammar.specs.Steps.{Front, known, opens, stored, reference, reserving, opened, header, front, Chain, fresh, attach, Rule, whatever, suits, Reader, child, kids, passed, keyOr, couples, codeParts, rules, linePart, lined, firstLine, partsFrom, faultOf, ended, body, enter, close, after, one, value}
+use Rattle.grammar.specs.Steps.{Front, known, opens, stored, reference, reserving, opened, header, front, Chain, fresh, attach, Rule, whatever, suits, Reader, child, kids, keyOr, couples, codeParts, rules, linePart, lined, firstLine, partsFrom, faultOf, ended, body, enter, close, after, one, value}
 use Rattle.grammar.proofs.Unrolling.{value-unroll, couples-unroll}
 
 -- refusals 1 and 2: there were not bytes enough

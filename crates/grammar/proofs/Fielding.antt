@@ -1,13 +1,13 @@
 -- The fields of a node: what they give lies in the input, what they refuse is a refusal of the input's at a place of it, and the record of
 -- a node with these fields, once its children are read, passes the record test. Assumes that the input is bytes.
-use mathlib.Core.Path.{_≡_, refl, sym, ap, _∙_}
+use mathlib.Core.Path.{_≡_, refl, ap, _∙_}
 use Prim.Native.Nat.{ℕ, zero, suc, _+_, _-_, _*_, _%_, _≤_, _<_}
 use native.Mathlib.Omega.{arith}
 use mathlib.Core.Bool.{Bool, true, false, cond, _&&_}
 use mathlib.Core.List.{List, [], _∷_}
 use lib.ListN.{length, getD}
 use lib.Dec.{leb, ltb, eqb}
-use borrow.Author.Tests.{leb-true, leb-false, le-leb, lt-ltb, eq-eqb}
+use borrow.Author.Tests.{leb-true, le-leb, lt-ltb, eq-eqb}
 use Rattle.refusals.specs.Numbers.{eofObject, dataTooShort, unknownType, nullObject, invalidRef, badSize, badType, invalidBytecode, invalidUtf8, notCarried, numberRange}
 use Rattle.wtf8.specs.Forms.{wellFormed}
 use Rattle.grammar.specs.Reading.{Answer, gives, stops}

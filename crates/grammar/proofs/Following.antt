@@ -1,7 +1,7 @@
 -- What holds of a reading on its way: `Follows Q C P t m`: every place that m claims at has C, what it is refused with has Q, and P holds of
 -- the most that it claimed of each kind, from t on, and of what it gives. The laws that let it go through a definition. Assumes nothing.
-use mathlib.Core.Path.{_≡_, refl, sym, ap, _∙_}
-use Prim.Native.Nat.{ℕ, _≤_, max}
+use mathlib.Core.Path.{_≡_, refl, _∙_}
+use Prim.Native.Nat.{ℕ, max}
 use native.Mathlib.Omega.{arith}
 use mathlib.Core.Bool.{Bool, true, false, cond}
 use mathlib.Core.List.{List, [], _∷_}

@@ -1,23 +1,23 @@
 -- Every step of the reading keeps what Standing says of a state, claims and refuses at places of the input only, and refuses for the input's
 -- own sake only. One law a definition of Steps. Assumes that the input is bytes, 16 MiB of them at most.
-use mathlib.Core.Path.{_≡_, refl, sym, ap, _∙_}
-use Prim.Native.Nat.{ℕ, zero, suc, _+_, _-_, _*_, _%_, _≤_, _<_, max}
+use mathlib.Core.Path.{_≡_, refl}
+use Prim.Native.Nat.{ℕ, zero, suc, _+_, _%_, _≤_, _<_}
 use native.Mathlib.Omega.{arith}
 use mathlib.Core.Bool.{Bool, true, false, cond}
-use mathlib.Core.List.{List, [], _∷_, _++_}
+use mathlib.Core.List.{List, [], _∷_}
 use lib.ListN.{length, getD, length-append}
-use lib.Dec.{leb, ltb, eqb}
-use borrow.Author.Tests.{ltb-true, ltb-false, leb-true, eqb-true, eqb-false}
-use Rattle.refusals.specs.Numbers.{accepted, eofObject, invalidBytecode, numberRange, badType}
+use lib.Dec.{ltb, eqb}
+use borrow.Author.Tests.{ltb-true, ltb-false, eqb-false}
+use Rattle.refusals.specs.Numbers.{accepted, eofObject, invalidBytecode, numberRange}
 use Rattle.refusals.specs.Limits.{mostBytes}
-use Rattle.grammar.specs.Reading.{Kind, level, node, entry, slot, Reading, done, refused, claim, bind, reads, Answer, gives, stops}
-use Rattle.grammar.specs.Letters.{Class, refers, keeps, contains, codes, refuses, flagOf, letterOf, classOf, endsDict, among}
+use Rattle.grammar.specs.Reading.{level, node, slot, Reading, done, refused, Answer, gives, stops}
+use Rattle.grammar.specs.Letters.{Class, refers, keeps, contains, codes, refuses, letterOf, classOf, endsDict, among}
 use Rattle.grammar.specs.Fields.{Fields, Children, items, pairs, parts, field, le32, codeNumbers, sumAt, fields, contained, codeFields, codeFault}
 use Rattle.grammar.specs.State.{State, start, blank, movedTo}
-use Rattle.grammar.specs.Steps.{Front, known, opens, stored, reference, reserving, opened, header, front, Chain, fresh, attach, Rule, whatever, suits, Reader, child, kids, passed, keyOr, couples, codeParts, rules, codePart, localsPart, kindsPart, linePart, lined, firstLine, partsFrom, faultOf, ended, body, enter, close, after, one, value}
-use Rattle.grammar.proofs.Following.{Need, raise, Follows, FollowsA, follows-bind, follows-map, follows-cond, follows-reads}
-use Rattle.grammar.proofs.Standing.{Holds, Since, Valued, Chained, since-refl, attached, bit, Claimed, entered, started, closed}
-use Rattle.grammar.proofs.Fielding.{ofInput, Own, NotParts, Said, field-in, fields-in, codeFields-in, contained-in, FilledCode, Filled, closing-sound, said-ahead, said-within, ownClass, class-own}
+use Rattle.grammar.specs.Steps.{Front, known, opens, stored, reference, reserving, opened, header, front, Chain, fresh, attach, Rule, whatever, suits, Reader, child, kids, passed, couples, codeParts, rules, codePart, localsPart, kindsPart, linePart, lined, firstLine, partsFrom, faultOf, ended, body, enter, after, one, value}
+use Rattle.grammar.proofs.Following.{Need, raise, Follows, FollowsA, follows-bind, follows-cond, follows-reads}
+use Rattle.grammar.proofs.Standing.{Holds, Valued, Chained, since-refl, attached, Claimed, entered, started, closed}
+use Rattle.grammar.proofs.Fielding.{ofInput, Own, NotParts, Said, field-in, fields-in, codeFields-in, contained-in, Filled, closing-sound, said-ahead, said-within, ownClass, class-own}
 
 -- A node is known, or its letter, flag and fields are, and its node and slot are claimed.
 pub record Opens (s : List ℕ) (st : State) (t : Need) (l g : ℕ) (f : Fields) : Type 0 where

@@ -10,6 +10,7 @@ pub mod Fielding
 pub mod Keeping
 pub mod Bounded
 pub mod Contents
+pub mod ReadBack
 pub mod Root
 pub mod Sheets
 pub mod Substance

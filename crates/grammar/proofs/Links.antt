@@ -1,8 +1,7 @@
 -- Entries linked into chains, and what becomes of them while others are added: a finished chain stays as it is, and an open one gets an entry
 -- at its end. Each law is by induction on the children. Assumes nothing.
 use mathlib.Core.Path.{_≡_, refl, sym, ap, _∙_}
-use mathlib.Core.Logic.{_≢_}
-use Prim.Native.Nat.{ℕ, zero, suc, _+_, _≤_, _<_}
+use Prim.Native.Nat.{ℕ, _+_, _≤_, _<_}
 use native.Mathlib.Omega.{arith}
 use mathlib.Core.Bool.{Bool, true, false}
 use mathlib.Core.Option.{Option, none, some}
@@ -13,7 +12,7 @@ use lib.Dec.{eqb}
 use borrow.Author.Tests.{eqb-true, eqb-false}
 use Rattle.refusals.specs.Limits.{nothing}
 use Rattle.grammar.specs.State.{Entry, unlinked}
-use Rattle.grammar.specs.Steps.{firstOf, follow}
+use Rattle.grammar.specs.Steps.{firstOf}
 
 abbrev pub childOf : List Entry → ℕ → ℕ
 childOf es e = getD es e unlinked .child

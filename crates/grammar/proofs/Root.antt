@@ -1,6 +1,6 @@
 -- The whole value is never a reference, since no slot is reserved before it: it is node 0. Carried by `Ends P m`: P holds of what m gives,
 -- if it gives anything. Assumes nothing.
-use mathlib.Core.Path.{_≡_, refl, sym, ap}
+use mathlib.Core.Path.{_≡_, refl}
 use Prim.Native.Nat.{ℕ, zero, suc, _+_}
 use native.Mathlib.Omega.{arith}
 use mathlib.Core.Bool.{Bool, true, false, cond}
@@ -8,12 +8,12 @@ use mathlib.Core.List.{List, []}
 use lib.ListN.{length, getD}
 use lib.Dec.{leb, ltb}
 use Rattle.refusals.specs.Numbers.{eofObject, dataTooShort}
-use Rattle.grammar.specs.Reading.{Kind, Reading, done, refused, claim, bind, reads, Answer, gives, stops}
+use Rattle.grammar.specs.Reading.{Reading, done, refused, claim, bind, reads, Answer, gives, stops}
 use Rattle.grammar.specs.Room.{plainly}
 use Rattle.grammar.specs.Letters.{Class, refers, keeps, contains, codes, refuses, flagOf, letterOf, classOf}
 use Rattle.grammar.specs.Fields.{Fields, fields, contained, codeFields}
 use Rattle.grammar.specs.State.{State, start}
-use Rattle.grammar.specs.Steps.{Front, known, opens, stored, reference, reserving, opened, header, front, Chain, fresh, body, enter, close, after, one, value}
+use Rattle.grammar.specs.Steps.{Front, known, opens, stored, reference, reserving, opened, header, front, fresh, body, enter, close, after, one, value}
 use Rattle.grammar.specs.Answer.{plain}
 
 abbrev pub Ends : {A : Type 0} → (A → Type 0) → Reading A → Type 0

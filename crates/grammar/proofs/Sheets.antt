@@ -7,12 +7,12 @@ use mathlib.Core.List.{List, [], _∷_}
 use Rattle.refusals.specs.Numbers.{eofObject, nullObject, invalidRef, badSize, invalidBytecode, tooDeep}
 use Rattle.refusals.specs.Limits.{nothing}
 use Rattle.lent.specs.Lent.{zeros, padded}
-use Rattle.grammar.specs.Reading.{Answer, gives, stops, bind}
+use Rattle.grammar.specs.Reading.{gives, stops, bind}
 use Rattle.grammar.specs.Room.{run}
 use Rattle.grammar.specs.Letters.{letters, found, classOf}
 use Rattle.grammar.specs.Fields.{digits, pylong, numbers, fields, contained, codeFields}
 use Rattle.grammar.specs.Steps.{reference, header, front, attach, strings, suits, child, kids, couples, rules, firstLine, partsFrom, ended, body, enter, close, after, one, value}
-use Rattle.grammar.specs.Answer.{plain, reading, Counts, Outcome, readOf}
+use Rattle.grammar.specs.Answer.{plain, reading, Counts, readOf}
 use Rattle.grammar.specs.Record.{sound, soundAt}
 use Rattle.grammar.specs.Leaf.{Leaf, nothingness, truth, whole, magnitude, leafAs, leafOf}
 

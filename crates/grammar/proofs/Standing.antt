@@ -1,23 +1,23 @@
 -- What holds of a state while a value is read, and how each change of the state keeps it: the numbers are bounded by the bytes read, every
 -- entry names nodes and entries that there are, and every finished node passes the record test with its children linked. Assumes nothing.
 use mathlib.Core.Path.{_≡_, refl, sym, ap, ap₂, _∙_}
-use Prim.Native.Nat.{ℕ, zero, suc, _+_, _-_, _*_, _%_, _≤_, _<_, max}
+use Prim.Native.Nat.{ℕ, zero, suc, _+_, _≤_, _<_}
 use native.Mathlib.Omega.{arith}
 use mathlib.Core.Bool.{Bool, true, false}
 use mathlib.Core.Option.{Option, none, some}
 use mathlib.Core.List.{List, [], _∷_, _++_}
 use lib.ListN.{length, getD, set, length-append, length-set, List·getD-append}
-use lib.Seq.{getD-set-same, getD-set-other, getD-append-seam}
+use lib.Seq.{getD-set-same, getD-set-other}
 use lib.Dec.{ltb, eqb}
 use borrow.Author.Tests.{ltb-true, ltb-false, eqb-true, eqb-false}
 use Rattle.refusals.specs.Limits.{mostBytes, nothing}
-use Rattle.grammar.specs.Reading.{Kind, entry}
+use Rattle.grammar.specs.Reading.{entry}
 use Rattle.grammar.specs.Fields.{Fields}
 use Rattle.grammar.specs.State.{Node, Entry, State, blank, unlinked, movedTo}
-use Rattle.grammar.specs.Steps.{Chain, fresh, firstOf, follow, attach, reserve, fill, enter, sizeOf, close}
+use Rattle.grammar.specs.Steps.{Chain, fresh, follow, attach, reserve, fill, enter, sizeOf, close}
 use Rattle.grammar.specs.Record.{sound}
 use Rattle.grammar.proofs.Following.{Need, raise}
-use Rattle.grammar.proofs.Links.{childOf, nextOf, UsedOrNone, is-used, is-none, Linked, Grows, grows-linked, Kept, kept-grows, Built, no-child, children, built-linked, built-kept, Added, added-first, added-next, built-added, added-grows}
+use Rattle.grammar.proofs.Links.{nextOf, UsedOrNone, is-used, is-none, Linked, Grows, grows-linked, Kept, kept-grows, Built, no-child, children, built-linked, built-kept, Added, added-first, added-next, built-added, added-grows}
 
 -- an entry of so many, over so many nodes
 pub record EntryIn (nodes entries : ℕ) (e : Entry) : Type 0 where

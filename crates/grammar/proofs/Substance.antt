@@ -1,24 +1,24 @@
 -- 01, 'What a green run has to mean': the definitions shut out a reader that refuses everything, one with a constant answer, made-up counts,
 -- and one that touches no store. Consequences of Exactness, Bounded and the sheets. Assumes that the input is bytes where it says so.
 use mathlib.Core.Path.{_≡_, refl, sym, ap, _∙_}
-use Prim.Native.Nat.{ℕ, zero, suc, _+_, _*_, _/_, _≤_, _<_, min}
+use Prim.Native.Nat.{ℕ, zero, suc, _+_, _*_, _≤_, _<_}
 use native.Mathlib.Omega.{arith}
 use mathlib.Core.Bool.{Bool, true, false, _&&_}
-use mathlib.Core.List.{List, [], _∷_, _++_}
+use mathlib.Core.List.{List, [], _∷_}
 use lib.ListN.{length, getD}
 use lib.Dec.{leb}
-use Rattle.refusals.specs.Limits.{mostBytes, mostNesting}
+use Rattle.refusals.specs.Limits.{mostBytes}
 use Rattle.lent.specs.Lent.{zeros, padded}
 use Rattle.grammar.specs.Reading.{Kind, level, node, entry, slot, Answer, gives, stops}
 use Rattle.grammar.specs.Letters.{letters, found, classOf}
 use Rattle.grammar.specs.Room.{roomFor, plainly}
-use Rattle.grammar.specs.State.{Node, Entry, State, blank, nodeWidth, entryWidth, nodeCells, entryCells}
+use Rattle.grammar.specs.State.{Node, State, blank, nodeWidth, entryWidth, nodeCells}
 use Rattle.grammar.specs.Answer.{plain, roomsOf, reading, Counts, countsOf, answered, nodesHeld, readOf}
-use Rattle.grammar.specs.Record.{sound, ruled}
+use Rattle.grammar.specs.Record.{sound}
 use Rattle.grammar.proofs.Fitting.{exact-where-all-fit, most-fits, fits-unless-of-room, gives-not-of-room}
 use Rattle.grammar.proofs.Exactness.{needed, claimsOf, exact-where-it-fits}
 use Rattle.grammar.proofs.Bounded.{Bytes, Accepted}
-use Rattle.grammar.proofs.Contents.{gives-within, accepted-reading, records-fit}
+use Rattle.grammar.proofs.Contents.{gives-within, accepted-reading}
 use Rattle.grammar.proofs.Sheets.{p1, p4, sheets}
 
 -- What the plain reading accepts is accepted wherever it fits.

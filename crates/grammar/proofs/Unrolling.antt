@@ -1,5 +1,5 @@
 -- Fuel: with as much of it as there are bytes left, a value and a dict's pairs are what one turn of their definition says. Assumes nothing.
-use mathlib.Core.Path.{_≡_, refl, sym, ap}
+use mathlib.Core.Path.{_≡_, refl}
 use Prim.Native.Nat.{ℕ, zero, suc, _+_, _≤_}
 use native.Mathlib.Omega.{arith}
 use mathlib.Core.List.{List}
@@ -7,7 +7,7 @@ use lib.ListN.{length}
 use borrow.Author.Tests.{le-ltb}
 use Rattle.grammar.specs.Reading.{bind}
 use Rattle.grammar.specs.State.{State}
-use Rattle.grammar.specs.Steps.{Reader, Chain, whatever, child, keyOr, couples, front, after, one, value}
+use Rattle.grammar.specs.Steps.{Reader, Chain, whatever, child, keyOr, couples, front, one, value}
 
 -- one turn, and the fuel that is left for the next
 pub record Turn (s : List ℕ) (fuel depth : ℕ) (st : State) : Type 0 where

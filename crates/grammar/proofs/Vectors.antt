@@ -2,20 +2,20 @@
 -- They catch a misreading early; the demands rest on the theorems. Assumes nothing.
 use mathlib.Core.Path.{_≡_, refl}
 use Prim.Native.Nat.{ℕ}
-use mathlib.Core.Bool.{true, false}
+use mathlib.Core.Bool.{false}
 use mathlib.Core.List.{List, [], _∷_}
-use Rattle.refusals.specs.Numbers.{eofObject, dataTooShort, unknownType, nullObject, invalidRef, badSize, badType, invalidBytecode, invalidUtf8, tooDeep, noNode, noEntry, noSlot, notCarried, badTable, numberRange}
+use Rattle.refusals.specs.Numbers.{eofObject, dataTooShort, unknownType, nullObject, invalidRef, badSize, badType, invalidBytecode, invalidUtf8, tooDeep, noNode, noEntry, noSlot, notCarried, numberRange}
 use Rattle.refusals.specs.Limits.{nothing}
 use Rattle.lent.specs.Lent.{zeros, padded}
 use Rattle.wtf8.specs.Forms.{afterLead, after as afterByte, allows}
-use Rattle.grammar.specs.Reading.{Answer, gives, stops, bind}
+use Rattle.grammar.specs.Reading.{gives, stops, bind}
 use Rattle.grammar.specs.Room.{run}
 use Rattle.grammar.specs.Letters.{letters, found, classOf}
 use Rattle.grammar.specs.Fields.{digits, pylong, numbers, fields, contained, codeFields}
 use Rattle.grammar.specs.Steps.{reference, header, front, attach, strings, suits, child, kids, couples, rules, firstLine, partsFrom, ended, body, enter, close, after, one, value}
 use Rattle.grammar.specs.Answer.{plain, reading, Outcome, readOf}
 use Rattle.grammar.specs.Record.{sound, soundAt}
-use Rattle.grammar.specs.Leaf.{Leaf, nothingness, truth, ellipsis, stop, whole, float, complex, wide, notLeaf, magnitude, leafAs, leafOf}
+use Rattle.grammar.specs.Leaf.{nothingness, truth, ellipsis, stop, whole, float, complex, wide, notLeaf, magnitude, leafAs, leafOf}
 
 -- an accepted reading: consumed and the three counts, then the numbers at the front of the stores
 abbrev accepts : (nodes entries slots : ℕ) → (consumed n e k : ℕ) → List ℕ → List ℕ → List ℕ → Outcome
