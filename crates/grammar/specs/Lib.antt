@@ -1,0 +1,10 @@
+pub mod Reading
+pub mod Room
+pub mod Letters
+pub mod Arguments
+pub mod Fields
+pub mod State
+pub mod Steps
+pub mod Answer
+pub mod Record
+pub mod Leaf
