@@ -10,16 +10,16 @@ use Rattle.lent.proofs.clear_bytes.Statement.{statement}
 use Rattle.lent.proofs.clear_bytes.Tie as tie
 
 abbrev Inv-loop : tie.InvT-loop
-Inv-loop store₀ i₀ store i = Cleared store₀ i store
+Inv-loop bytes₀ i₀ bytes i = Cleared bytes₀ i bytes
 
 abbrev μ-loop : tie.MeasureT-loop
-μ-loop store₀ i₀ store i = length store₀ - i
+μ-loop bytes₀ i₀ bytes i = length bytes₀ - i
 
 loop-holds : tie.Need-loop-holds Inv-loop μ-loop
 loop-holds c = record { holds = refl; within = omega arith; same = refl }
 
-slice-write-store : tie.Need-slice-write-store Inv-loop μ-loop
-slice-write-store c = search needs
+slice-write-bytes : tie.Need-slice-write-bytes Inv-loop μ-loop
+slice-write-bytes c = search needs
 
 add-i : tie.Need-add-i Inv-loop μ-loop
 add-i c = search needs
@@ -39,4 +39,4 @@ returns c = cleared-all (c .before .loop .inv) (c .loop-test .left)
 pub clear-bytes-spec : {M : Type 1} → statement M
 clear-bytes-spec =
     tie.close
-    (tie.spec Inv-loop μ-loop loop-holds slice-write-store add-i loop-less loop-again same-length returns)
+    (tie.spec Inv-loop μ-loop loop-holds slice-write-bytes add-i loop-less loop-again same-length returns)

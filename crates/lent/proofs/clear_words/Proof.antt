@@ -10,19 +10,19 @@ use Rattle.lent.proofs.clear_words.Statement.{statement}
 use Rattle.lent.proofs.clear_words.Tie as tie
 
 abbrev Inv-loop : tie.InvT-loop
-Inv-loop store₀ i₀ store i = Cleared store₀ i store
+Inv-loop words₀ i₀ words i = Cleared words₀ i words
 
 abbrev μ-loop : tie.MeasureT-loop
-μ-loop store₀ i₀ store i = length store₀ - i
+μ-loop words₀ i₀ words i = length words₀ - i
 
 loop-holds : tie.Need-loop-holds Inv-loop μ-loop
 loop-holds c = record { holds = refl; within = omega arith; same = refl }
 
-mul-store : tie.Need-mul-store Inv-loop μ-loop
-mul-store c = search needs
+mul-words : tie.Need-mul-words Inv-loop μ-loop
+mul-words c = search needs
 
-slice-write-store : tie.Need-slice-write-store Inv-loop μ-loop
-slice-write-store c = search needs
+slice-write-words : tie.Need-slice-write-words Inv-loop μ-loop
+slice-write-words c = search needs
 
 add-i : tie.Need-add-i Inv-loop μ-loop
 add-i c = search needs
@@ -42,4 +42,4 @@ returns c = cleared-all (c .before .loop .inv) (c .loop-test .left)
 pub clear-words-spec : {M : Type 1} → statement M
 clear-words-spec =
     tie.close
-    (tie.spec Inv-loop μ-loop loop-holds mul-store slice-write-store add-i loop-less loop-again same-length returns)
+    (tie.spec Inv-loop μ-loop loop-holds mul-words slice-write-words add-i loop-less loop-again same-length returns)
