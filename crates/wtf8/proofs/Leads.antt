@@ -18,19 +18,19 @@ pub leads-two : {b : ℕ} → 0xC2 ≤ b → b < 0xE0 → afterLead b ≡ trail 
 unfolding afterLead
 leads-two {b} g l = rw (le-ltb b 0x80 (omega arith), le-ltb b 0xC2, lt-ltb b 0xE0)
 
-pub leads-three : {b : ℕ} → 0xE0 ≤ b → b < 0xF0 → afterLead b ≡ trail (lowAfter b) 0xBF 1
+pub leads-three : {b low : ℕ} → 0xE0 ≤ b → b < 0xF0 → low ≡ lowAfter b → afterLead b ≡ trail low 0xBF 1
 unfolding afterLead
-leads-three {b} g l =
-    rw (le-ltb b 0x80 (omega arith), le-ltb b 0xC2 (omega arith), le-ltb b 0xE0, lt-ltb b 0xF0, ne-eqb b 0xF0 (λ e. omega (arith, e))) (go (eqb b 0xE0))
+leads-three {b} g l e =
+    rw (e, le-ltb b 0x80 (omega arith), le-ltb b 0xC2 (omega arith), le-ltb b 0xE0, lt-ltb b 0xF0, ne-eqb b 0xF0 (λ e. omega (arith, e))) (go (eqb b 0xE0))
   where
     go : (t : Bool) → cond t (trail 0xA0 0xBF 1) (trail 0x80 0xBF 1) ≡ trail (cond t 0xA0 0x80) 0xBF 1
     go true = refl
     go false = refl
 
-pub leads-four : {b : ℕ} → 0xF0 ≤ b → b < 0xF5 → afterLead b ≡ trail (lowAfter b) (highAfter b) 2
+pub leads-four : {b low high : ℕ} → 0xF0 ≤ b → b < 0xF5 → low ≡ lowAfter b → high ≡ highAfter b → afterLead b ≡ trail low high 2
 unfolding afterLead
-leads-four {b} g l =
-    rw (le-ltb b 0x80 (omega arith), le-ltb b 0xC2 (omega arith), le-ltb b 0xE0 (omega arith), ne-eqb b 0xE0 (λ e. omega (arith, e)), le-ltb b 0xF0)
+leads-four {b} g l e f =
+    rw (e, f, le-ltb b 0x80 (omega arith), le-ltb b 0xC2 (omega arith), le-ltb b 0xE0 (omega arith), ne-eqb b 0xE0 (λ e. omega (arith, e)), le-ltb b 0xF0)
     (go (eqb b 0xF0) refl (eqb b 0xF4) refl)
   where
     go : (t : Bool) → eqb b 0xF0 ≡ t → (u : Bool) → eqb b 0xF4 ≡ u → cond t (trail 0x90 0xBF 2) (cond (ltb b 0xF4) (trail 0x80 0xBF 2) (cond u (trail 0x80 0x8F 2) wrong)) ≡ trail (cond t 0x90 0x80) (cond u 0x8F 0xBF) 2

@@ -95,7 +95,10 @@ fn most_of_four(bytes: &[u8], at: usize) -> u8
     requires { ⌜ at + 4 ≤ length (now bytes) ⌝ }
     ensures { λ r. ⌜ MostOfFour (now (bytes .entry)) at r ⌝ }
 {
-    greater(greater(bytes[at], bytes[at + 1]), greater(bytes[at + 2], bytes[at + 3]))
+    greater(
+        greater(bytes[at], bytes[at + 1]),
+        greater(bytes[at + 2], bytes[at + 3]),
+    )
 }
 
 // A sequence of two bytes.
