@@ -2,7 +2,7 @@
 -- Assumes nothing.
 use mathlib.Core.Path.{_≡_, refl, sym, ap, _∙_}
 use mathlib.Core.Bool.{Bool, true, false, cond}
-use Prim.Native.Nat.{ℕ, _+_, _≤_, _<_}
+use Prim.Native.Nat.{ℕ, _+_, _*_, _≤_, _<_}
 use native.Mathlib.Omega.{arith}
 use lib.Dec.{ltb, eqb}
 use borrow.Author.Tests.{lt-ltb, le-ltb, ne-eqb, eqb-true, eqb-false}
@@ -45,3 +45,42 @@ unfolding afterLead
 beyond {b} g =
     rw
     (le-ltb b 0x80 (omega arith), le-ltb b 0xC2 (omega arith), le-ltb b 0xE0 (omega arith), ne-eqb b 0xE0 (λ e. omega (arith, e)), le-ltb b 0xF0 (omega arith), ne-eqb b 0xF0 (λ e. omega (arith, e)), le-ltb b 0xF4 (omega arith), ne-eqb b 0xF4 (λ e. omega (arith, e)))
+
+-- The bounds of a second byte, from both sides.
+pub low-holds : {b n : ℕ} → 0x80 ≤ n → (b ≡ 0xE0 → 0xA0 ≤ n) → (b ≡ 0xF0 → 0x90 ≤ n) → lowAfter b ≤ n
+low-holds {b} {n} g e f = go (eqb b 0xE0) refl (eqb b 0xF0) refl
+  where
+    go : (t : Bool) → eqb b 0xE0 ≡ t → (u : Bool) → eqb b 0xF0 ≡ u → cond t 0xA0 (cond u 0x90 0x80) ≤ n
+    go true t u u′ = e (eqb-true b 0xE0 t)
+    go false t true u = f (eqb-true b 0xF0 u)
+    go false t false u = g
+
+pub high-holds : {b n : ℕ} → n ≤ 0xBF → (b ≡ 0xF4 → n ≤ 0x8F) → n ≤ highAfter b
+high-holds {b} {n} l f = go (eqb b 0xF4) refl
+  where
+    go : (t : Bool) → eqb b 0xF4 ≡ t → n ≤ cond t 0x8F 0xBF
+    go true t = f (eqb-true b 0xF4 t)
+    go false t = l
+
+pub low-three : {b n : ℕ} → 0xE0 ≤ b → b < 0xF0 → lowAfter b ≤ n → (0x80 ≤ n) × (0xE0 * 64 + 0xA0 ≤ b * 64 + n)
+low-three {b} {n} g l = go (eqb b 0xE0) refl (eqb b 0xF0) refl
+  where
+    go : (t : Bool) → eqb b 0xE0 ≡ t → (u : Bool) → eqb b 0xF0 ≡ u → cond t 0xA0 (cond u 0x90 0x80) ≤ n → (0x80 ≤ n) × (0xE0 * 64 + 0xA0 ≤ b * 64 + n)
+    go true t u u′ h = (omega arith, omega arith)
+    go false t true u h = absurd (omega (arith, eqb-true b 0xF0 u))
+    go false t false u h = let other : b ≡ 0xE0 → ⊥ = eqb-false b 0xE0 t in (omega arith, omega arith)
+
+pub low-four : {b n : ℕ} → 0xF0 ≤ b → lowAfter b ≤ n → (0x80 ≤ n) × (0xF0 * 64 + 0x90 ≤ b * 64 + n)
+low-four {b} {n} g = go (eqb b 0xE0) refl (eqb b 0xF0) refl
+  where
+    go : (t : Bool) → eqb b 0xE0 ≡ t → (u : Bool) → eqb b 0xF0 ≡ u → cond t 0xA0 (cond u 0x90 0x80) ≤ n → (0x80 ≤ n) × (0xF0 * 64 + 0x90 ≤ b * 64 + n)
+    go true t u u′ h = absurd (omega (arith, eqb-true b 0xE0 t))
+    go false t true u h = (omega arith, omega arith)
+    go false t false u h = let other : b ≡ 0xF0 → ⊥ = eqb-false b 0xF0 u in (omega arith, omega arith)
+
+pub high-four : {b n : ℕ} → b < 0xF5 → n ≤ highAfter b → (n ≤ 0xBF) × (b * 64 + n ≤ 0xF4 * 64 + 0x8F)
+high-four {b} {n} l = go (eqb b 0xF4) refl
+  where
+    go : (t : Bool) → eqb b 0xF4 ≡ t → n ≤ cond t 0x8F 0xBF → (n ≤ 0xBF) × (b * 64 + n ≤ 0xF4 * 64 + 0x8F)
+    go true t h = (omega arith, omega arith)
+    go false t h = let other : b ≡ 0xF4 → ⊥ = eqb-false b 0xF4 t in (omega arith, omega arith)

@@ -1,90 +1,24 @@
--- The test of Forms and the code points of Encoding are one: bytes pass the test exactly where they are the encodings of a list of code points,
--- and the list is then the only one. One lemma for each length of a sequence carries each direction. Assumes nothing.
+-- Bytes are well-formed by Forms exactly where they are the encodings of a list of code points by Encoding, so that the latter alone is to be believed.
+-- One lemma for each length of a sequence carries each direction. Assumes nothing.
 use mathlib.Core.Path.{_≡_, refl, sym, ap, _∙_}
 use mathlib.Core.Bool.{Bool, true, false, cond}
 use mathlib.Core.List.{List, [], _∷_, _++_}
 use Prim.Native.Nat.{ℕ, zero, suc, _+_, _-_, _*_, _/_, _%_, _≤_, _<_}
 use native.Mathlib.Omega.{arith}
-use lib.Dec.{ltb, leb, eqb}
-use lib.ListN.{length, getD, drop, length-append}
-use borrow.Author.Tests.{lt-ltb, le-ltb, le-leb, ltb-true, ltb-false, leb-true, leb-false, eqb-true, eqb-false}
+use lib.Dec.{ltb, leb}
+use lib.ListN.{length, length-append}
+use borrow.Author.Tests.{le-leb, ltb-true, ltb-false, leb-true}
 use Rattle.wtf8.specs.Encoding.{lastPoint, encoding, encodings, Points, Encoded}
 use Rattle.wtf8.specs.Forms.{Expected, point, trail, wrong, afterLead, afterTrail, after, allows, wellFormed}
-use Rattle.wtf8.specs.Sequence.{lowAfter, highAfter, within}
-use Rattle.wtf8.proofs.Reached.{spoilt, ascii, after-trail}
-use Rattle.wtf8.proofs.Leads.{stray, leads-two, leads-three, leads-four, beyond}
-
--- Encodings by their length.
-one : {c : ℕ} → c < 0x80 → encoding c ≡ c ∷ []
-unfolding encoding
-one {c} l = rw (lt-ltb c 0x80)
-
-two : {c : ℕ} → 0x80 ≤ c → c < 0x800 → encoding c ≡ (0xC0 + c / 64) ∷ (0x80 + c % 64) ∷ []
-unfolding encoding
-two {c} g l = rw (le-ltb c 0x80, lt-ltb c 0x800)
-
-three : {c : ℕ} → 0x800 ≤ c → c < 0x10000 → encoding c ≡ (0xE0 + c / 64 / 64) ∷ (0x80 + c / 64 % 64) ∷ (0x80 + c % 64) ∷ []
-unfolding encoding
-three {c} g l = rw (le-ltb c 0x80 (omega arith), le-ltb c 0x800, lt-ltb c 0x10000)
-
-four : {c : ℕ} → 0x10000 ≤ c → encoding c ≡ (0xF0 + c / 64 / 64 / 64) ∷ (0x80 + c / 64 / 64 % 64) ∷ (0x80 + c / 64 % 64) ∷ (0x80 + c % 64) ∷ []
-unfolding encoding
-four {c} g = rw (le-ltb c 0x80 (omega arith), le-ltb c 0x800 (omega arith), le-ltb c 0x10000)
-
--- Any code point is of one length.
-by-length : (P : ℕ → Type 0) → ((c : ℕ) → c < 0x80 → P c) → ((c : ℕ) → 0x80 ≤ c → c < 0x800 → P c) → ((c : ℕ) → 0x800 ≤ c → c < 0x10000 → P c)
-    → ((c : ℕ) → 0x10000 ≤ c → P c) → (c : ℕ) → P c
-by-length P p₁ p₂ p₃ p₄ c = go (ltb c 0x80) refl (ltb c 0x800) refl (ltb c 0x10000) refl
-  where
-    go : (t : Bool) → ltb c 0x80 ≡ t → (u : Bool) → ltb c 0x800 ≡ u → (v : Bool) → ltb c 0x10000 ≡ v → P c
-    go true t u u′ v v′ = p₁ c (ltb-true c 0x80 t)
-    go false t true u v v′ = p₂ c (ltb-false c 0x80 t) (ltb-true c 0x800 u)
-    go false t false u true v = p₃ c (ltb-false c 0x800 u) (ltb-true c 0x10000 v)
-    go false t false u false v = p₄ c (ltb-false c 0x10000 v)
+use Rattle.wtf8.specs.Sequence.{lowAfter, highAfter}
+use Rattle.wtf8.proofs.Reached.{spoilt, ascii}
+use Rattle.wtf8.proofs.Leads.{stray, leads-two, leads-three, leads-four, beyond, low-holds, high-holds, low-three, low-four, high-four}
+use Rattle.wtf8.proofs.Lengths.{one, two, three, four, by-length, some}
 
 -- a byte 80..BF where one is expected
 trails : (b : ℕ) (bs : List ℕ) (low high more : ℕ) → low ≤ b → b ≤ high → allows (b ∷ bs) (trail low high more) ≡ allows bs (afterTrail more)
 unfolding allows after
 trails b bs low high more g l = rw (le-leb low b, le-leb b high)
-
--- The bounds of a second byte, from both sides.
-low-holds : {b n : ℕ} → 0x80 ≤ n → (b ≡ 0xE0 → 0xA0 ≤ n) → (b ≡ 0xF0 → 0x90 ≤ n) → lowAfter b ≤ n
-low-holds {b} {n} g e f = go (eqb b 0xE0) refl (eqb b 0xF0) refl
-  where
-    go : (t : Bool) → eqb b 0xE0 ≡ t → (u : Bool) → eqb b 0xF0 ≡ u → cond t 0xA0 (cond u 0x90 0x80) ≤ n
-    go true t u u′ = e (eqb-true b 0xE0 t)
-    go false t true u = f (eqb-true b 0xF0 u)
-    go false t false u = g
-
-high-holds : {b n : ℕ} → n ≤ 0xBF → (b ≡ 0xF4 → n ≤ 0x8F) → n ≤ highAfter b
-high-holds {b} {n} l f = go (eqb b 0xF4) refl
-  where
-    go : (t : Bool) → eqb b 0xF4 ≡ t → n ≤ cond t 0x8F 0xBF
-    go true t = f (eqb-true b 0xF4 t)
-    go false t = l
-
-low-three : {b n : ℕ} → 0xE0 ≤ b → b < 0xF0 → lowAfter b ≤ n → (0x80 ≤ n) × (0xE0 * 64 + 0xA0 ≤ b * 64 + n)
-low-three {b} {n} g l = go (eqb b 0xE0) refl (eqb b 0xF0) refl
-  where
-    go : (t : Bool) → eqb b 0xE0 ≡ t → (u : Bool) → eqb b 0xF0 ≡ u → cond t 0xA0 (cond u 0x90 0x80) ≤ n → (0x80 ≤ n) × (0xE0 * 64 + 0xA0 ≤ b * 64 + n)
-    go true t u u′ h = (omega arith, omega arith)
-    go false t true u h = absurd (omega (arith, eqb-true b 0xF0 u))
-    go false t false u h = let other : b ≡ 0xE0 → ⊥ = eqb-false b 0xE0 t in (omega arith, omega arith)
-
-low-four : {b n : ℕ} → 0xF0 ≤ b → lowAfter b ≤ n → (0x80 ≤ n) × (0xF0 * 64 + 0x90 ≤ b * 64 + n)
-low-four {b} {n} g = go (eqb b 0xE0) refl (eqb b 0xF0) refl
-  where
-    go : (t : Bool) → eqb b 0xE0 ≡ t → (u : Bool) → eqb b 0xF0 ≡ u → cond t 0xA0 (cond u 0x90 0x80) ≤ n → (0x80 ≤ n) × (0xF0 * 64 + 0x90 ≤ b * 64 + n)
-    go true t u u′ h = absurd (omega (arith, eqb-true b 0xE0 t))
-    go false t true u h = (omega arith, omega arith)
-    go false t false u h = let other : b ≡ 0xF0 → ⊥ = eqb-false b 0xF0 u in (omega arith, omega arith)
-
-high-four : {b n : ℕ} → b < 0xF5 → n ≤ highAfter b → (n ≤ 0xBF) × (b * 64 + n ≤ 0xF4 * 64 + 0x8F)
-high-four {b} {n} l = go (eqb b 0xF4) refl
-  where
-    go : (t : Bool) → eqb b 0xF4 ≡ t → n ≤ cond t 0x8F 0xBF → (n ≤ 0xBF) × (b * 64 + n ≤ 0xF4 * 64 + 0x8F)
-    go true t h = (omega arith, omega arith)
-    go false t h = let other : b ≡ 0xF4 → ⊥ = eqb-false b 0xF4 t in (omega arith, omega arith)
 
 -- An encoding passes the test, and what follows it is tested anew.
 module _ (r : List ℕ) where
@@ -256,12 +190,6 @@ module _ (b : ℕ) (bs : List ℕ) where
           front-four g l (turned (leads-four g l refl refl))
       go false p false q false r false s false t = ill (beyond (ltb-false b 0xF5 t))
 
--- an encoding has a byte at least
-some : (c : ℕ) → 1 ≤ length (encoding c)
-some =
-    by-length (λ c. 1 ≤ length (encoding c)) (λ c l. rw (one l) (omega arith)) (λ c g l. rw (two g l) (omega arith)) (λ c g l. rw (three g l) (omega arith))
-    (λ c g. rw (four g) (omega arith))
-
 nothing : Encoded []
 unfolding encodings Points
 nothing = record { points = []; proper = tt; spelt = refl }
@@ -295,54 +223,3 @@ pass-points (suc n) bs k h = go bs k h (pass-points n)
 pub exactly : (bytes : List ℕ) → (wellFormed bytes ≡ true → Encoded bytes) × (Encoded bytes → wellFormed bytes ≡ true)
 exactly bytes =
     (pass-points (length bytes) bytes (omega arith), λ e. ap (λ l. allows l point) (e .spelt) ∙ points-pass (e .points) (e .proper))
-
--- The first code point and what is left, read back from the bytes.
-back : List ℕ → ℕ × List ℕ
-back s =
-    cond (ltb (getD s 0 0) 0x80) (getD s 0 0, drop 1 s)
-    (cond (ltb (getD s 0 0) 0xE0) ((getD s 0 0 - 0xC0) * 64 + (getD s 1 0 - 0x80), drop 2 s)
-    (cond (ltb (getD s 0 0) 0xF0) (((getD s 0 0 - 0xE0) * 64 + (getD s 1 0 - 0x80)) * 64 + (getD s 2 0 - 0x80), drop 3 s)
-    ((((getD s 0 0 - 0xF0) * 64 + (getD s 1 0 - 0x80)) * 64 + (getD s 2 0 - 0x80)) * 64 + (getD s 3 0 - 0x80), drop 4 s)))
-
-back-encoding : (r : List ℕ) (c : ℕ) → back (encoding c ++ r) ≡ (c, r)
-unfolding back
-back-encoding r = by-length (λ c. back (encoding c ++ r) ≡ (c, r)) back-one back-two back-three back-four
-  where
-    opened : (c : ℕ) {bs : List ℕ} → encoding c ≡ bs → back (encoding c ++ r) ≡ back (bs ++ r)
-    opened c e = ap (λ l. back (l ++ r)) e
-
-    back-one : (c : ℕ) → c < 0x80 → back (encoding c ++ r) ≡ (c, r)
-    back-one c l = opened c (one l) ∙ rw (lt-ltb c 0x80)
-
-    back-two : (c : ℕ) → 0x80 ≤ c → c < 0x800 → back (encoding c ++ r) ≡ (c, r)
-    back-two c g l =
-        let b : ℕ = 0xC0 + c / 64 in
-        let same : (b - 0xC0) * 64 + (0x80 + c % 64 - 0x80) ≡ c = omega arith in
-        opened c (two g l) ∙ rw (le-ltb b 0x80 (omega arith), lt-ltb b 0xE0 (omega arith), same)
-
-    back-three : (c : ℕ) → 0x800 ≤ c → c < 0x10000 → back (encoding c ++ r) ≡ (c, r)
-    back-three c g l =
-        let b : ℕ = 0xE0 + c / 64 / 64 in
-        let same : ((b - 0xE0) * 64 + (0x80 + c / 64 % 64 - 0x80)) * 64 + (0x80 + c % 64 - 0x80) ≡ c = omega arith in
-        opened c (three g l) ∙ rw (le-ltb b 0x80 (omega arith), le-ltb b 0xE0 (omega arith), lt-ltb b 0xF0 (omega arith), same)
-
-    back-four : (c : ℕ) → 0x10000 ≤ c → back (encoding c ++ r) ≡ (c, r)
-    back-four c g =
-        let b : ℕ = 0xF0 + c / 64 / 64 / 64 in
-        let same : (((b - 0xF0) * 64 + (0x80 + c / 64 / 64 % 64 - 0x80)) * 64 + (0x80 + c / 64 % 64 - 0x80)) * 64 + (0x80 + c % 64 - 0x80) ≡ c = omega arith in
-        opened c (four g) ∙ rw (le-ltb b 0x80 (omega arith), le-ltb b 0xE0 (omega arith), le-ltb b 0xF0 (omega arith), same)
-
-not-none : (c : ℕ) (r : List ℕ) → [] ≡ encoding c ++ r → ⊥
-not-none c r e = omega (arith, some c, ap length e, length-append (encoding c) r)
-
--- The bytes determine the code points.
-pub determined : (cs ds : List ℕ) → encodings cs ≡ encodings ds → cs ≡ ds
-unfolding encodings
-determined [] [] e = refl
-determined [] (d ∷ ds) e = absurd (not-none d (encodings ds) e)
-determined (c ∷ cs) [] e = absurd (not-none c (encodings cs) (sym e))
-determined (c ∷ cs) (d ∷ ds) e =
-    let both = sym (back-encoding (encodings cs) c) ∙ ap back e ∙ back-encoding (encodings ds) d in
-    let first : c ≡ d = ap (λ p. p .0) both in
-    let others : cs ≡ ds = determined cs ds (ap (λ p. p .1) both) in
-    rw (first, others)
