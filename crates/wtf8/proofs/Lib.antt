@@ -1,1 +1,6 @@
-pub mod Agreement
+pub mod Reached
+pub mod Leads
+pub mod Going
+pub mod Lengths
+pub mod Exactly
+pub mod Determined
