@@ -31,7 +31,7 @@ lists = (refl, refl, refl, refl, refl)
 
 -- one argument fewer: b is no argument cell, and the list is absent; with flag 0x08 the sum is 2 again
 pub absent : (cellToArgument 1 kinds ≡ []) × (argumentSum 1 0 0 ≡ 1) × (argumentSum 1 0 8 ≡ 2) × (argumentSum 0 1 12 ≡ 3)
-unfolding kinds argumentSum argumentCell argumentOf cellArgsFrom allNothing has
+unfolding kinds argumentCell argumentOf cellArgsFrom allNothing has
 absent = (refl, refl, refl, refl)
 
 -- the answer, and each refusal before those that follow it: 8, then 18, then 17 at the first short output's length
@@ -42,5 +42,5 @@ pub answers :
     × (splitOf kinds 6 4294967295 1 0 (rooms 0 0) ≡ Refused numberRange 0)
     × (splitOf kinds 6 4294967295 0 0 (rooms 6 4) ≡ Refused noRoom 4)
     × (splitOf kinds 6 0 0 0 (rooms 5 4) ≡ Refused noRoom 5)
-unfolding kinds rooms splitOf answered checks roomFor argumentSum positionsFrom argumentCell argumentOf cellArgsFrom allNothing has
+unfolding kinds rooms splitOf answered checks roomFor positionsFrom argumentCell argumentOf cellArgsFrom allNothing has
 answers = (refl, refl, refl, refl, refl, refl)

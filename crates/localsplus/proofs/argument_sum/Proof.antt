@@ -21,7 +21,6 @@ add-result-3 : tie.Need-add-result-3
 add-result-3 c = search needs
 
 returns : tie.Need-returns
-unfolding argumentSum
 returns c = search needs
 
 pub argument-sum-spec : {M : Type 1} → statement M
