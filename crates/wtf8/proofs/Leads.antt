@@ -1,12 +1,12 @@
 -- Table 3-7 by ranges of the first byte, and by the bounds of the second that the code computes from it.
 -- Assumes nothing.
-use mathlib.Core.Path.{_≡_, refl, sym, ap, _∙_}
+use mathlib.Core.Path.{_≡_, refl}
 use mathlib.Core.Bool.{Bool, true, false, cond}
 use Prim.Native.Nat.{ℕ, _+_, _*_, _≤_, _<_}
 use native.Mathlib.Omega.{arith}
 use lib.Dec.{ltb, eqb}
 use borrow.Author.Tests.{lt-ltb, le-ltb, ne-eqb, eqb-true, eqb-false}
-use Rattle.wtf8.specs.Forms.{point, trail, wrong, afterLead}
+use Rattle.wtf8.specs.Forms.{trail, wrong, afterLead}
 use Rattle.wtf8.specs.Sequence.{lowAfter, highAfter}
 
 -- a byte 80..BF leads nothing, nor do C0 and C1
