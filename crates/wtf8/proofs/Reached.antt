@@ -1,17 +1,17 @@
 -- Going through a sequence byte by byte: what is expected after its first k bytes, and how that comes to a size or to none.
 -- Every answer on one sequence is a chain of these steps. Assumes nothing.
-use mathlib.Core.Path.{_≡_, refl, sym, ap, _∙_}
+use mathlib.Core.Path.{_≡_, refl, _∙_}
 use mathlib.Core.Bool.{Bool, true, false, not, cond}
 use mathlib.Core.List.{List, [], _∷_}
 use Prim.Native.Nat.{ℕ, zero, suc, _+_, _-_, _≤_, _<_}
 use native.Mathlib.Omega.{arith}
 use native.Mathlib.Numerals.{add-one}
 use native.Mathlib.Nat.{add-zero}
-use lib.Dec.{ltb, leb, eqb}
+use lib.Dec.{leb}
 use lib.ListN.{length, getD, drop, length-drop}
 use lib.Seq.{drop-cons}
 use borrow.Author.Tests.{lt-ltb, ne-eqb, not-true, not-false}
-use Rattle.wtf8.specs.Forms.{Expected, point, trail, wrong, afterLead, afterTrail, after, allows, wellFormed}
+use Rattle.wtf8.specs.Forms.{Expected, point, trail, wrong, afterLead, afterTrail, after, allows}
 use Rattle.wtf8.specs.Sequence.{Taken, Reached, within}
 
 -- one byte more

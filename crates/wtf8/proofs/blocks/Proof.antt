@@ -1,6 +1,5 @@
 -- `wtf8::blocks` meets its contract: the laws on a stretch of ASCII.
 -- Assumes nothing.
-use native.Mathlib.Omega.{arith}
 use borrow.Author.Needs.{needs}
 use Prim.Native.Nat.{_-_}
 use lib.ListN.{length}
