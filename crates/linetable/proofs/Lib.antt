@@ -6,4 +6,5 @@ pub mod Readback
 pub mod Placed
 pub mod Whole
 pub mod Layer
+pub mod Relent
 pub mod Sheet

@@ -39,7 +39,7 @@ over-zeros xs c zs h e =
     let l = length-replicate {A = ℕ} (length xs - c) 0 in
     let t : length (take c xs) ≡ c = length-take-le c xs h in
     let clean : sets xs c (zeros (length xs - c)) ≡ take c xs ++ zeros (length xs - c) =
-        sets-eq (zeros (length xs - c)) xs c (omega (arith, l)) ∙ ap (λ r. (take c xs ++ zeros (length xs - c)) ++ r) (drop-of-length-le xs {i = c + length (zeros (length xs - c))} (omega (arith, l))) ∙ append-nil (take c xs ++ zeros (length xs - c)) in
+    sets-eq (zeros (length xs - c)) xs c (omega (arith, l)) ∙ ap (λ r. (take c xs ++ zeros (length xs - c)) ++ r) (drop-of-length-le xs {i = c + length (zeros (length xs - c))} (omega (arith, l))) ∙ append-nil (take c xs ++ zeros (length xs - c)) in
     let fits : 0 + length zs ≤ length (take c xs ++ zeros (length xs - c)) = simp length-append (omega (arith, l, t)) in
     let z : 0 + length zs ≡ c = omega arith in
     rw clean (sets-eq zs (take c xs ++ zeros (length xs - c)) 0 fits ∙ rw (z, drop-at (take c xs) (zeros (length xs - c)) c t, e))

@@ -64,7 +64,7 @@ loop-less : tie.Need-loop-less Inv-loop μ-loop
 loop-less c = search needs
 
 loop-again : tie.Need-loop-again Inv-loop μ-loop
-loop-again c = 
+loop-again c =
     let l = c .before .loop in
     (simp length-set (l .inv .0), omega arith, l .inv .2 ∙ fill-turn _ _ _ _ (c .loop-test .taken))
 
@@ -72,7 +72,7 @@ same-length : tie.Need-same-length Inv-loop μ-loop
 same-length c = search needs
 
 returns : tie.Need-returns Inv-loop μ-loop
-returns c = 
+returns c =
     let l = c .before .loop in
     sym (l .inv .2 ∙ fill-done (l .records) (l .j) (l .left) _ (omega arith))
 

@@ -47,14 +47,14 @@ shared-slice-read-t22 c = search needs
 
 returns : tie.Need-returns
 unfolding locationAt
-returns c = 
+returns c =
     let a = c .before .before .before .before .before .args in
     let inside : 4 * a .i + 3 < length (a .flat .now) = omega arith in
     rw (lt-ltb _ _ inside)
 
 returns-2 : tie.Need-returns-2
 unfolding locationAt
-returns-2 c = 
+returns-2 c =
     let a = c .before .args in
     let past : length (a .flat .now) ≤ 4 * a .i + 3 = omega arith in
     rw (le-ltb _ _ past)

@@ -30,7 +30,7 @@ at-line-requires : tie.Need-at-line-requires Inv-loop μ-loop
 at-line-requires c κs = search needs
 
 loop-holds : tie.Need-loop-holds Inv-loop μ-loop
-loop-holds c = 
+loop-holds c =
     let a = c .before .before .before .before .before .before .before .args in
     going-start (a .table .now) (a .count) (a .first) (a .records .now) _ _ (c .before .before .before .before .before .before .before .pre .1) (c .before .before .before .clear-from .kept .0) (c .before .before .before .clear-from .ensures) (c .at-line .ensures)
 
@@ -107,7 +107,7 @@ either-requires : tie.Need-either-requires Inv-loop μ-loop
 either-requires c κs = search needs
 
 loop-less : tie.Need-loop-less Inv-loop μ-loop
-loop-less c = 
+loop-less c =
     let z = entry-places _ _ _ _ (sym (c .before .before .before .before .before .before .before .before .before .before .read-entry .ensures) ∙ c .before .before .before .before .before .before .before .before .span .given .1) in
     omega (arith, z)
 
