@@ -3,3 +3,8 @@ pub mod Stores
 pub mod Walking
 pub mod Outcomes
 pub mod Readback
+pub mod Placed
+pub mod Whole
+pub mod Layer
+pub mod Relent
+pub mod Sheet

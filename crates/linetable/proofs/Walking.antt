@@ -41,7 +41,7 @@ and-assoc : (a b c : Bool) → (not a && (not b && c)) ≡ (not (a || b) && c)
 and-assoc true b c = refl
 and-assoc false b c = refl
 
-and-false : (a : Bool) → (a && false) ≡ false
+pub and-false : (a : Bool) → (a && false) ≡ false
 and-false true = refl
 and-false false = refl
 

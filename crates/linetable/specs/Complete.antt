@@ -12,6 +12,6 @@ use Rattle.lineentry.specs.Entry.{entryAt}
 -- The table s from the place p on, where the line so far is `line`, is a row of complete entries of n instructions in all:
 -- every byte to the table's end belongs to an entry, none of an entry's bytes is missing, and no entry is a stop.
 pub data Complete (s : List ℕ) : ℕ → ℕ → ℕ → Type 0 where
-  here : {line : ℕ} → Complete s line (length s) 0
+  here : {line p : ℕ} → p ≡ length s → Complete s line p 0
   entry : {line p n : ℕ} (e : Span) → entryAt s line p ≡ Covers e → e .missing ≡ false
       → Complete s (e .line) (e .next) n → Complete s line p (e .instructions + n)

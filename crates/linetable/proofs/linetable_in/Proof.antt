@@ -50,7 +50,7 @@ same-length-3 : tie.Need-same-length-3
 same-length-3 c = search needs
 
 returns-3 : tie.Need-returns-3
-returns-3 c = 
+returns-3 c =
     let a = c .before .before .before .before .before .before .before .before .before .args in
     ends-part (a .input .now) (a .place) (a .size) _ (a .count) _ _ _ (a .place + a .size - a .place) (c .before .before .before .before .before .before .if1 .left) (c .before .before .before .before .before .if2 .left) (omega arith) (ap firstLine (toZ-ofZ (c .before .before .before .before .before .before .before .before .before .fits .first-line))) (c .before .before .linetable-to-records .ensures)
 

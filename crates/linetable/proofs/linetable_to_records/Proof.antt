@@ -18,7 +18,7 @@ same-length : tie.Need-same-length
 same-length c = search needs
 
 returns : tie.Need-returns
-returns c = 
+returns c =
     let a = c .before .before .before .before .before .before .args in
     let n = length (a .records .now) in
     let own : min (n / 4) (n / 4) ≡ n / 4 = omega arith in

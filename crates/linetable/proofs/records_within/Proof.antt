@@ -53,7 +53,7 @@ same-length-3 : tie.Need-same-length-3
 same-length-3 c = search needs
 
 returns-3 : tie.Need-returns-3
-returns-3 c = 
+returns-3 c =
     let a = c .before .before .before .before .before .before .before .before .before .before .before .args in
     let first : c .before .before .before .before .as-signed .result ≡ firstLine (a .first-line) = c .before .before .before .before .as-signed .ensures ∙ ap asSigned (c .before .before .before .before .before .bits32 .ensures ∙ ap (ofZ w32) (toZ-ofZ (c .before .before .before .before .before .before .before .before .before .before .before .fits .first-line))) in
     ends-walk _ _ _ _ _ _ (c .before .before .before .before .before .before .before .before .if1 .left) (omega (arith, c .before .before .before .before .before .before .before .smaller .ensures)) first (c .before .before .walk-entries .ensures)

@@ -1,0 +1,154 @@
+// 01's sheet of the location table and cases that its text settles, run through `linetable_to_records` and `linetable_in`.
+// Each case prints its name, what is answered, and a line for each record: line:column - end line:end column.
+use libc::STDOUT_FILENO;
+use linetable::Located;
+
+fn say(text: &[u8]) {
+    io::write_all(STDOUT_FILENO, text);
+}
+
+fn say_number(n: u32) {
+    io::print_decimal(STDOUT_FILENO, n as u64);
+}
+
+fn say_record(records: &[u32], i: usize) {
+    if i < records.len() / 4 {
+        let j = 4 * i;
+        say(b"  ");
+        say_number(records[j]);
+        say(b":");
+        say_number(records[j + 1]);
+        say(b" - ");
+        say_number(records[j + 2]);
+        say(b":");
+        say_number(records[j + 3]);
+        say(b"\n");
+    }
+}
+
+fn say_records(records: &[u32], count: u32) {
+    let total = count as usize;
+    let mut i = 0;
+    while i < total {
+        say_record(records, i);
+        i += 1;
+    }
+}
+
+fn say_answer(answer: Located) {
+    match answer {
+        Located::Done {
+            from_entries,
+            whole,
+        } => {
+            say_number(from_entries);
+            if whole {
+                say(b" from entries, whole\n");
+            } else {
+                say(b" from entries, not whole\n");
+            }
+        }
+        Located::Refused { number, place } => {
+            say(b"refused ");
+            say_number(number);
+            say(b" at ");
+            say_number(place);
+            say(b"\n");
+        }
+    }
+}
+
+// A table of its own, with room for four records; `shown` of them are printed.
+fn run(name: &[u8], table: &[u8], first_line: i32, count: u32, shown: u32) {
+    let mut records = [7u32; 16];
+    say(name);
+    say(b": ");
+    say_answer(linetable::linetable_to_records(table, first_line, count, &mut records));
+    say_records(&records, shown);
+}
+
+// A table in the middle of an input.
+fn run_in(name: &[u8], input: &[u8], place: u32, size: u32, count: u32) {
+    let mut records = [7u32; 16];
+    say(name);
+    say(b": ");
+    say_answer(linetable::linetable_in(input, place, size, 10, count, &mut records));
+    say_records(&records, count);
+}
+
+fn sheet() {
+    run(b"E9 02, first line 10", b"\xE9\x02", 10, 3, 4);
+}
+
+fn whole_or_not() {
+    run(b"no place, whole", b"\xF8", 5, 1, 1);
+    run(b"a byte follows the last instruction", b"\xF8\xF8", 5, 1, 1);
+    run(
+        b"an entry with more instructions than are left",
+        b"\xF9",
+        5,
+        1,
+        1,
+    );
+    run(b"empty table, no instruction", b"", 5, 0, 0);
+    run(b"no instruction, one byte", b"\xF8", 5, 0, 0);
+    run(b"a stop", b"\xF8\x00", 5, 2, 2);
+    run(b"first line 0, empty table", b"", 0, 1, 1);
+    run(b"first line -7, empty table", b"", -7, 1, 1);
+}
+
+fn forms() {
+    run(b"short form", b"\x98\x25", 10, 1, 1);
+    run(
+        b"one line, the second column missing",
+        b"\xD8\x04",
+        10,
+        1,
+        1,
+    );
+    run(
+        b"long form, end line one before",
+        b"\xF0\x00\x7F\x7F\x7F\x7F\x7F\x03\x05\x00",
+        10,
+        1,
+        1,
+    );
+    run(
+        b"six bytes, the seventh missing",
+        b"\xE8\x40\x40\x40\x40\x40\x40",
+        10,
+        1,
+        1,
+    );
+}
+
+fn refusals() {
+    run(
+        b"a seventh byte",
+        b"\xE8\x40\x40\x40\x40\x40\x40\x00",
+        10,
+        1,
+        1,
+    );
+    run(
+        b"past the last line, at the second entry",
+        b"\xF8\xD8\x00\x00",
+        2147483647,
+        2,
+        1,
+    );
+    run(b"five instructions, four records", b"\xE9\x02", 10, 5, 1);
+}
+
+fn parts() {
+    run_in(b"in the middle of an input", b"\x00\xE9\x02\x00", 1, 2, 3);
+    run_in(b"a part that runs past the input", b"\x00\xE9\x02", 1, 3, 3);
+}
+
+fn main() {
+    sheet();
+    whole_or_not();
+    forms();
+    refusals();
+    parts();
+}
