@@ -1,19 +1,137 @@
-//! What CPython says of its own code, in the file that tools/cpython-tables writes: the entries of the exception tables.
+//! What CPython says of its own code, in the file that tools/cpython-tables writes: the positions of every instruction,
+//! the split of the local names, the entries of the exception tables.
+use crate::lent::Part;
+use crate::linetable::{self, LineTables, Origin, locate};
+use crate::localsplus::{self, split};
+use crate::subject::Subject;
 use crate::tally::Tally;
-use crate::text::of_hex;
-use sillgarland_sys::{self as sys, Found};
+use crate::text::{of_hex, of_numbers};
+use sillgarland_sys::{self as sys, Found, Location, refusals};
 
 /// Holds the port to every line of the file.
 pub fn hold(text: &str) -> bool {
+    let mut positions = Tally::new("cpython positions");
+    let mut cuts = Tally::new("cpython cut tables");
+    let mut names = Tally::new("cpython names");
     let mut exceptions = Tally::new("cpython exceptions");
-    for row in text.lines().filter(|row| row.starts_with("exceptions ")) {
-        let held = match of_exceptions(row) {
-            Some((table, said)) => hold_exceptions(&table, &said),
-            None => Err(format!("malformed: {row}")),
+    for row in text.lines().filter(|row| !row.starts_with('#')) {
+        let tallied = match row.split(' ').next() {
+            Some("lines") => of_lines(row).map(|(ask, said)| {
+                positions.count("code objects, every position alike", hold_positions(&ask, &said));
+                cuts.count("tables cut in the middle, none whole", hold_cut(&ask));
+            }),
+            Some("names") => of_names(row).map(|(ask, said)| {
+                names.count("code objects, names split alike", hold_names(&ask, &said));
+            }),
+            Some("exceptions") => of_exceptions(row).map(|(table, said)| {
+                exceptions.count("exception tables, every entry alike", hold_exceptions(&table, &said));
+            }),
+            _ => None,
         };
-        exceptions.count("exception tables, every entry alike", held);
+        if tallied.is_none() {
+            positions.count("", Err(format!("malformed: {row}")));
+        }
     }
-    exceptions.finish()
+    [positions.finish(), cuts.finish(), names.finish(), exceptions.finish()].iter().all(|held| *held)
+}
+
+/// The line tables of the file, as questions for the comparison with the Rust.
+#[cfg(carried)]
+pub fn tables(text: &str) -> Vec<linetable::Ask> {
+    text.lines().filter_map(of_lines).map(|(ask, _)| ask).collect()
+}
+
+/// A position as co_positions() gives it: line, end line, column, end column; none is None.
+type Position = [Option<i64>; 4];
+
+fn of_lines(row: &str) -> Option<(linetable::Ask, Vec<Position>)> {
+    let ["lines", first_line, count, table, runs] = row.split(' ').collect::<Vec<_>>()[..] else {
+        return None;
+    };
+    let ask =
+        linetable::Ask { table: of_hex(table)?, first_line: first_line.parse().ok()?, count: count.parse().ok()? };
+    let mut positions = Vec::new();
+    for run in runs.split(',').filter(|run| *run != "-") {
+        let (count, position) = run.split_once('*')?;
+        let parts: Vec<_> = position.split(':').map(|part| part.parse().ok()).collect();
+        positions.resize(positions.len() + count.parse::<usize>().ok()?, parts.try_into().ok()?);
+    }
+    Some((ask, positions))
+}
+
+/// Every record as CPython has it, all from entries, and the table whole.
+fn hold_positions(ask: &linetable::Ask, said: &[Position]) -> Result<(), String> {
+    let mut running = i64::from(ask.first_line);
+    let records = said.iter().map(|position| as_shown(*position, &mut running)).collect();
+    let origin = Some(Origin { from_entries: ask.count, whole: true });
+    let answer = linetable::Answer::Accepted { records, origin };
+    LineTables::check(ask, &answer).map_err(|difference| format!("{}; {difference}", LineTables::row(ask, &answer)))
+}
+
+/// A position as document 01 shows it: lines of 0 or less as 1; columns from 1, none as 1; no place at all as the
+/// running line, which is the last line given before, or the first line.
+fn as_shown([line, end_line, column, end_column]: Position, running: &mut i64) -> Location {
+    *running = line.unwrap_or(*running);
+    let from_one = |column: Option<i64>| column.map_or(1, |column| column as u32 + 1);
+    Location {
+        line: (*running).max(1) as u32,
+        column: from_one(column),
+        end_line: end_line.unwrap_or(*running).max(1) as u32,
+        end_column: from_one(end_column),
+    }
+}
+
+/// The fault that started it all: a table cut in the middle is never whole, and what does not come from entries shows
+/// the first line.
+fn hold_cut(ask: &linetable::Ask) -> Result<(), String> {
+    let cut = linetable::Ask { table: ask.table[..ask.table.len() * 5 / 8].to_vec(), ..ask.clone() };
+    let (answered, records) = locate(&cut, &Part::new(&cut.table), 4 * cut.count as usize);
+    let rest = records.cells().get(4 * answered.from_entries as usize..).unwrap_or_default();
+    let first_line = cut.first_line.max(1) as u32;
+    let shows_first_line = rest.chunks(4).all(|record| record == [first_line, 1, first_line, 1]);
+    if answered.refusal != refusals::ACCEPTED || answered.whole != 0 || !shows_first_line {
+        return Err(format!("{cut:?}: {answered:?}"));
+    }
+    Ok(())
+}
+
+/// All local names and the three groups of them, each name as a number.
+struct Named {
+    all: Vec<u32>,
+    groups: [Vec<u32>; 3],
+}
+
+fn of_names(row: &str) -> Option<(localsplus::Ask, Named)> {
+    let ["names", kinds, args, kwonly, flags, all, locals, cells, frees] = row.split(' ').collect::<Vec<_>>()[..]
+    else {
+        return None;
+    };
+    let (kinds, all) = (of_hex(kinds)?, of_numbers(all)?);
+    let ask = localsplus::Ask {
+        kinds,
+        names: all.len() as u32,
+        args: args.parse().ok()?,
+        kwonly: kwonly.parse().ok()?,
+        flags: flags.parse().ok()?,
+    };
+    Some((ask, Named { all, groups: [of_numbers(locals)?, of_numbers(cells)?, of_numbers(frees)?] }))
+}
+
+/// The names at the positions that the split gives; CPython has no map and no list of argument cells to compare.
+fn hold_names(ask: &localsplus::Ask, said: &Named) -> Result<(), String> {
+    let (answered, stores) = split(ask, &Part::new(&ask.kinds), [said.all.len(); 5]);
+    let counts = [answered.locals, answered.cells, answered.frees];
+    let named = |position: &u32| said.all.get(*position as usize).copied();
+    for (i, group) in said.groups.iter().enumerate() {
+        let names = stores[i].cells().iter().take(counts[i] as usize).map(named);
+        if answered.refusal != refusals::ACCEPTED || !names.eq(group.iter().map(|name| Some(*name))) {
+            return Err(format!(
+                "{ask:?}: {answered:?}; the names are {group:?}, and not those at {:?}",
+                stores[i].cells()
+            ));
+        }
+    }
+    Ok(())
 }
 
 /// An entry as dis reads it: start, end and target in bytes, depth, whether the last instruction is pushed.

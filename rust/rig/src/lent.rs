@@ -1,5 +1,6 @@
 //! Stores as the port is lent them: full of marks before the call, guarded on both sides, and held afterwards to
 //! "what was written, then zeros".
+use sillgarland_sys::Location;
 use std::fmt::Debug;
 
 pub trait Cell: Copy + PartialEq + Debug {
@@ -15,6 +16,11 @@ impl Cell for u8 {
 impl Cell for u32 {
     const MARK: Self = 0xA5A5_A5A5;
     const ZERO: Self = 0;
+}
+
+impl Cell for Location {
+    const MARK: Self = Location { line: 7, column: 7, end_line: 7, end_column: 7 };
+    const ZERO: Self = Location { line: 0, column: 0, end_line: 0, end_column: 0 };
 }
 
 const GUARD: usize = 4;

@@ -2,6 +2,10 @@
 //! code, and to lists of answers kept in the repository. `rig --help` says how to call it.
 mod cpython;
 mod lent;
+mod linetable;
+mod localsplus;
+#[cfg(carried)]
+mod panics;
 #[cfg(carried)]
 mod random;
 mod subject;
@@ -9,6 +13,8 @@ mod tally;
 mod text;
 mod varint;
 
+use linetable::LineTables;
+use localsplus::LocalNames;
 use std::process::ExitCode;
 use subject::replay;
 use varint::Varints;
@@ -81,6 +87,8 @@ fn run(options: Options) -> Result<bool, String> {
     if options.replay {
         return Ok(replay_lists());
     }
+    #[cfg(carried)]
+    panics::keep_quiet();
     match options.write_fixed {
         Some(folder) => beside_the_rust::write_fixed(&folder, options.tables),
         None => Ok(all([beside_the_rust::compare(options.long, options.tables)?, replay_lists()])),
@@ -92,7 +100,9 @@ fn contents(file: &str) -> Result<String, String> {
 }
 
 fn replay_lists() -> bool {
-    all(["fixed", "vectors"].map(replay::<Varints>))
+    let lists = ["fixed", "vectors"];
+    all(lists
+        .map(|folder| all([replay::<Varints>(folder), replay::<LineTables>(folder), replay::<LocalNames>(folder)])))
 }
 
 fn all<const N: usize>(held: [bool; N]) -> bool {
@@ -101,16 +111,42 @@ fn all<const N: usize>(held: [bool; N]) -> bool {
 
 #[cfg(carried)]
 mod beside_the_rust {
-    use super::{Varints, varint};
+    use super::{LineTables, LocalNames, Varints, all, contents, cpython, linetable, localsplus, varint};
     use crate::subject::{compare as compare_all, write_list};
+    use linetable::carried_side::Extent;
 
-    pub fn compare(long: bool, _tables: Option<String>) -> Result<bool, String> {
-        let random = if long { 20_000_000 } else { 1_000_000 };
-        Ok(compare_all::<Varints>(varint::carried_side::asks(random)))
+    /// How many cases: of the short form, for the gate, and of the long one.
+    struct Sizes {
+        varints: usize,
+        tables: Extent,
+        lists: (u32, usize),
     }
 
-    pub fn write_fixed(folder: &str, _tables: Option<String>) -> Result<bool, String> {
-        write_list::<Varints>(folder, varint::carried_side::asks_to_list()).map(|()| true)
+    const SHORT: Sizes =
+        Sizes { varints: 1_000_000, tables: Extent { of_three: 1, random: 500_000 }, lists: (3, 200_000) };
+    const LONG: Sizes =
+        Sizes { varints: 20_000_000, tables: Extent { of_three: 6, random: 20_000_000 }, lists: (4, 5_000_000) };
+
+    pub fn compare(long: bool, tables: Option<String>) -> Result<bool, String> {
+        let made = made_tables(tables)?;
+        let sizes = if long { LONG } else { SHORT };
+        Ok(all([
+            compare_all::<Varints>(varint::carried_side::asks(sizes.varints)),
+            compare_all::<LineTables>(linetable::carried_side::asks(sizes.tables, made)),
+            compare_all::<LocalNames>(localsplus::carried_side::asks(sizes.lists.0, sizes.lists.1)),
+        ]))
+    }
+
+    pub fn write_fixed(folder: &str, tables: Option<String>) -> Result<bool, String> {
+        let made = made_tables(tables)?;
+        write_list::<Varints>(folder, varint::carried_side::asks_to_list())?;
+        write_list::<LineTables>(folder, linetable::carried_side::asks_to_list(made))?;
+        write_list::<LocalNames>(folder, localsplus::carried_side::asks_to_list())?;
+        Ok(true)
+    }
+
+    fn made_tables(file: Option<String>) -> Result<Vec<linetable::Ask>, String> {
+        Ok(file.map(|file| contents(&file)).transpose()?.map_or(Vec::new(), |text| cpython::tables(&text)))
     }
 }
 

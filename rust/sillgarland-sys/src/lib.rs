@@ -26,6 +26,38 @@ pub struct Found {
     pub next: u64,
 }
 
+/// What reading a line table answers: how many instructions came from entries, and whether the table was whole.
+#[repr(C)]
+#[derive(Clone, Copy, Debug, PartialEq, Eq)]
+pub struct Located {
+    pub refusal: u32,
+    pub place: u32,
+    pub from_entries: u32,
+    pub whole: u32,
+}
+
+/// Where one instruction comes from; lines and columns count from 1.
+#[repr(C)]
+#[derive(Clone, Copy, Debug, PartialEq, Eq)]
+pub struct Location {
+    pub line: u32,
+    pub column: u32,
+    pub end_line: u32,
+    pub end_column: u32,
+}
+
+/// What splitting local names answers: how many of each kind, and whether the cell-to-argument list is present.
+#[repr(C)]
+#[derive(Clone, Copy, Debug, PartialEq, Eq)]
+pub struct Split {
+    pub refusal: u32,
+    pub place: u32,
+    pub locals: u32,
+    pub cells: u32,
+    pub frees: u32,
+    pub present: u32,
+}
+
 unsafe extern "C" {
     pub fn sill_write_varint(out: *mut u8, out_len: usize, value: u32) -> Written;
     pub fn sill_write_signed_varint(out: *mut u8, out_len: usize, value: i32) -> Written;
@@ -33,6 +65,42 @@ unsafe extern "C" {
     pub fn sill_write_varint_with_start(out: *mut u8, out_len: usize, value: u32) -> Written;
     pub fn sill_read_varint(data: *const u8, data_len: usize, at: usize) -> Found;
     pub fn sill_read_varint_with_start(data: *const u8, data_len: usize, at: usize) -> Found;
+    pub fn sill_locate(
+        table: *const u8,
+        table_len: usize,
+        first_line: i32,
+        count: u32,
+        records: *mut u32,
+        records_len: usize,
+    ) -> Located;
+    pub fn sill_locations(
+        table: *const u8,
+        table_len: usize,
+        first_line: i32,
+        count: u32,
+        flat: *mut u32,
+        flat_len: usize,
+        out: *mut Location,
+        out_len: usize,
+    ) -> Located;
+    pub fn sill_split(
+        kinds: *const u8,
+        kinds_len: usize,
+        names: u32,
+        args: u32,
+        kwonly: u32,
+        flags: u32,
+        locals: *mut u32,
+        locals_len: usize,
+        cells: *mut u32,
+        cells_len: usize,
+        frees: *mut u32,
+        frees_len: usize,
+        map: *mut u32,
+        map_len: usize,
+        cell_args: *mut u32,
+        cell_args_len: usize,
+    ) -> Split;
 }
 
 /// The refusal numbers and limits of document 01, under the names of the crate `refusals`.
