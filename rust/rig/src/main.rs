@@ -4,6 +4,7 @@ mod cpython;
 mod lent;
 mod linetable;
 mod localsplus;
+mod nulls;
 #[cfg(carried)]
 mod panics;
 #[cfg(carried)]
@@ -21,7 +22,7 @@ use varint::Varints;
 
 const USAGE: &str = "\
 usage: rig [--long] [--tables FILE]              compare with the carried Rust, then replay the lists
-       rig --replay                              replay the lists only: tests/fixed and tests/vectors
+       rig --replay                              replay the lists only: tests/fixed and tests/vectors; and nulls
        rig --cpython FILE                        hold the port to what CPython says
        rig --write-fixed FOLDER [--tables FILE]  write the carried Rust's answers as lists into FOLDER
 FILE is what tools/cpython-tables writes. Runs from the repository's root.
@@ -100,9 +101,9 @@ fn contents(file: &str) -> Result<String, String> {
 }
 
 fn replay_lists() -> bool {
-    let lists = ["fixed", "vectors"];
-    all(lists
-        .map(|folder| all([replay::<Varints>(folder), replay::<LineTables>(folder), replay::<LocalNames>(folder)])))
+    let replay_all =
+        |folder| all([replay::<Varints>(folder), replay::<LineTables>(folder), replay::<LocalNames>(folder)]);
+    all([nulls::hold(), replay_all("fixed"), replay_all("vectors")])
 }
 
 fn all<const N: usize>(held: [bool; N]) -> bool {
