@@ -8,7 +8,8 @@ pub struct Way<'a> {
     pub work: Box<dyn FnMut() + 'a>,
 }
 
-/// Times every way in turns and prints, for each, the median per item and its speed against the first way's.
+/// Times every way in turns and prints, for each, the median and the best per item, and how its speed stands to the first
+/// way's (by the medians).
 pub fn side_by_side(title: &str, (items, each_of): (usize, &str), mut ways: Vec<Way>) {
     let mut times = vec![Vec::new(); ways.len()];
     for _ in 0..ROUNDS {
@@ -18,15 +19,15 @@ pub fn side_by_side(title: &str, (items, each_of): (usize, &str), mut ways: Vec<
             times.push(start.elapsed());
         }
     }
+    times.iter_mut().for_each(|times| times.sort());
     println!("{title}");
-    let medians: Vec<f64> = times.iter_mut().map(|times| median(times).as_secs_f64()).collect();
-    for (way, seconds) in ways.iter().zip(&medians) {
-        let (each, ratio) = (seconds * 1e9 / items as f64, medians[0] / seconds);
-        println!("  {:<24} {each:8.2} ns {each_of}   {ratio:6.2} times the speed of {}", way.name, ways[0].name);
+    let each = |time: Duration| time.as_secs_f64() * 1e9 / items as f64;
+    for (way, times_of_way) in ways.iter().zip(&times) {
+        let (median, best) = (each(times_of_way[ROUNDS / 2]), each(times_of_way[0]));
+        let ratio = each(times[0][ROUNDS / 2]) / median;
+        println!(
+            "  {:<20} {median:6.2} ns {each_of} (best {best:.2}), {ratio:.2} times the speed of {}",
+            way.name, ways[0].name
+        );
     }
-}
-
-fn median(times: &mut [Duration]) -> Duration {
-    times.sort();
-    times[times.len() / 2]
 }
