@@ -5,6 +5,7 @@ mod lent;
 mod linetable;
 mod localsplus;
 mod nulls;
+mod numbers;
 #[cfg(carried)]
 mod panics;
 #[cfg(carried)]
@@ -22,7 +23,7 @@ use varint::Varints;
 
 const USAGE: &str = "\
 usage: rig [--long] [--tables FILE]              compare with the carried Rust, then replay the lists
-       rig --replay                              replay the lists only: tests/fixed and tests/vectors; and nulls
+       rig --replay                              replay the lists only: tests/fixed and tests/vectors
        rig --cpython FILE                        hold the port to what CPython says
        rig --write-fixed FOLDER [--tables FILE]  write the carried Rust's answers as lists into FOLDER
 FILE is what tools/cpython-tables writes. Runs from the repository's root.
@@ -103,7 +104,7 @@ fn contents(file: &str) -> Result<String, String> {
 fn replay_lists() -> bool {
     let replay_all =
         |folder| all([replay::<Varints>(folder), replay::<LineTables>(folder), replay::<LocalNames>(folder)]);
-    all([nulls::hold(), replay_all("fixed"), replay_all("vectors")])
+    all([numbers::hold(), nulls::hold(), replay_all("fixed"), replay_all("vectors")])
 }
 
 fn all<const N: usize>(held: [bool; N]) -> bool {
