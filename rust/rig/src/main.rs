@@ -10,6 +10,8 @@ mod numbers;
 mod panics;
 #[cfg(carried)]
 mod random;
+#[cfg(carried)]
+mod shape;
 mod subject;
 mod tally;
 mod text;
