@@ -4,7 +4,7 @@ ghost use mathlib.Core.Path.{_≡_};
 ghost use Prim.Native.Nat.{_+_, _*_, _≤_, _<_};
 ghost use lib.ListN.{length};
 ghost use Rattle.refusals.specs.Limits.{mostBytes};
-ghost use Rattle.grammar.specs.Letters.{classOf, keeps, contains, codes, fixed, double, long, bytes, text, short, sequence, few};
+ghost use Rattle.grammar.specs.Letters.{classOf, keeps, contains, codes, fixed, double, long, bytes, sequence, few};
 ghost use Rattle.grammar.specs.Fields;
 ghost use Rattle.fields.specs.Classes.{classAt, keptClasses};
 ghost use Rattle.fields.specs.Behind.{Reads, Judges};
@@ -155,7 +155,7 @@ fn read_fixed(s: &[u8], at: u32, size: u32) -> Behind
     requires { ⌜ (at ≤ length (now s)) × (length (now s) ≤ mostBytes) × (size ≤ mostBytes) ⌝ }
     ensures { λ r. ⌜ Reads (now (s .entry)) (keeps (fixed size)) at r ⌝ }
 {
-    if s.len() - (at as usize) < size as usize {
+    if s.len() < at as usize + size as usize {
         return Behind::Refused(refusals::DATA_TOO_SHORT, at);
     }
     Behind::Span(at, size, Kids::Items(0))
@@ -166,11 +166,11 @@ fn read_double(s: &[u8], at: u32) -> Behind
     requires { ⌜ (at ≤ length (now s)) × (length (now s) ≤ mostBytes) ⌝ }
     ensures { λ r. ⌜ Reads (now (s .entry)) (keeps double) at r ⌝ }
 {
-    let left = s.len() - (at as usize);
-    if left < 8 {
+    let p = at as usize;
+    if s.len() < p + 8 {
         return Behind::Refused(refusals::DATA_TOO_SHORT, at);
     }
-    if left < 16 {
+    if s.len() < p + 8 + 8 {
         return Behind::Refused(refusals::DATA_TOO_SHORT, at + 8);
     }
     Behind::Span(at, 16, Kids::Items(0))
@@ -182,7 +182,7 @@ fn read_len(s: &[u8], at: u32) -> Judged
     ensures { λ r. ⌜ Judges (now (s .entry)) (at + 4) (Fields.size32 (now (s .entry)) at) r ⌝ }
 {
     let p = at as usize;
-    if s.len() - p < 4 {
+    if s.len() < p + 4 {
         return Judged::Refused(refusals::DATA_TOO_SHORT, at);
     }
     if 0x8000_0000 <= le32(s, p) {
@@ -208,7 +208,7 @@ fn read_few(s: &[u8], at: u32) -> Behind
     ensures { λ r. ⌜ Reads (now (s .entry)) (keeps few) at r ⌝ }
 {
     let p = at as usize;
-    if s.len() <= p {
+    if s.len() < p + 1 {
         return Behind::Refused(refusals::DATA_TOO_SHORT, at);
     }
     Behind::Span(at, 1, Kids::Items(word(s[p])))
@@ -224,60 +224,11 @@ fn read_bytes(s: &[u8], at: u32) -> Behind
         Judged::Fine => {
             let p = at as usize;
             let size = le32(s, p);
-            if s.len() - p - 4 < size as usize {
+            if s.len() < p + 4 + size as usize {
                 return Behind::Refused(refusals::DATA_TOO_SHORT, at + 4);
             }
             Behind::Span(at + 4, size, Kids::Items(0))
         }
-    }
-}
-
-// So many bytes that are UTF-8 with surrogates allowed.
-fn read_wtf8(s: &[u8], at: u32, size: u32) -> Judged
-    requires { ⌜ (at ≤ length (now s)) × (length (now s) ≤ mostBytes) × (size < 2147483648) ⌝ }
-    ensures { λ r. ⌜ Judges (now (s .entry)) (at + size) (Fields.string (now (s .entry)) at size) r ⌝ }
-{
-    let from = at as usize;
-    let count = size as usize;
-    if s.len() - from < count {
-        return Judged::Refused(refusals::DATA_TOO_SHORT, at);
-    }
-    if !wtf8::is_wtf8(&s[from..from + count]) {
-        return Judged::Refused(refusals::INVALID_UTF8, at);
-    }
-    Judged::Fine
-}
-
-// A length, and a string of so many bytes.
-fn read_text(s: &[u8], at: u32) -> Behind
-    requires { ⌜ (at ≤ length (now s)) × (length (now s) ≤ mostBytes) ⌝ }
-    ensures { λ r. ⌜ Reads (now (s .entry)) (contains text) at r ⌝ }
-{
-    match read_len(s, at) {
-        Judged::Refused(number, place) => Behind::Refused(number, place),
-        Judged::Fine => {
-            let size = le32(s, at as usize);
-            match read_wtf8(s, at + 4, size) {
-                Judged::Refused(number, place) => Behind::Refused(number, place),
-                Judged::Fine => Behind::Span(at + 4, size, Kids::Items(0)),
-            }
-        }
-    }
-}
-
-// A one-byte length, and a string of so many bytes.
-fn read_short(s: &[u8], at: u32) -> Behind
-    requires { ⌜ (at ≤ length (now s)) × (length (now s) ≤ mostBytes) ⌝ }
-    ensures { λ r. ⌜ Reads (now (s .entry)) (contains short) at r ⌝ }
-{
-    let p = at as usize;
-    if s.len() <= p {
-        return Behind::Refused(refusals::DATA_TOO_SHORT, at);
-    }
-    let size = word(s[p]);
-    match read_wtf8(s, at + 1, size) {
-        Judged::Refused(number, place) => Behind::Refused(number, place),
-        Judged::Fine => Behind::Span(at + 1, size, Kids::Items(0)),
     }
 }
 
@@ -301,7 +252,7 @@ fn read_digits(s: &[u8], count: u32, at: u32) -> Judged
     let mut left = count;
     while 0 < left {
         let p = place as usize;
-        if s.len() - p < 2 {
+        if s.len() < p + 2 {
             return Judged::Refused(refusals::DATA_TOO_SHORT, place);
         }
         if 0x8000 <= le16(s, p) {
@@ -334,7 +285,7 @@ fn read_pylong(s: &[u8], at: u32) -> Behind
     ensures { λ r. ⌜ Reads (now (s .entry)) (keeps long) at r ⌝ }
 {
     let p = at as usize;
-    if s.len() - p < 4 {
+    if s.len() < p + 4 {
         return Behind::Refused(refusals::DATA_TOO_SHORT, at);
     }
     let count = digit_count(le32(s, p));
@@ -357,26 +308,4 @@ fn read_numbers(s: &[u8], at: u32) -> Behind
         return Behind::Refused(refusals::DATA_TOO_SHORT, at + 4 * whole as u32);
     }
     Behind::Span(at, 20, Kids::Parts)
-}
-
-// The fields behind the header of a node, from the byte after it on.
-pub fn read_fields(s: &[u8], class: u32, at: u32) -> Behind
-    requires { ⌜ (class < keptClasses) × (at ≤ length (now s)) × (length (now s) ≤ mostBytes) ⌝ }
-    ensures { λ r. ⌜ Reads (now (s .entry)) (classAt class) at r ⌝ }
-{
-    match class {
-        SINGLE => Behind::Span(at, 0, Kids::Items(0)),
-        FIXED4 => read_fixed(s, at, 4),
-        FIXED8 => read_fixed(s, at, 8),
-        DOUBLE => read_double(s, at),
-        LONG => read_pylong(s, at),
-        BYTES => read_bytes(s, at),
-        TEXT => read_text(s, at),
-        SHORT => read_short(s, at),
-        SEQUENCE => read_sequence(s, at),
-        FEW => read_few(s, at),
-        SLICE => Behind::Span(at, 0, Kids::Items(3)),
-        DICT => Behind::Span(at, 0, Kids::Pairs),
-        _ => read_numbers(s, at),
-    }
 }

@@ -1,0 +1,176 @@
+-- What the functions' proofs share, said of plain lists and numbers: a letter that is none of the letters, a test that was passed or not,
+-- and the digits of a long number, one at a time. Assumes nothing.
+use mathlib.Core.Path.{_≡_, refl, sym, ap, _∙_}
+use Prim.Native.Nat.{ℕ, zero, suc, _+_, _-_, _*_, _/_, _≤_, _<_}
+use mathlib.Core.Bool.{Bool, true, false, cond}
+use mathlib.Core.List.{List, [], _∷_}
+use native.Mathlib.Omega.{arith}
+use lib.Dec.{eqb, ltb, leb}
+use lib.ListN.{length}
+use borrow.Author.Tests.{ne-eqb, leb-true, leb-false, le-leb, lt-leb, lt-ltb, le-ltb}
+use Rattle.refusals.specs.Numbers.{unknownType, dataTooShort, invalidBytecode}
+use Rattle.grammar.specs.Reading.{Answer, gives, stops}
+use Rattle.grammar.specs.Letters as letter
+use Rattle.grammar.specs.Letters.{Class, keeps, contains, refuses, found}
+use Rattle.grammar.specs.Fields.{Fields, field, span, items, size32, le16, le32, digits, lastDigit, numbers, digitCount, pylong, fields, contained}
+use Rattle.fields.specs.Behind.{Judges, Reads, fieldsOf}
+use Rattle.fields.specs.declared.Behind.the-variants as behind
+use Rattle.fields.specs.declared.Kids.the-variants as kids
+use Rattle.fields.specs.declared.Judged.{Judged}
+use Rattle.fields.specs.declared.Judged.the-variants as judged
+
+-- the letter is none of these
+abbrev pub Absent : ℕ → List (ℕ × Class) → Type 0
+Absent letter [] = Unit
+Absent letter (l ∷ ls) = (letter ≡ l .0 → ⊥) × Absent letter ls
+
+pub absent : (letter : ℕ) (ls : List (ℕ × Class)) → Absent letter ls → found letter ls ≡ refuses unknownType
+unfolding found
+absent letter [] a = refl
+absent letter (l ∷ ls) a = rw (ne-eqb letter (l .0) (a .0)) (absent letter ls (a .1))
+
+-- A test that was passed leaves the rest; one that was not, its refusal.
+pub record Passed (s : List ℕ) (end : ℕ) (test : Answer Fields → Answer Fields) : Type 0 where
+  pub within : end ≤ length s
+  pub exact : (rest : Answer Fields) → rest ≡ test rest
+
+pub passed : {s : List ℕ} {end : ℕ} {test : Answer Fields → Answer Fields} {r : Judged} → Judges s end test r → r ≡ judged.Fine → Passed s end test
+passed {s} {end} {test} {r} j e =
+    record { within = rw e at (j .within); exact = λ rest. rw e at (j .exact rest) }
+
+pub failed : {s : List ℕ} {end : ℕ} {test : Answer Fields → Answer Fields} {r : Judged} {number place : ℕ} → Judges s end test r
+    → r ≡ judged.Refused number place → (rest : Answer Fields) → stops number place ≡ test rest
+failed j e rest = rw e at (j .exact rest)
+
+-- One law for every field of a fixed size.
+module _ (s : List ℕ) (at size : ℕ) (rest : Answer Fields) where
+  pub field-cut : length s < at + size → stops dataTooShort at ≡ field s at size rest
+  field-cut h = rw (lt-leb (at + size) (length s) h)
+
+  pub field-in : at + size ≤ length s → rest ≡ field s at size rest
+  field-in h = rw (le-leb (at + size) (length s) h)
+
+-- So many numbers of 32 bits: how many of them are whole says where the first cut one stands.
+either : {X : Type 0} (a b : ℕ) → (a ≤ b → X) → (b < a → X) → X
+either {X} a b low high = go (leb a b) refl
+  where
+    go : (t : Bool) → leb a b ≡ t → X
+    go true e = low (leb-true a b e)
+    go false e = high (leb-false a b e)
+
+abbrev CutAt : List ℕ → ℕ → Answer Fields → Type 0
+CutAt s at answer = stops dataTooShort (at + 4 * ((length s - at) / 4)) ≡ answer
+
+cut-here : (s : List ℕ) (at : ℕ) (rest : Answer Fields) → at ≤ length s → length s < at + 4 → CutAt s at (field s at 4 rest)
+cut-here s at rest le cut =
+    let first : at + 4 * ((length s - at) / 4) ≡ at = omega arith in
+    rw first (field-cut s at 4 rest cut)
+
+cut-later : (s : List ℕ) (at : ℕ) (rest : Answer Fields) → at + 4 ≤ length s → CutAt s (at + 4) rest → CutAt s at (field s at 4 rest)
+cut-later s at rest here later =
+    let next : at + 4 * ((length s - at) / 4) ≡ at + 4 + 4 * ((length s - (at + 4)) / 4) = omega arith in
+    rw next (later ∙ field-in s at 4 rest here)
+
+pub numbers-cut : (s : List ℕ) (count at : ℕ) (rest : Answer Fields) → at ≤ length s → (length s - at) / 4 < count
+    → CutAt s at (numbers s count at rest)
+unfolding numbers
+numbers-cut s zero at rest le h = absurd (omega arith)
+numbers-cut s (suc more) at rest le h =
+    either (at + 4) (length s)
+    (λ here. cut-later s at (numbers s more (at + 4) rest) here (numbers-cut s more (at + 4) rest here (omega arith)))
+    (λ cut. cut-here s at (numbers s more (at + 4) rest) le cut)
+
+pub numbers-in : (s : List ℕ) (count at : ℕ) (rest : Answer Fields) → at + 4 * count ≤ length s → rest ≡ numbers s count at rest
+unfolding numbers
+numbers-in s zero at rest h = refl
+numbers-in s (suc more) at rest h =
+    numbers-in s more (at + 4) rest (omega arith) ∙ field-in s at 4 (numbers s more (at + 4) rest) (omega arith)
+
+-- Contents behind a length that was judged.
+module _ {s : List ℕ} {at size : ℕ} (fine : Passed s (at + 4) (size32 s at)) (is : size ≡ le32 s at) where
+  pub bytes-cut : length s < at + 4 + size → Reads s (contains letter.bytes) at (behind.Refused dataTooShort (at + 4))
+  unfolding fieldsOf contained
+  bytes-cut h = record { ahead = tt; exact = field-cut s (at + 4) (le32 s at) _ (rw is at h) ∙ fine .exact _ }
+
+  pub bytes-in : at + 4 + size ≤ length s → Reads s (contains letter.bytes) at (behind.Span (at + 4) size (kids.Items 0))
+  unfolding fieldsOf contained
+  bytes-in h =
+      record {
+        ahead = (omega arith, h);
+        exact = rw is (field-in s (at + 4) (le32 s at) _ (rw is at h) ∙ fine .exact _);
+      }
+
+-- The digits, one after another.
+pub digit : (s : List ℕ) (left at : ℕ) (rest : Answer Fields) → 0 < left
+    → digits s left at rest
+    ≡ field s at 2 (cond (ltb (le16 s at) 32768) (digits s (left - 1) (at + 2) rest) (stops invalidBytecode at))
+unfolding digits
+digit s zero at rest h = absurd (omega arith)
+digit s (suc more) at rest h = let back : suc more - 1 ≡ more = omega arith in rw back
+
+pub last : (s : List ℕ) (count at : ℕ) (rest : Answer Fields) → (count ≡ 0 → ⊥)
+    → lastDigit s count at rest
+    ≡ cond (eqb (le16 s (at + 2 * (count - 1))) 0) (stops invalidBytecode (at + 2 * (count - 1))) rest
+last s zero at rest h = absurd (h refl)
+last s (suc more) at rest h = let back : suc more - 1 ≡ more = omega arith in rw back
+
+-- Those judged so far were fine: what is left comes to the same answer.
+pub record Judging (s : List ℕ) (count at left place : ℕ) : Type 0 where
+  pub fewer : left ≤ count
+  pub stands : place + 2 * left ≡ at + 2 * count
+  pub within : place ≤ length s
+  pub comes : (rest : Answer Fields) → digits s left place rest ≡ digits s count at rest
+
+module _ {s : List ℕ} {count at left place : ℕ} (so : Judging s count at left place) where
+  pub all-judged : left ≤ 0 → Judges s (at + 2 * count) (digits s count at) judged.Fine
+  unfolding digits
+  all-judged h =
+      let none : left ≡ 0 = omega arith in
+      record { within = omega (arith, so .stands, so .within); exact = λ rest. rw none at (so .comes rest) }
+
+  module _ (more : 0 < left) where
+    pub digit-cut : length s < place + 2 → Judges s (at + 2 * count) (digits s count at) (judged.Refused dataTooShort place)
+    digit-cut h =
+        record {
+          within = tt;
+          exact = λ rest. field-cut s place 2 _ h ∙ sym (digit s left place rest more) ∙ so .comes rest;
+        }
+
+    module _ (here : place + 2 ≤ length s) {d : ℕ} (is : d ≡ le16 s place) where
+      judging : (rest : Answer Fields) → cond (ltb d 32768) (digits s (left - 1) (place + 2) rest) (stops invalidBytecode place) ≡ digits s count at rest
+      judging rest = rw is (field-in s place 2 _ here ∙ sym (digit s left place rest more) ∙ so .comes rest)
+
+      pub digit-bad : 32768 ≤ d → Judges s (at + 2 * count) (digits s count at) (judged.Refused invalidBytecode place)
+      digit-bad h = record { within = tt; exact = λ rest. rw (le-ltb d 32768 h) at (judging rest) }
+
+      pub digit-fine : d < 32768 → Judging s count at (left - 1) (place + 2)
+      digit-fine h =
+          record {
+            fewer = omega (arith, so .fewer);
+            stands = omega (arith, so .stands);
+            within = here;
+            comes = λ rest. rw (lt-ltb d 32768 h) at (judging rest);
+          }
+
+-- A long number, whose count of digits was read.
+long-is : (s : List ℕ) (at count : ℕ) → at + 4 ≤ length s → count ≡ digitCount (le32 s at)
+    → pylong s at count ≡ fieldsOf s (keeps letter.long) at
+unfolding fieldsOf fields
+long-is s at count here is = ap (pylong s at) is ∙ field-in s at 4 (pylong s at (digitCount (le32 s at))) here
+
+module _ {s : List ℕ} {at count : ℕ} (here : at + 4 ≤ length s) (is : count ≡ digitCount (le32 s at)) where
+  pub long-digits : {number place : ℕ} → ((rest : Answer Fields) → stops number place ≡ digits s count (at + 4) rest)
+      → Reads s (keeps letter.long) at (behind.Refused number place)
+  unfolding pylong
+  long-digits bad = record { ahead = tt; exact = bad _ ∙ long-is s at count here is }
+
+  module _ (fine : Passed s (at + 4 + 2 * count) (digits s count (at + 4))) where
+    pub long-last : {number place : ℕ} → ((rest : Answer Fields) → stops number place ≡ lastDigit s count (at + 4) rest)
+        → Reads s (keeps letter.long) at (behind.Refused number place)
+    unfolding pylong
+    long-last bad = record { ahead = tt; exact = bad _ ∙ fine .exact _ ∙ long-is s at count here is }
+
+    pub long-in : Passed s 0 (lastDigit s count (at + 4)) → Reads s (keeps letter.long) at (behind.Span at (4 + 2 * count) (kids.Items 0))
+    unfolding pylong
+    long-in good =
+        record { ahead = (omega arith, omega (arith, fine .within)); exact = good .exact _ ∙ fine .exact _ ∙ long-is s at count here is }
