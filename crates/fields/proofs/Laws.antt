@@ -4,16 +4,21 @@ use mathlib.Core.Path.{_≡_, refl, sym, ap, _∙_}
 use Prim.Native.Nat.{ℕ, zero, suc, _+_, _-_, _*_, _/_, _≤_, _<_}
 use mathlib.Core.Bool.{Bool, true, false, cond}
 use mathlib.Core.List.{List, [], _∷_}
+use mathlib.Core.Logic.{⊎-elim}
+use native.Mathlib.Nat.{eq-or-lt-of-le}
 use native.Mathlib.Omega.{arith}
 use lib.Dec.{eqb, ltb, leb}
-use lib.ListN.{length}
+use lib.ListN.{length, getD, take, drop}
+use lib.Seq.{take-nil, drop-nil}
 use borrow.Author.Tests.{ne-eqb, leb-true, leb-false, le-leb, lt-leb, lt-ltb, le-ltb}
-use Rattle.refusals.specs.Numbers.{unknownType, dataTooShort, invalidBytecode}
+use Rattle.refusals.specs.Numbers.{unknownType, dataTooShort, invalidBytecode, invalidUtf8}
+use Rattle.wtf8.specs.Forms.{wellFormed}
 use Rattle.grammar.specs.Reading.{Answer, gives, stops}
 use Rattle.grammar.specs.Letters as letter
 use Rattle.grammar.specs.Letters.{Class, keeps, contains, refuses, found}
-use Rattle.grammar.specs.Fields.{Fields, field, span, items, size32, le16, le32, digits, lastDigit, numbers, digitCount, pylong, fields, contained}
+use Rattle.grammar.specs.Fields.{Fields, field, span, items, size32, string, contents, le16, le32, digits, lastDigit, numbers, digitCount, pylong, fields, contained}
 use Rattle.fields.specs.Behind.{Judges, Reads, fieldsOf}
+use Rattle.fields.specs.declared.Behind.{Behind}
 use Rattle.fields.specs.declared.Behind.the-variants as behind
 use Rattle.fields.specs.declared.Kids.the-variants as kids
 use Rattle.fields.specs.declared.Judged.{Judged}
@@ -86,7 +91,28 @@ numbers-in s zero at rest h = refl
 numbers-in s (suc more) at rest h =
     numbers-in s more (at + 4) rest (omega arith) ∙ field-in s at 4 (numbers s more (at + 4) rest) (omega arith)
 
--- Contents behind a length that was judged.
+-- A part of the input, as the code lends it, is the contents that the definition names.
+take-drop : (at size : ℕ) (s : List ℕ) → take size (drop at s) ≡ drop at (take (at + size) s)
+take-drop zero size s = let e : 0 + size ≡ size = omega arith in rw e
+take-drop (suc at) size [] = simp (take-nil, drop-nil)
+take-drop (suc at) size (x ∷ xs) = let e : suc at + size ≡ suc (at + size) = omega arith in rw e (take-drop at size xs)
+
+pub part : (s : List ℕ) (at size : ℕ) → take (at + size - at) (drop at s) ≡ contents s at size
+part s at size = let e : at + size - at ≡ size = omega arith in rw e (take-drop at size s)
+
+module _ (s : List ℕ) (at size : ℕ) {t : Bool} (here : at + size ≤ length s) (is : t ≡ wellFormed (take (at + size - at) (drop at s))) where
+  string-is : (rest : Answer Fields) → cond t rest (stops invalidUtf8 at) ≡ string s at size rest
+  string-is rest =
+      let formed : t ≡ wellFormed (contents s at size) = is ∙ ap wellFormed (part s at size) in
+      rw formed (field-in s at size _ here)
+
+  pub string-bad : t ≡ false → Judges s (at + size) (string s at size) (judged.Refused invalidUtf8 at)
+  string-bad no-form = record { within = tt; exact = λ rest. rw no-form at (string-is rest) }
+
+  pub string-in : t ≡ true → Judges s (at + size) (string s at size) judged.Fine
+  string-in form = record { within = here; exact = λ rest. rw form at (string-is rest) }
+
+-- Contents behind a length.
 module _ {s : List ℕ} {at size : ℕ} (fine : Passed s (at + 4) (size32 s at)) (is : size ≡ le32 s at) where
   pub bytes-cut : length s < at + 4 + size → Reads s (contains letter.bytes) at (behind.Refused dataTooShort (at + 4))
   unfolding fieldsOf contained
@@ -99,6 +125,27 @@ module _ {s : List ℕ} {at size : ℕ} (fine : Passed s (at + 4) (size32 s at))
         ahead = (omega arith, h);
         exact = rw is (field-in s (at + 4) (le32 s at) _ (rw is at h) ∙ fine .exact _);
       }
+
+  pub text-bad : {number place : ℕ} → ((rest : Answer Fields) → stops number place ≡ string s (at + 4) size rest)
+      → Reads s (contains letter.text) at (behind.Refused number place)
+  unfolding fieldsOf contained
+  text-bad bad = record { ahead = tt; exact = (rw is at (bad (span (at + 4) size (items 0)))) ∙ fine .exact _ }
+
+  pub text-in : Passed s (at + 4 + size) (string s (at + 4) size) → Reads s (contains letter.text) at (behind.Span (at + 4) size (kids.Items 0))
+  unfolding fieldsOf contained
+  text-in good =
+      record { ahead = (omega arith, good .within); exact = rw is ((rw is at (good .exact (span (at + 4) size (items 0)))) ∙ fine .exact _) }
+
+module _ {s : List ℕ} {at size : ℕ} (here : at + 1 ≤ length s) (is : size ≡ getD s at 0) where
+  pub short-bad : {number place : ℕ} → ((rest : Answer Fields) → stops number place ≡ string s (at + 1) size rest)
+      → Reads s (contains letter.short) at (behind.Refused number place)
+  unfolding fieldsOf contained
+  short-bad bad = record { ahead = tt; exact = (rw is at (bad (span (at + 1) size (items 0)))) ∙ field-in s at 1 _ here }
+
+  pub short-in : Passed s (at + 1 + size) (string s (at + 1) size) → Reads s (contains letter.short) at (behind.Span (at + 1) size (kids.Items 0))
+  unfolding fieldsOf contained
+  short-in good =
+      record { ahead = (omega arith, good .within); exact = rw is ((rw is at (good .exact (span (at + 1) size (items 0)))) ∙ field-in s at 1 _ here) }
 
 -- The digits, one after another.
 pub digit : (s : List ℕ) (left at : ℕ) (rest : Answer Fields) → 0 < left
@@ -174,3 +221,11 @@ module _ {s : List ℕ} {at count : ℕ} (here : at + 4 ≤ length s) (is : coun
     unfolding pylong
     long-in good =
         record { ahead = (omega arith, omega (arith, fine .within)); exact = good .exact _ ∙ fine .exact _ ∙ long-is s at count here is }
+
+-- The class is the one that its number names.
+pub of-class : {s : List ℕ} {at : ℕ} {class class′ : Class} {r : Behind} → class ≡ class′ → Reads s class′ at r → Reads s class at r
+of-class is reads = rw is reads
+
+-- a number that is none of those below
+pub above : (n x : ℕ) → n ≤ x → (x ≡ n → ⊥) → n + 1 ≤ x
+above n x le apart = ⊎-elim (λ same. absurd (apart (sym same))) (λ lt. omega arith) (eq-or-lt-of-le le)

@@ -4,7 +4,7 @@ ghost use mathlib.Core.Path.{_≡_};
 ghost use Prim.Native.Nat.{_+_, _*_, _≤_, _<_};
 ghost use lib.ListN.{length};
 ghost use Rattle.refusals.specs.Limits.{mostBytes};
-ghost use Rattle.grammar.specs.Letters.{classOf, keeps, contains, codes, fixed, double, long, bytes, sequence, few};
+ghost use Rattle.grammar.specs.Letters.{classOf, keeps, contains, codes, fixed, double, long, bytes, text, short, sequence, few};
 ghost use Rattle.grammar.specs.Fields;
 ghost use Rattle.fields.specs.Classes.{classAt, keptClasses};
 ghost use Rattle.fields.specs.Behind.{Reads, Judges};
@@ -232,6 +232,55 @@ fn read_bytes(s: &[u8], at: u32) -> Behind
     }
 }
 
+// So many bytes that are UTF-8 with surrogates allowed.
+fn read_wtf8(s: &[u8], at: u32, size: u32) -> Judged
+    requires { ⌜ (at ≤ length (now s)) × (length (now s) ≤ mostBytes) ⌝ }
+    ensures { λ r. ⌜ Judges (now (s .entry)) (at + size) (Fields.string (now (s .entry)) at size) r ⌝ }
+{
+    let from = at as usize;
+    let count = size as usize;
+    if s.len() < from + count {
+        return Judged::Refused(refusals::DATA_TOO_SHORT, at);
+    }
+    if !wtf8::is_wtf8(&s[from..from + count]) {
+        return Judged::Refused(refusals::INVALID_UTF8, at);
+    }
+    Judged::Fine
+}
+
+// A length, and a string of so many bytes.
+fn read_text(s: &[u8], at: u32) -> Behind
+    requires { ⌜ (at ≤ length (now s)) × (length (now s) ≤ mostBytes) ⌝ }
+    ensures { λ r. ⌜ Reads (now (s .entry)) (contains text) at r ⌝ }
+{
+    match read_len(s, at) {
+        Judged::Refused(number, place) => Behind::Refused(number, place),
+        Judged::Fine => {
+            let size = le32(s, at as usize);
+            match read_wtf8(s, at + 4, size) {
+                Judged::Refused(number, place) => Behind::Refused(number, place),
+                Judged::Fine => Behind::Span(at + 4, size, Kids::Items(0)),
+            }
+        }
+    }
+}
+
+// A one-byte length, and a string of so many bytes.
+fn read_short(s: &[u8], at: u32) -> Behind
+    requires { ⌜ (at ≤ length (now s)) × (length (now s) ≤ mostBytes) ⌝ }
+    ensures { λ r. ⌜ Reads (now (s .entry)) (contains short) at r ⌝ }
+{
+    let p = at as usize;
+    if s.len() < p + 1 {
+        return Behind::Refused(refusals::DATA_TOO_SHORT, at);
+    }
+    let size = word(s[p]);
+    match read_wtf8(s, at + 1, size) {
+        Judged::Refused(number, place) => Behind::Refused(number, place),
+        Judged::Fine => Behind::Span(at + 1, size, Kids::Items(0)),
+    }
+}
+
 // How many digits a signed count stands for: its sign is the number's.
 pub fn digit_count(count: u32) -> u32
     ensures { λ r. ⌜ (r ≡ Fields.digitCount count) × (r ≤ 2147483648) ⌝ }
@@ -308,4 +357,26 @@ fn read_numbers(s: &[u8], at: u32) -> Behind
         return Behind::Refused(refusals::DATA_TOO_SHORT, at + 4 * whole as u32);
     }
     Behind::Span(at, 20, Kids::Parts)
+}
+
+// The fields behind the header of a node, from the byte after it on.
+pub fn read_fields(s: &[u8], class: u32, at: u32) -> Behind
+    requires { ⌜ (class < keptClasses) × (at ≤ length (now s)) × (length (now s) ≤ mostBytes) ⌝ }
+    ensures { λ r. ⌜ Reads (now (s .entry)) (classAt class) at r ⌝ }
+{
+    match class {
+        SINGLE => Behind::Span(at, 0, Kids::Items(0)),
+        FIXED4 => read_fixed(s, at, 4),
+        FIXED8 => read_fixed(s, at, 8),
+        DOUBLE => read_double(s, at),
+        LONG => read_pylong(s, at),
+        BYTES => read_bytes(s, at),
+        TEXT => read_text(s, at),
+        SHORT => read_short(s, at),
+        SEQUENCE => read_sequence(s, at),
+        FEW => read_few(s, at),
+        SLICE => Behind::Span(at, 0, Kids::Items(3)),
+        DICT => Behind::Span(at, 0, Kids::Pairs),
+        _ => read_numbers(s, at),
+    }
 }
