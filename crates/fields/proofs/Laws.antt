@@ -24,15 +24,31 @@ use Rattle.fields.specs.declared.Kids.the-variants as kids
 use Rattle.fields.specs.declared.Judged.{Judged}
 use Rattle.fields.specs.declared.Judged.the-variants as judged
 
--- the letter is none of these
-abbrev pub Absent : ℕ → List (ℕ × Class) → Type 0
-Absent letter [] = Unit
-Absent letter (l ∷ ls) = (letter ≡ l .0 → ⊥) × Absent letter ls
+-- The letter is none of these: as a `match` with an arm for each tells it, one fact after another.
+abbrev pub Absent : Type 0 → ℕ → List (ℕ × Class) → Type 0
+Absent Before letter [] = Before
+Absent Before letter (l ∷ ls) = Absent (Before × (letter ≡ l .0 → ⊥)) letter ls
 
-pub absent : (letter : ℕ) (ls : List (ℕ × Class)) → Absent letter ls → found letter ls ≡ refuses unknownType
+before : {Before : Type 0} (letter : ℕ) (ls : List (ℕ × Class)) → Absent Before letter ls → Before
+before letter [] told = told
+before letter (l ∷ ls) told = before letter ls told .0
+
+pub absent : (Before : Type 0) (letter : ℕ) (ls : List (ℕ × Class)) → Absent Before letter ls → found letter ls ≡ refuses unknownType
 unfolding found
-absent letter [] a = refl
-absent letter (l ∷ ls) a = rw (ne-eqb letter (l .0) (a .0)) (absent letter ls (a .1))
+absent Before letter [] told = refl
+absent Before letter (l ∷ ls) told =
+    rw (ne-eqb letter (l .0) (before letter ls told .1)) (absent (Before × (letter ≡ l .0 → ⊥)) letter ls told)
+
+-- The number is none of the first so many: told in the same way.
+abbrev pub Avoids : ℕ → ℕ → Type 0
+Avoids x zero = Unit
+Avoids x (suc k) = Avoids x k × (x ≡ k → ⊥)
+
+pub avoids : (x k : ℕ) → Avoids x k → k ≤ x
+avoids x zero told = omega arith
+avoids x (suc k) told =
+    let so-far : k ≤ x = avoids x k (told .0) in
+    ⊎-elim (λ same. absurd (told .1 (sym same))) (λ less. omega arith) (eq-or-lt-of-le so-far)
 
 -- A test that was passed leaves the rest; one that was not, its refusal.
 pub record Passed (s : List ℕ) (end : ℕ) (test : Answer Fields → Answer Fields) : Type 0 where
@@ -225,7 +241,3 @@ module _ {s : List ℕ} {at count : ℕ} (here : at + 4 ≤ length s) (is : coun
 -- The class is the one that its number names.
 pub of-class : {s : List ℕ} {at : ℕ} {class class′ : Class} {r : Behind} → class ≡ class′ → Reads s class′ at r → Reads s class at r
 of-class is reads = rw is reads
-
--- a number that is none of those below
-pub above : (n x : ℕ) → n ≤ x → (x ≡ n → ⊥) → n + 1 ≤ x
-above n x le apart = ⊎-elim (λ same. absurd (apart (sym same))) (λ lt. omega arith) (eq-or-lt-of-le le)

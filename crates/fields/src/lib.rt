@@ -39,19 +39,19 @@ pub const DOUBLE: u32 = 3;
 
 pub const LONG: u32 = 4;
 
-pub const BYTES: u32 = 5;
+pub const SEQUENCE: u32 = 5;
 
-pub const TEXT: u32 = 6;
+pub const FEW: u32 = 6;
 
-pub const SHORT: u32 = 7;
+pub const SLICE: u32 = 7;
 
-pub const SEQUENCE: u32 = 8;
+pub const DICT: u32 = 8;
 
-pub const FEW: u32 = 9;
+pub const BYTES: u32 = 9;
 
-pub const SLICE: u32 = 10;
+pub const TEXT: u32 = 10;
 
-pub const DICT: u32 = 11;
+pub const SHORT: u32 = 11;
 
 pub const CODE: u32 = 12;
 
@@ -370,13 +370,13 @@ pub fn read_fields(s: &[u8], class: u32, at: u32) -> Behind
         FIXED8 => read_fixed(s, at, 8),
         DOUBLE => read_double(s, at),
         LONG => read_pylong(s, at),
-        BYTES => read_bytes(s, at),
-        TEXT => read_text(s, at),
-        SHORT => read_short(s, at),
         SEQUENCE => read_sequence(s, at),
         FEW => read_few(s, at),
         SLICE => Behind::Span(at, 0, Kids::Items(3)),
         DICT => Behind::Span(at, 0, Kids::Pairs),
+        BYTES => read_bytes(s, at),
+        TEXT => read_text(s, at),
+        SHORT => read_short(s, at),
         _ => read_numbers(s, at),
     }
 }

@@ -6,7 +6,7 @@ use Prim.Native.Nat.{_≤_}
 use Rattle.grammar.specs.Fields.{fields}
 use Rattle.fields.specs.Behind.{fieldsOf}
 use Rattle.fields.specs.Classes.{classes, classAt}
-use Rattle.fields.proofs.Laws.{of-class, above}
+use Rattle.fields.proofs.Laws.{of-class, avoids}
 use native.Mathlib.Omega.{arith}
 use Rattle.fields.proofs.read_fields.Statement.{statement}
 use Rattle.fields.proofs.read_fields.Tie as tie
@@ -23,6 +23,12 @@ read-double-requires c κs = search needs
 read-pylong-requires : tie.Need-read-pylong-requires
 read-pylong-requires c κs = search needs
 
+read-sequence-requires : tie.Need-read-sequence-requires
+read-sequence-requires c κs = search needs
+
+read-few-requires : tie.Need-read-few-requires
+read-few-requires c κs = search needs
+
 read-bytes-requires : tie.Need-read-bytes-requires
 read-bytes-requires c κs = search needs
 
@@ -31,12 +37,6 @@ read-text-requires c κs = search needs
 
 read-short-requires : tie.Need-read-short-requires
 read-short-requires c κs = search needs
-
-read-sequence-requires : tie.Need-read-sequence-requires
-read-sequence-requires c κs = search needs
-
-read-few-requires : tie.Need-read-few-requires
-read-few-requires c κs = search needs
 
 read-numbers-requires : tie.Need-read-numbers-requires
 read-numbers-requires c κs = search needs
@@ -63,35 +63,35 @@ returns-5 c = of-class (ap classAt (c .before .match .keys5)) (c .read-pylong .e
 
 returns-6 : tie.Need-returns-6
 unfolding classes classAt
-returns-6 c = of-class (ap classAt (c .before .match .keys6)) (c .read-bytes .ensures)
+returns-6 c = of-class (ap classAt (c .before .match .keys6)) (c .read-sequence .ensures)
 
 returns-7 : tie.Need-returns-7
 unfolding classes classAt
-returns-7 c = of-class (ap classAt (c .before .match .keys7)) (c .read-text .ensures)
+returns-7 c = of-class (ap classAt (c .before .match .keys7)) (c .read-few .ensures)
 
 returns-8 : tie.Need-returns-8
-unfolding classes classAt
-returns-8 c = of-class (ap classAt (c .before .match .keys8)) (c .read-short .ensures)
+unfolding classes classAt fieldsOf fields
+returns-8 c = of-class (ap classAt (c .match .keys8)) (record { ahead = (search needs, search needs); exact = refl })
 
 returns-9 : tie.Need-returns-9
-unfolding classes classAt
-returns-9 c = of-class (ap classAt (c .before .match .keys9)) (c .read-sequence .ensures)
+unfolding classes classAt fieldsOf fields
+returns-9 c = of-class (ap classAt (c .match .keys9)) (record { ahead = (search needs, search needs); exact = refl })
 
 returns-10 : tie.Need-returns-10
 unfolding classes classAt
-returns-10 c = of-class (ap classAt (c .before .match .keys10)) (c .read-few .ensures)
+returns-10 c = of-class (ap classAt (c .before .match .keys10)) (c .read-bytes .ensures)
 
 returns-11 : tie.Need-returns-11
-unfolding classes classAt fieldsOf fields
-returns-11 c = of-class (ap classAt (c .match .keys11)) (record { ahead = (search needs, search needs); exact = refl })
+unfolding classes classAt
+returns-11 c = of-class (ap classAt (c .before .match .keys11)) (c .read-text .ensures)
 
 returns-12 : tie.Need-returns-12
-unfolding classes classAt fieldsOf fields
-returns-12 c = of-class (ap classAt (c .match .keys12)) (record { ahead = (search needs, search needs); exact = refl })
+unfolding classes classAt
+returns-12 c = of-class (ap classAt (c .before .match .keys12)) (c .read-short .ensures)
 
 returns-13 : tie.Need-returns-13
 unfolding classes classAt
-returns-13 c = let class = c .before .before .before .args .class in let rest = c .before .match .rest in let over : 12 ≤ class = above 11 class (above 10 class (above 9 class (above 8 class (above 7 class (above 6 class (above 5 class (above 4 class (above 3 class (above 2 class (above 1 class (above 0 class (search needs) (rest .0 .0 .0 .0 .0 .0 .0 .0 .0 .0 .0 .1)) (rest .0 .0 .0 .0 .0 .0 .0 .0 .0 .0 .1)) (rest .0 .0 .0 .0 .0 .0 .0 .0 .0 .1)) (rest .0 .0 .0 .0 .0 .0 .0 .0 .1)) (rest .0 .0 .0 .0 .0 .0 .0 .1)) (rest .0 .0 .0 .0 .0 .0 .1)) (rest .0 .0 .0 .0 .0 .1)) (rest .0 .0 .0 .0 .1)) (rest .0 .0 .0 .1)) (rest .0 .0 .1)) (rest .0 .1)) (rest .1) in let last : class ≡ 12 = omega (arith, over, c .before .before .before .pre .0) in of-class (ap classAt last) (c .read-numbers .ensures)
+returns-13 c = let class = c .before .before .before .args .class in let over : 12 ≤ class = avoids class 12 (c .before .match .rest) in let last : class ≡ 12 = omega (arith, over, c .before .before .before .pre .0) in of-class (ap classAt last) (c .read-numbers .ensures)
 
 pub read-fields-spec : {M : Type 1} → statement M
 read-fields-spec =
@@ -101,11 +101,11 @@ read-fields-spec =
     read-fixed-requires-2
     read-double-requires
     read-pylong-requires
+    read-sequence-requires
+    read-few-requires
     read-bytes-requires
     read-text-requires
     read-short-requires
-    read-sequence-requires
-    read-few-requires
     read-numbers-requires
     returns
     returns-2
