@@ -1,38 +1,35 @@
+-- `records::sound` meets its contract: the span, then the rules of the letter's class.
+-- Assumes nothing.
 use borrow.Author.Needs.{needs}
+use mathlib.Core.Path.{ap, _∙_}
+use borrow.Author.Tests.{lt-leb, le-leb}
+use Rattle.grammar.specs.Record as definition
+use Rattle.records.specs.Nodes.{nodeOf}
 use Rattle.records.proofs.sound.Statement.{statement}
 use Rattle.records.proofs.sound.Tie as tie
-use Rattle.records.proofs.sound.Reads as reads
-use Rattle.records.proofs.sound.Lts as lts
-use Rattle.fields.proofs.class_of.Reads as class-of-reads
-use Rattle.records.proofs.ruled.Reads as ruled-reads
 
--- src/lib.rt:153:18
 cast-if1 : tie.Need-cast-if1
 cast-if1 c = search needs
 
--- src/lib.rt:153:40
 cast-if1-2 : tie.Need-cast-if1-2
 cast-if1-2 c = search needs
 
--- src/lib.rt:153:18
 add-if1 : tie.Need-add-if1
 add-if1 c = search needs
 
--- src/lib.rt:154:9
 returns : tie.Need-returns
-returns c = search needs
+unfolding definition.sound
+returns c = rw (lt-leb _ _ (c .if1 .taken))
 
--- src/lib.rt:156:20
 class-of-requires : tie.Need-class-of-requires
 class-of-requires c κs = search needs
 
--- src/lib.rt:156:5
 ruled-requires : tie.Need-ruled-requires
 ruled-requires c κs = search needs
 
--- src/lib.rt:149:1
 returns-2 : tie.Need-returns-2
-returns-2 c = search needs
+unfolding definition.sound
+returns-2 c = let a = c .before .before .before .before .before .before .args in rw (le-leb _ _ (c .before .before .if1 .left)) (c .ruled .ensures ∙ ap (definition.ruled (a .s .now) (nodeOf (a .node))) (c .before .class-of .ensures))
 
 pub sound-spec : {M : Type 1} → statement M
 sound-spec =
