@@ -32,7 +32,7 @@ fn clear_from(records: &mut [u32], from: usize)
 }
 
 // A refusal leaves the whole store zero.
-fn refuse(records: &mut [u32], number: u32, place: u32) -> Located
+pub fn refuse(records: &mut [u32], number: u32, place: u32) -> Located
     ensures { λ r. ⌜ (r ≡ Located.Refused number place) × (now (records .exit) ≡ zeros (length (now (records .entry)))) ⌝ }
 {
     clear_from(records, 0);
