@@ -1,0 +1,65 @@
+-- The number that digits stand for, counted from the last digit down: `topped` has a number above the digits that are left.
+-- Assumes nothing.
+use mathlib.Core.Path.{_≡_, refl, sym, ap, _∙_}
+use Prim.Native.Nat.{ℕ, zero, suc, _+_, _-_, _*_, _≤_, _<_}
+use mathlib.Core.List.{List}
+use native.Mathlib.Omega.{arith}
+use lib.ListN.{length}
+use Rattle.grammar.specs.Fields.{le16}
+use Rattle.grammar.specs.Leaf.{magnitude}
+
+unfoldable pub topped : List ℕ → ℕ → ℕ → ℕ → ℕ
+topped s zero at top = top
+topped s (suc more) at top = le16 s at + 32768 * topped s more (at + 2) top
+
+-- nothing above
+untopped : (s : List ℕ) (count at : ℕ) → topped s count at 0 ≡ magnitude s count at
+unfolding topped magnitude
+untopped s zero at = refl
+untopped s (suc more) at = ap (λ n. le16 s at + 32768 * n) (untopped s more (at + 2))
+
+-- the last digit goes over to what is above
+last-over : (s : List ℕ) (more at top : ℕ) → topped s (suc more) at top ≡ topped s more at (le16 s (at + 2 * more) + 32768 * top)
+unfolding topped
+last-over s zero at top = let here : at + 2 * 0 ≡ at = omega arith in rw here
+last-over s (suc more) at top =
+    let there : at + 2 * suc more ≡ at + 2 + 2 * more = omega arith in
+    rw there (ap (λ n. le16 s at + 32768 * n) (last-over s more (at + 2) top))
+
+top-below : (s : List ℕ) (count at top : ℕ) → top ≤ topped s count at top
+unfolding topped
+top-below s zero at top = omega arith
+top-below s (suc more) at top = omega (arith, top-below s more (at + 2) top)
+
+-- a digit that is not zero makes the number so
+pub nonzero : (s : List ℕ) (more at : ℕ) → 0 < le16 s (at + 2 * more) → 0 < magnitude s (suc more) at
+nonzero s more at h =
+    rw (sym (untopped s (suc more) at), last-over s more at 0) (omega (arith, top-below s more at (le16 s (at + 2 * more) + 32768 * 0)))
+
+-- The digits counted so far stand above those that are left.
+pub record Counting (s : List ℕ) (count at left number : ℕ) : Type 0 where
+  pub fewer : left ≤ count
+  pub comes : topped s left at number ≡ magnitude s count at
+
+pub counting : (s : List ℕ) (count at : ℕ) → Counting s count at count 0
+counting s count at = record { fewer = omega arith; comes = untopped s count at }
+
+module _ {s : List ℕ} {count at left number : ℕ} (so : Counting s count at left number) where
+  pub counted-all : left ≤ 0 → number ≡ magnitude s count at
+  unfolding topped
+  counted-all h = let none : left ≡ 0 = omega arith in rw none at (so .comes)
+
+  pub one-more : {d : ℕ} → 0 < left → d ≡ le16 s (at + 2 * (left - 1)) → Counting s count at (left - 1) (d + 32768 * number)
+  one-more {d} h is =
+      let back : suc (left - 1) ≡ left = omega arith in
+      record {
+        fewer = omega (arith, so .fewer);
+        comes = rw is (sym (last-over s (left - 1) at number) ∙ ap (λ k. topped s k at number) back ∙ so .comes);
+      }
+
+  pub beyond : 0 < left → 281474976710656 < number → 9223372036854775808 < magnitude s count at
+  unfolding topped
+  beyond h over =
+      let back : suc (left - 1) ≡ left = omega arith in
+      let top : number ≤ topped s (left - 1) (at + 2) number = top-below s (left - 1) (at + 2) number in
+      rw (sym (so .comes), sym back) (omega (arith, top, over))
