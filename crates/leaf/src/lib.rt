@@ -9,8 +9,9 @@ ghost use Rattle.refusals.specs.Limits.{mostBytes};
 ghost use Rattle.grammar.specs.Leaf as definition;
 ghost use Rattle.grammar.specs.Record;
 ghost use Rattle.records.specs.Nodes.{nodeOf};
+ghost use Rattle.records.specs.Held.{LongAt};
 ghost use Rattle.leaf.specs.Answers.{kindOf, plainly, toldOf, answeredOf};
-ghost use Rattle.leaf.specs.Longs.{Measures, LongAt};
+ghost use Rattle.leaf.specs.Longs.{Measures};
 
 // What a leaf is.
 pub enum Leaf {

@@ -1,53 +1,42 @@
+-- `leaf::long_leaf` meets its contract: the count, the magnitude, and then its sign.
+-- Assumes nothing.
 use borrow.Author.Needs.{needs}
+use mathlib.Core.Path.{ap, _∙_}
+use Rattle.leaf.specs.Answers.{toldOf}
+use Rattle.leaf.proofs.Digits.{counts, long-above, long-measured, negative-some}
+use native.Mathlib.Omega.{arith}
 use Rattle.leaf.proofs.long_leaf.Statement.{statement}
 use Rattle.leaf.proofs.long_leaf.Tie as tie
-use Rattle.leaf.proofs.long_leaf.Reads as reads
-use Rattle.leaf.proofs.long_leaf.Lts as lts
-use Rattle.fields.proofs.digit_count.Reads as digit-count-reads
-use Rattle.fields.proofs.le32.Reads as le32-reads
-use Rattle.leaf.proofs.long_of.Reads as long-of-reads
-use Rattle.leaf.proofs.magnitude.Reads as magnitude-reads
-use Rattle.leaf.proofs.plain.Reads as plain-reads
 
--- src/lib.rt:184:9
 le32-requires : tie.Need-le32-requires
 le32-requires c κs = search needs
 
--- src/lib.rt:185:24
 digit-count-requires : tie.Need-digit-count-requires
 digit-count-requires c κs = search needs
 
--- src/lib.rt:185:51
 add-magnitude : tie.Need-add-magnitude
 add-magnitude c = search needs
 
--- src/lib.rt:185:11
 magnitude-requires : tie.Need-magnitude-requires
-magnitude-requires c κs = search needs
+magnitude-requires c κs = let pre = c .before .before .before .pre in (omega (arith, counts (c .before .before .before .args .s .now) (c .before .before .before .args .place) (c .before .le32 .result) (c .digit-count .result) (c .before .le32 .ensures) (c .digit-count .ensures .0), pre .0 .digits), pre .1)
 
--- src/lib.rt:186:34
 enum-told : tie.Need-enum-told
 enum-told c = search needs
 
--- src/lib.rt:186:28
 plain-requires : tie.Need-plain-requires
 plain-requires c κs = search needs
 
--- src/lib.rt:187:22
 enum-known-number : tie.Need-enum-known-number
 enum-known-number c = search needs
 
--- src/lib.rt:187:33
 long-of-requires : tie.Need-long-of-requires
-long-of-requires c κs = search needs
+long-of-requires c κs = λ negative. negative-some (c .before .before .before .before .before .before .before .args .s .now) (c .before .before .before .before .before .before .before .args .place) (c .before .before .before .before .before .le32 .result) (c .before .before .before .before .digit-count .result) (c .before .before .before .before .before .le32 .ensures) (c .before .before .before .before .digit-count .ensures .0) (c .before .before .before .magnitude .ensures) (c .before .number .given .1) (c .before .before .before .before .before .before .before .pre .0) (search needs) negative
 
--- src/lib.rt:180:1
 returns : tie.Need-returns
-returns c = search needs
+returns c = c .plain .ensures ∙ ap toldOf (long-above (c .before .before .before .before .before .before .before .args .s .now) (c .before .before .before .before .before .before .before .args .place) (c .before .before .before .before .before .le32 .result) (c .before .before .before .before .digit-count .result) (c .before .before .before .before .before .le32 .ensures) (c .before .before .before .before .digit-count .ensures .0) (c .before .before .before .magnitude .ensures) (c .before .enum-told .given .1))
 
--- src/lib.rt:180:1
 returns-2 : tie.Need-returns-2
-returns-2 c = search needs
+returns-2 c = c .long-of .ensures ∙ ap toldOf (long-measured (c .before .before .before .before .before .before .before .before .args .s .now) (c .before .before .before .before .before .before .before .before .args .place) (c .before .before .before .before .before .before .le32 .result) (c .before .before .before .before .before .digit-count .result) (c .before .before .before .before .before .before .le32 .ensures) (c .before .before .before .before .before .digit-count .ensures .0) (c .before .before .before .before .magnitude .ensures) (c .before .before .number .given .1))
 
 pub long-leaf-spec : {M : Type 1} → statement M
 long-leaf-spec =
