@@ -115,9 +115,25 @@ fn varint_within(table: &[u8], at: usize, most: usize) -> Varint
     }
 }
 
+// Most numbers are one byte, which is answered here.
 pub fn lt_read_varint(table: &[u8], at: usize) -> Varint
     ensures { λ r. ⌜ r ≡ varintAt (now (table .entry)) at ⌝ }
 {
+    if table.len() <= at {
+        return Varint::Value {
+            value: 0,
+            next: at,
+            missing: true,
+        };
+    }
+    let b = wide(table[at]);
+    if b % 128 < 64 {
+        return Varint::Value {
+            value: (b % 64) as u32,
+            next: at + 1,
+            missing: false,
+        };
+    }
     varint_within(table, at, 6)
 }
 
