@@ -2,7 +2,7 @@
 -- so that every one is a number below 2^32 and 0 is kept as 2^31.
 use mathlib.Core.Bool.{cond}
 use Prim.Native.Nat.{ℕ, _+_, _-_, max}
-use lib.Dec.{leb, ltb}
+use lib.Dec.{ltb}
 use Rattle.lineentry.specs.declared.Moved.{Moved}
 use Rattle.lineentry.specs.declared.Moved.the-variants.{To, Outside}
 

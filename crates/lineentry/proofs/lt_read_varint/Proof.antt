@@ -23,7 +23,7 @@ add-t11 : tie.Need-add-t11
 add-t11 c = search needs
 
 returns-2 : tie.Need-returns-2
-returns-2 c = 
+returns-2 c =
     let a = c .before .before .before .before .before .args in
     let e = c .before .wide .ensures .0 in
     rw e (sym (varint-last 6 (a .table .now) (a .at) (omega arith) (omega arith) (omega (arith, e))))
