@@ -13,7 +13,7 @@ use Rattle.lineentry.specs.declared.Location.{Location}
 use Rattle.lineentry.specs.declared.Entry.{Entry}
 use Rattle.lineentry.specs.declared.Entry.the-variants.{Covers, Stop, OutOfRange}
 use Rattle.lineentry.specs.Varint.{byteAt, varintAt, signedAt}
-use Rattle.lineentry.specs.Line.{asSigned, moved, shown}
+use Rattle.lineentry.specs.Line.{origin, asSigned, moved, shown}
 
 abbrev pub location : ℕ → ℕ → ℕ → ℕ → Location
 location line column endLine endColumn = record { line = line; column = column; «end_line» = endLine; «end_column» = endColumn }
@@ -49,7 +49,7 @@ shortForm s line code n p =
 -- "10 to 12: line + (code - 10), two column bytes."
 unfoldable pub oneLine : List ℕ → ℕ → ℕ → ℕ → ℕ → Entry
 oneLine s line code n p =
-    withLine (moved line (2147483648 + (code - 10))) λ to.
+    withLine (moved line (origin + (code - 10))) λ to.
     covers n to
     (location (shown to) (byteAt s p .value + 1) (shown to) (byteAt s (byteAt s p .next) .value + 1))
     (byteAt s (byteAt s p .next) .next) (byteAt s (byteAt s p .next) .missing)

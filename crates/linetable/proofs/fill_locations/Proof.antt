@@ -176,11 +176,8 @@ module _ {M : Type 1} (𝓤 : URA M) (H : Heap 𝓤) (A : Atoms 𝓤) (W : Given
     abbrev Below : ℕ → SProp 𝓤
     Below t = ex 𝓤 (λ (t′ : ℕ). guard 𝓤 (t′ < t) (Inv t′))
 
-    abbrev rest : Body
-    rest = body.t-3
-
     abbrev Left : Out → SProp 𝓤
-    Left = afterBlock 𝓤 H (afterSeq 𝓤 H (Wp 𝓤 H C Λ En rest (atReturn 𝓤 H En Post)) (atReturn 𝓤 H En Post))
+    Left = afterBlock 𝓤 H (afterSeq 𝓤 H (Wp 𝓤 H C Λ En body.t-3 (atReturn 𝓤 H En Post)) (atReturn 𝓤 H En Post))
 
     -- a turn that stores one location
     more : (i : ℕ) (X : SProp 𝓤) → i < n → ent 𝓤 (⋆ 𝓤 H A (At (suc i))) X → ent 𝓤 (⋆ 𝓤 H A (At i)) (Wp 𝓤 H C Λ En body.turn-1 (afterTurn 𝓤 H X Left))
@@ -233,7 +230,7 @@ module _ {M : Type 1} (𝓤 : URA M) (H : Heap 𝓤) (A : Atoms 𝓤) (W : Given
         assigns ! (of-opd ! (load ! (from ! (fld ! refl (stop !))) (look-in ! 6 (sub ! 1 refl (whole !))))) (from ! (stop !)) (init ! 3 refl (tt, record { fits = room .0 })) $
         assigns ! (bin ! (load ! (from ! (stop !)) (look ! 1 refl)) (load ! (from ! (stop !)) (look ! 3 refl)) tt) (from ! (stop !)) (init ! 4 refl (tt, tt)) $
         rewrite ! 4 (λ (t : Bool). ‵ (fat fullShare tyBool l₆ 0 (vbool t))) (le-ltb n n (omega arith)) refl $
-        leaves-loop ! (load ! (from ! (stop !)) (look ! 4 refl)) $ exec ! C Λ En rest (atRet En Post) $
+        leaves-loop ! (load ! (from ! (stop !)) (look ! 4 refl)) $ exec ! C Λ En body.t-3 (atRet En Post) $
         assigns ! (of-opd ! (unit-lit !)) (from ! (stop !)) (init ! 8 refl (tt, tt)) $
         move ! (0 ∷ 9 ∷ 10 ∷ 11 ∷ []) $ closes-slice ! tt T.the-row ys zs (length-filled fs n ys) b o $
         -- [obs; the borrow; its token; _3; _4; _5; _6; _7; _1; _2; _0; what flat owns; its token; and that each local dies]
