@@ -1,3 +1,4 @@
 pub mod Varints
 pub mod Locals
 pub mod Locations
+pub mod Leaves

@@ -30,7 +30,7 @@ pub extern "C" fn sill_locate(
     located_numbers(answer)
 }
 
-fn located_numbers(answer: Located) -> SillLocated
+pub fn located_numbers(answer: Located) -> SillLocated
     ensures { λ r. ⌜ r ≡ locatedStruct answer ⌝ }
 {
     match answer {
