@@ -39,12 +39,12 @@ abbrev pub Leafs : List ℕ → ℕ → ℕ → Leaf → Type 0
 Leafs s used n l = leafOf s (at20 s 2000 .nodes) used n ≡ gives l
 
 pub sheets :
-  -- P1 `4E`: none, consumed 1, one node
-  (Reads (0x4E ∷ []) 2000 (counts 1 1 0 0) (0x4E ∷ 1 ∷ 0 ∷ nothing ∷ 0 ∷ []) [] []
-  × Leafs (0x4E ∷ []) 1 0 nothingness)
-  -- P2 empty: 1 at 0
-  × Refuses [] 2000 eofObject 0
-  -- P3 `30`: 4 at 0
-  × Refuses (0x30 ∷ []) 2000 nullObject 0
+    -- P1 `4E`: none, consumed 1, one node
+    (Reads (0x4E ∷ []) 2000 (counts 1 1 0 0) (0x4E ∷ 1 ∷ 0 ∷ nothing ∷ 0 ∷ []) [] []
+    × Leafs (0x4E ∷ []) 1 0 nothingness)
+    -- P2 empty: 1 at 0
+    × Refuses [] 2000 eofObject 0
+    -- P3 `30`: 4 at 0
+    × Refuses (0x30 ∷ []) 2000 nullObject 0
 unfolding bind run letters found classOf digits pylong numbers fields contained codeFields reference header front attach strings suits child kids couples rules firstLine partsFrom ended body enter close after one value plain reading readOf sound soundAt magnitude leafAs leafOf padded
 sheets = ((refl, refl), refl, refl)
