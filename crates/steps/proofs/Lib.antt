@@ -1,3 +1,4 @@
 pub mod Runs
 pub mod Letters
 pub mod Links
+pub mod States
