@@ -47,3 +47,10 @@ pub run-reads : {A : Type 0} (R : Rooms) (a : Answer A) → run R (reads a) ≡ 
 unfolding run
 run-reads R (gives a) = refl
 run-reads R (stops n p) = refl
+
+-- one reading after another, whichever way they are grouped
+pub bind-assoc : {A B C : Type 0} (m : Reading A) (f : A → Reading B) (g : B → Reading C) → bind (bind m f) g ≡ bind m (λ a. bind (f a) g)
+unfolding bind
+bind-assoc (done a) f g = refl
+bind-assoc (refused n p) f g = refl
+bind-assoc (claim k n p m) f g = ap (claim k n p) (bind-assoc m f g)

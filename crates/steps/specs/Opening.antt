@@ -6,7 +6,9 @@ use lib.ListN.{length}
 use Rattle.grammar.specs.Reading.{Answer, gives, stops}
 use Rattle.grammar.specs.Room.{run}
 use Rattle.grammar.specs.Steps.{Front, known, opens, reference, front}
+use Rattle.grammar.specs.Fields.{parts, codeNumbers}
 use Rattle.fields.specs.Behind.{childrenOf}
+use Rattle.fields.specs.declared.Kids.{Kids}
 use Rattle.steps.specs.declared.Room.{Room}
 use Rattle.steps.specs.declared.Walk.{Walk}
 use Rattle.steps.specs.declared.Head.{Head}
@@ -31,17 +33,18 @@ pub record References (s slots : List ℕ) (at : ℕ) (r : Opened) : Type 0 wher
   pub exact : frontOf r ≡ reference s slots at
 
 -- What a caller of `front` goes on with: the head lies in the input, and there is room for the node and for its slot.
-pub record HeadIn (s : List ℕ) (room : Room) (allowance : ℕ) (w : Walk) (h : Head) : Type 0 where
+pub record HeadIn (s : List ℕ) (room : Room) (allowance : ℕ) (w : Walk) (h : Head) (kids : Kids) : Type 0 where
   pub past : w .at + 1 ≤ h .place
   pub within : h .place + h .size ≤ length s
   pub flag : h .flag ≤ 1
   pub slot : w .slots + h .flag ≤ room .slots
   pub node : w .nodes < room .nodes
   pub level : 0 < allowance
+  pub code : childrenOf kids ≡ parts → (h .place ≡ w .at + 1) × (h .size ≡ codeNumbers) × (2 ≤ allowance)
 
 abbrev pub Ahead : List ℕ → Room → ℕ → Walk → Opened → Type 0
 Ahead s room allowance w (opened.Known v at) = (w .at + 1 ≤ at) × (at ≤ length s)
-Ahead s room allowance w (opened.Node h kids) = HeadIn s room allowance w h
+Ahead s room allowance w (opened.Node h kids) = HeadIn s room allowance w h kids
 Ahead s room allowance w (opened.Refused n p) = Unit
 
 -- At any depth, what `front` answers is what the definition gives where the levels are the depth and the allowance.

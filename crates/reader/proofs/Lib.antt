@@ -1,0 +1,5 @@
+pub mod Chains
+pub mod Values
+pub mod Children
+pub mod Loops
+pub mod Codes
