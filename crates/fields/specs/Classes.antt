@@ -1,5 +1,6 @@
 -- The classes of letters by number, so that a header's class can be carried, and later looked up, as a number.
--- Numbers 0 to 12 are the classes that are kept, 13 is the reference, and 14 + n is refused with n.
+-- 0 to 8 are the forms whose place is the byte after the header, 9 to 11 those whose place is their contents, 12 is the code, 13 the
+-- reference, and 14 + n is refused with n.
 use Prim.Native.Nat.{ℕ, _-_}
 use mathlib.Core.List.{List, [], _∷_}
 use lib.ListN.{getD}
@@ -8,11 +9,14 @@ use Rattle.grammar.specs.Letters.{Class, refers, keeps, contains, codes, refuse
 unfoldable pub classes : List Class
 classes =
     keeps single ∷ keeps (fixed 4) ∷ keeps (fixed 8) ∷ keeps double ∷ keeps long
+    ∷ keeps sequence ∷ keeps few ∷ keeps slice ∷ keeps dict
     ∷ contains bytes ∷ contains text ∷ contains short
-    ∷ keeps sequence ∷ keeps few ∷ keeps slice ∷ keeps dict ∷ codes
-    ∷ refers ∷ []
+    ∷ codes ∷ refers ∷ []
 
--- the first class that is not kept, and the first that is refused
+-- how many classes have a form, how many are kept, and the first that is refused
+abbrev pub formClasses : ℕ
+formClasses = 9
+
 abbrev pub keptClasses : ℕ
 keptClasses = 13
 

@@ -39,19 +39,19 @@ pub const DOUBLE: u32 = 3;
 
 pub const LONG: u32 = 4;
 
-pub const BYTES: u32 = 5;
+pub const SEQUENCE: u32 = 5;
 
-pub const TEXT: u32 = 6;
+pub const FEW: u32 = 6;
 
-pub const SHORT: u32 = 7;
+pub const SLICE: u32 = 7;
 
-pub const SEQUENCE: u32 = 8;
+pub const DICT: u32 = 8;
 
-pub const FEW: u32 = 9;
+pub const BYTES: u32 = 9;
 
-pub const SLICE: u32 = 10;
+pub const TEXT: u32 = 10;
 
-pub const DICT: u32 = 11;
+pub const SHORT: u32 = 11;
 
 pub const CODE: u32 = 12;
 
@@ -155,7 +155,7 @@ fn read_fixed(s: &[u8], at: u32, size: u32) -> Behind
     requires { ⌜ (at ≤ length (now s)) × (length (now s) ≤ mostBytes) × (size ≤ mostBytes) ⌝ }
     ensures { λ r. ⌜ Reads (now (s .entry)) (keeps (fixed size)) at r ⌝ }
 {
-    if s.len() - (at as usize) < size as usize {
+    if s.len() < at as usize + size as usize {
         return Behind::Refused(refusals::DATA_TOO_SHORT, at);
     }
     Behind::Span(at, size, Kids::Items(0))
@@ -166,11 +166,11 @@ fn read_double(s: &[u8], at: u32) -> Behind
     requires { ⌜ (at ≤ length (now s)) × (length (now s) ≤ mostBytes) ⌝ }
     ensures { λ r. ⌜ Reads (now (s .entry)) (keeps double) at r ⌝ }
 {
-    let left = s.len() - (at as usize);
-    if left < 8 {
+    let p = at as usize;
+    if s.len() < p + 8 {
         return Behind::Refused(refusals::DATA_TOO_SHORT, at);
     }
-    if left < 16 {
+    if s.len() < p + 8 + 8 {
         return Behind::Refused(refusals::DATA_TOO_SHORT, at + 8);
     }
     Behind::Span(at, 16, Kids::Items(0))
@@ -182,7 +182,7 @@ fn read_len(s: &[u8], at: u32) -> Judged
     ensures { λ r. ⌜ Judges (now (s .entry)) (at + 4) (Fields.size32 (now (s .entry)) at) r ⌝ }
 {
     let p = at as usize;
-    if s.len() - p < 4 {
+    if s.len() < p + 4 {
         return Judged::Refused(refusals::DATA_TOO_SHORT, at);
     }
     if 0x8000_0000 <= le32(s, p) {
@@ -208,7 +208,7 @@ fn read_few(s: &[u8], at: u32) -> Behind
     ensures { λ r. ⌜ Reads (now (s .entry)) (keeps few) at r ⌝ }
 {
     let p = at as usize;
-    if s.len() <= p {
+    if s.len() < p + 1 {
         return Behind::Refused(refusals::DATA_TOO_SHORT, at);
     }
     Behind::Span(at, 1, Kids::Items(word(s[p])))
@@ -224,7 +224,7 @@ fn read_bytes(s: &[u8], at: u32) -> Behind
         Judged::Fine => {
             let p = at as usize;
             let size = le32(s, p);
-            if s.len() - p - 4 < size as usize {
+            if s.len() < p + 4 + size as usize {
                 return Behind::Refused(refusals::DATA_TOO_SHORT, at + 4);
             }
             Behind::Span(at + 4, size, Kids::Items(0))
@@ -234,12 +234,12 @@ fn read_bytes(s: &[u8], at: u32) -> Behind
 
 // So many bytes that are UTF-8 with surrogates allowed.
 fn read_wtf8(s: &[u8], at: u32, size: u32) -> Judged
-    requires { ⌜ (at ≤ length (now s)) × (length (now s) ≤ mostBytes) × (size < 2147483648) ⌝ }
+    requires { ⌜ (at ≤ length (now s)) × (length (now s) ≤ mostBytes) ⌝ }
     ensures { λ r. ⌜ Judges (now (s .entry)) (at + size) (Fields.string (now (s .entry)) at size) r ⌝ }
 {
     let from = at as usize;
     let count = size as usize;
-    if s.len() - from < count {
+    if s.len() < from + count {
         return Judged::Refused(refusals::DATA_TOO_SHORT, at);
     }
     if !wtf8::is_wtf8(&s[from..from + count]) {
@@ -271,7 +271,7 @@ fn read_short(s: &[u8], at: u32) -> Behind
     ensures { λ r. ⌜ Reads (now (s .entry)) (contains short) at r ⌝ }
 {
     let p = at as usize;
-    if s.len() <= p {
+    if s.len() < p + 1 {
         return Behind::Refused(refusals::DATA_TOO_SHORT, at);
     }
     let size = word(s[p]);
@@ -301,7 +301,7 @@ fn read_digits(s: &[u8], count: u32, at: u32) -> Judged
     let mut left = count;
     while 0 < left {
         let p = place as usize;
-        if s.len() - p < 2 {
+        if s.len() < p + 2 {
             return Judged::Refused(refusals::DATA_TOO_SHORT, place);
         }
         if 0x8000 <= le16(s, p) {
@@ -334,7 +334,7 @@ fn read_pylong(s: &[u8], at: u32) -> Behind
     ensures { λ r. ⌜ Reads (now (s .entry)) (keeps long) at r ⌝ }
 {
     let p = at as usize;
-    if s.len() - p < 4 {
+    if s.len() < p + 4 {
         return Behind::Refused(refusals::DATA_TOO_SHORT, at);
     }
     let count = digit_count(le32(s, p));
@@ -370,13 +370,13 @@ pub fn read_fields(s: &[u8], class: u32, at: u32) -> Behind
         FIXED8 => read_fixed(s, at, 8),
         DOUBLE => read_double(s, at),
         LONG => read_pylong(s, at),
-        BYTES => read_bytes(s, at),
-        TEXT => read_text(s, at),
-        SHORT => read_short(s, at),
         SEQUENCE => read_sequence(s, at),
         FEW => read_few(s, at),
         SLICE => Behind::Span(at, 0, Kids::Items(3)),
         DICT => Behind::Span(at, 0, Kids::Pairs),
+        BYTES => read_bytes(s, at),
+        TEXT => read_text(s, at),
+        SHORT => read_short(s, at),
         _ => read_numbers(s, at),
     }
 }

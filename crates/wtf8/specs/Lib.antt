@@ -1,2 +1,3 @@
 pub mod Encoding
 pub mod Forms
+pub mod Sequence

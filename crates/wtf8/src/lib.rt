@@ -1,1 +1,191 @@
-// UTF-8 with surrogate code points allowed: what the bytes of every string have to be. Definitions and their laws only, for now.
+// Whether bytes are UTF-8 with surrogate code points allowed: what the bytes of every string have to be.
+// A loop without an early exit settles plain ASCII; only other bytes are gone through sequence by sequence, by their leads.
+ghost use mathlib.Core.Path.{_≡_};
+ghost use Prim.Native.Nat.{ℕ, _+_, _≤_, _<_};
+ghost use lib.ListN.{length, getD};
+ghost use Rattle.wtf8.specs.Forms.{wellFormed, afterLead, trail};
+ghost use Rattle.wtf8.specs.Sequence.{Taken, MostOfFour, lowAfter, highAfter, within};
+
+// Whether the bytes are the encodings, one after another, of code points up to 10FFFF.
+pub fn is_wtf8(bytes: &[u8]) -> bool
+    ensures { λ r. ⌜ r ≡ wellFormed (now (bytes .entry)) ⌝ }
+{
+    if greatest(bytes) < 0x80 {
+        return true;
+    }
+    sequences(bytes)
+}
+
+// The greatest of the bytes, or 0. No early exit, so that many bytes are compared at once.
+fn greatest(bytes: &[u8]) -> u8
+    ensures { λ r. ⌜ ((k : ℕ) → k < length (now (bytes .entry)) → getD (now (bytes .entry)) k 0 ≤ r) ⌝ }
+{
+    let mut at = 0;
+    let mut most = 0u8;
+    while at < bytes.len() {
+        most = greater(most, bytes[at]);
+        at += 1;
+    }
+    most
+}
+
+fn greater(a: u8, b: u8) -> u8
+    ensures { λ r. ⌜ (a ≤ r) × (b ≤ r) ⌝ }
+{
+    if a < b { b } else { a }
+}
+
+// Whether the bytes are whole sequences, one after another.
+fn sequences(bytes: &[u8]) -> bool
+    ensures { λ r. ⌜ r ≡ wellFormed (now (bytes .entry)) ⌝ }
+{
+    let mut at = 0;
+    while at < bytes.len() {
+        let size = sequence(bytes, at);
+        if size == 0 {
+            return false;
+        }
+        at += size;
+    }
+    true
+}
+
+// How many bytes may be taken at once: a sequence, or eight of ASCII; 0 where no sequence stands.
+fn sequence(bytes: &[u8], at: usize) -> usize
+    requires { ⌜ at < length (now bytes) ⌝ }
+    ensures { λ r. ⌜ Taken (now (bytes .entry)) at r ⌝ }
+{
+    let lead = bytes[at];
+    if lead < 0x80 {
+        return plain(bytes, at);
+    }
+    if lead < 0xC2 {
+        return 0;
+    }
+    if lead < 0xE0 {
+        return two(bytes, at);
+    }
+    if lead < 0xF0 {
+        return three(bytes, at, low_after(lead));
+    }
+    if lead < 0xF5 {
+        return four(bytes, at, low_after(lead), high_after(lead));
+    }
+    0
+}
+
+// Eight bytes of ASCII where they stand, else one.
+fn plain(bytes: &[u8], at: usize) -> usize
+    requires { ⌜ (at < length (now bytes)) × (getD (now bytes) at 0 < 0x80) ⌝ }
+    ensures { λ r. ⌜ Taken (now (bytes .entry)) at r ⌝ }
+{
+    if bytes.len() - at < 8 {
+        return 1;
+    }
+    let front = most_of_four(bytes, at);
+    let back = most_of_four(bytes, at + 4);
+    if greater(front, back) < 0x80 {
+        return 8;
+    }
+    1
+}
+
+// A byte that none of the four at `at` exceeds.
+fn most_of_four(bytes: &[u8], at: usize) -> u8
+    requires { ⌜ at + 4 ≤ length (now bytes) ⌝ }
+    ensures { λ r. ⌜ MostOfFour (now (bytes .entry)) at r ⌝ }
+{
+    greater(
+        greater(bytes[at], bytes[at + 1]),
+        greater(bytes[at + 2], bytes[at + 3]),
+    )
+}
+
+// A sequence of two bytes.
+fn two(bytes: &[u8], at: usize) -> usize
+    requires { ⌜ (at < length (now bytes)) × (afterLead (getD (now bytes) at 0) ≡ trail 0x80 0xBF 0) ⌝ }
+    ensures { λ r. ⌜ Taken (now (bytes .entry)) at r ⌝ }
+{
+    if bytes.len() - at < 2 {
+        return 0;
+    }
+    if !stands(bytes[at + 1], 0x80, 0xBF) {
+        return 0;
+    }
+    2
+}
+
+// A sequence of three bytes, the second of them not below `low`.
+fn three(bytes: &[u8], at: usize, low: u8) -> usize
+    requires { ⌜ (at < length (now bytes)) × (afterLead (getD (now bytes) at 0) ≡ trail low 0xBF 1) ⌝ }
+    ensures { λ r. ⌜ Taken (now (bytes .entry)) at r ⌝ }
+{
+    if bytes.len() - at < 3 {
+        return 0;
+    }
+    let second = bytes[at + 1];
+    let third = bytes[at + 2];
+    if !stands(second, low, 0xBF) {
+        return 0;
+    }
+    if !stands(third, 0x80, 0xBF) {
+        return 0;
+    }
+    3
+}
+
+// A sequence of four bytes, the second of them from `low` to `high`.
+fn four(bytes: &[u8], at: usize, low: u8, high: u8) -> usize
+    requires { ⌜ (at < length (now bytes)) × (afterLead (getD (now bytes) at 0) ≡ trail low high 2) ⌝ }
+    ensures { λ r. ⌜ Taken (now (bytes .entry)) at r ⌝ }
+{
+    if bytes.len() - at < 4 {
+        return 0;
+    }
+    let second = bytes[at + 1];
+    let third = bytes[at + 2];
+    let fourth = bytes[at + 3];
+    if !stands(second, low, high) {
+        return 0;
+    }
+    if !stands(third, 0x80, 0xBF) {
+        return 0;
+    }
+    if !stands(fourth, 0x80, 0xBF) {
+        return 0;
+    }
+    4
+}
+
+// Whether the byte is from `low` to `high`.
+fn stands(byte: u8, low: u8, high: u8) -> bool
+    ensures { λ r. ⌜ r ≡ within low high byte ⌝ }
+{
+    if byte < low {
+        return false;
+    }
+    byte <= high
+}
+
+// The least byte that may follow a lead of three or four bytes.
+fn low_after(lead: u8) -> u8
+    ensures { λ r. ⌜ r ≡ lowAfter lead ⌝ }
+{
+    if lead == 0xE0 {
+        return 0xA0;
+    }
+    if lead == 0xF0 {
+        return 0x90;
+    }
+    0x80
+}
+
+// The greatest byte that may follow a lead of four bytes.
+fn high_after(lead: u8) -> u8
+    ensures { λ r. ⌜ r ≡ highAfter lead ⌝ }
+{
+    if lead == 0xF4 {
+        return 0x8F;
+    }
+    0xBF
+}

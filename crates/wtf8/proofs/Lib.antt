@@ -1,0 +1,4 @@
+pub mod Reached
+pub mod Leads
+pub mod Going
+pub mod Points

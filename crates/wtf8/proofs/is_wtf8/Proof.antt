@@ -1,0 +1,23 @@
+-- `wtf8::is_wtf8` meets its contract: bytes of ASCII are well-formed, and the others are gone through.
+-- Assumes nothing.
+use borrow.Author.Needs.{needs}
+use mathlib.Core.Path.{sym}
+use Rattle.wtf8.proofs.Reached.{all-ascii}
+use Rattle.wtf8.proofs.is_wtf8.Statement.{statement}
+use Rattle.wtf8.proofs.is_wtf8.Tie as tie
+
+greatest-requires : tie.Need-greatest-requires
+greatest-requires c κs = search needs
+
+returns : tie.Need-returns
+returns c =
+    sym (all-ascii (c .before .before .before .args .bytes .now) (c .before .greatest .ensures) (c .if1 .taken))
+
+sequences-requires : tie.Need-sequences-requires
+sequences-requires c κs = search needs
+
+returns-2 : tie.Need-returns-2
+returns-2 c = search needs
+
+pub is-wtf8-spec : {M : Type 1} → statement M
+is-wtf8-spec = tie.close (tie.spec greatest-requires returns sequences-requires returns-2)
