@@ -18,6 +18,7 @@ use Rattle.steps.specs.declared.Step.the-variants as step
 use Rattle.steps.specs.declared.Linked.{Linked}
 use Rattle.steps.specs.declared.Linked.the-variants as linked
 use Rattle.steps.specs.Held.{rooms, Holds, HoldsChain, Moved, LineIn}
+use Rattle.steps.specs.Linking.{ruleOf}
 
 -- A value.
 
@@ -78,6 +79,22 @@ codeOf s at fuel depth c = bind (partsOf s codeParts 0 fuel (depth + 1) c) (ende
 abbrev pub bodyOf : List ℕ → ℕ → Kids → ChainReader
 bodyOf s at kids fuel depth = body (value fuel s) s fuel depth at (childrenOf kids)
 
--- of a dict's pairs, for every fuel that outlasts the bytes
-pub record ListsPairs (s : List ℕ) (room : Room) (allowance : ℕ) (line : Line) (ns es ss : List ℕ) (r : Linked) (ns′ es′ ss′ : List ℕ) : Type 0 where
-  pub exact : (extra : ℕ) → length s ≤ line .walk .at + extra → Lists (couplesOf s extra) 0 s room allowance line ns es ss r ns′ es′ ss′
+-- What a member reads: one child held to a rule, so many children, a code whose header stands at a place, or what a node holds.
+pub data Members : Type 0 where
+  aChild : (rule : ℕ) → Members
+  soMany : (count : ℕ) → Members
+  aCode : (at : ℕ) → Members
+  aNode : (at : ℕ) → Kids → Members
+
+abbrev pub readingOf : List ℕ → Members → ChainReader
+readingOf s (aChild rule) = childOf s (ruleOf rule)
+readingOf s (soMany count) = kidsOf s count
+readingOf s (aCode at) = codeOf s at
+readingOf s (aNode at kids) = bodyOf s at kids
+
+pub record ReadsMembers (m : Members) (least : ℕ) (s : List ℕ) (room : Room) (allowance : ℕ) (line : Line) (ns es ss : List ℕ) (r : Linked) (ns′ es′ ss′ : List ℕ) : Type 0 where
+  pub lists : Lists (readingOf s m) least s room allowance line ns es ss r ns′ es′ ss′
+
+-- a dict's pairs, for every fuel that outlasts the bytes
+pub record ReadsPairs (s : List ℕ) (room : Room) (allowance : ℕ) (line : Line) (ns es ss : List ℕ) (r : Linked) (ns′ es′ ss′ : List ℕ) : Type 0 where
+  pub lists : (extra : ℕ) → length s ≤ line .walk .at + extra → Lists (couplesOf s extra) 0 s room allowance line ns es ss r ns′ es′ ss′
