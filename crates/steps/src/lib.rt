@@ -2,14 +2,17 @@
 // a code's first line and its end. Each is the definition of its name in `grammar`, over the lent stores.
 ghost use mathlib.Core.Path.{_≡_};
 ghost use Prim.Native.Nat.{ℕ, _+_, _*_, _≤_, _<_};
+ghost use mathlib.Core.Bool.{cond};
+ghost use lib.Dec.{eqb};
 ghost use lib.ListN.{length, getD};
 ghost use Rattle.refusals.specs.Limits.{mostBytes, mostRecords, nothing};
 ghost use Rattle.grammar.specs.Letters.{isBytes, isTuple, isString};
 ghost use Rattle.grammar.specs.Fields.{sumAt, codeNumbers};
 ghost use Rattle.grammar.specs.State.{entryWidth};
 ghost use Rattle.grammar.specs.Steps.{rules, whatever, sizeOf};
+ghost use Rattle.fields.specs.Classes.{keptClasses};
 ghost use Rattle.fields.specs.Behind.{childrenOf};
-ghost use Rattle.steps.specs.Opening.{References, Fronts};
+ghost use Rattle.steps.specs.Opening.{References, Opens, Fronts};
 ghost use Rattle.steps.specs.Linking.{Attaches, ruleOf, stringsIn, suitsIn, firstLined, faultIn};
 ghost use Rattle.steps.specs.Linking;
 
@@ -81,6 +84,75 @@ fn resolve_ref(s: &[u8], slots: &[u32], at: u32) -> Opened
         return Opened::Refused(refusals::INVALID_REF, at);
     }
     Opened::Known(stored - 1, at + 4)
+}
+
+// How many levels a node of this class needs: two for a code, its header's and its body's.
+fn levels(class: u32) -> u32
+    ensures { λ r. ⌜ r ≡ cond (eqb class 12) 2 1 ⌝ }
+{
+    if class == fields::CODE { 2 } else { 1 }
+}
+
+// The fields of a node whose slot and record are claimed. A code's body is tested for its level before any field.
+fn open_node(s: &[u8], allowance: u32, letter: u32, flag: u32, class: u32, at: u32) -> Opened
+    requires { ⌜ (0 < allowance) × (class < keptClasses) × (at ≤ length (now s)) × (length (now s) ≤ mostBytes) ⌝ }
+    ensures { λ r. ⌜ Opens (now (s .entry)) allowance letter flag class at r ⌝ }
+{
+    if allowance < levels(class) {
+        return Opened::Refused(refusals::TOO_DEEP, at);
+    }
+    let behind = fields::read_fields(s, class, at);
+    match behind {
+        fields::Behind::Refused(number, place) => Opened::Refused(number, place),
+        fields::Behind::Span(place, size, kids) => Opened::Node(
+            Head {
+                letter,
+                flag,
+                place,
+                size,
+            },
+            kids,
+        ),
+    }
+}
+
+fn byte_at(s: &[u8], at: u32) -> u32
+    requires { ⌜ at < length (now s) ⌝ }
+    ensures { λ r. ⌜ (r ≡ getD (now (s .entry)) at 0) × (r < 256) ⌝ }
+{
+    s[at as usize] as u32
+}
+
+// All that comes before a value's children, in 01's order: allowance, header, reference, slot, letter, node, fields. It only reads:
+// what it claims is claimed by going on.
+pub fn front(s: &[u8], slots: &[u32], room: Room, allowance: u32, w: Walk) -> Opened
+    requires { ⌜ (w .at ≤ length (now s)) × (length (now s) ≤ mostBytes) × (w .slots ≤ room .slots) × (room .slots ≤ mostRecords) ⌝ }
+    ensures { λ r. ⌜ Fronts (now (s .entry)) (now (slots .entry)) room allowance w r ⌝ }
+{
+    let at = w.at;
+    if allowance == 0 {
+        return Opened::Refused(refusals::TOO_DEEP, at);
+    }
+    if s.len() <= at as usize {
+        return Opened::Refused(refusals::EOF_OBJECT, at);
+    }
+    let byte = byte_at(s, at);
+    let letter = byte % 128;
+    let flag = byte / 128;
+    let class = fields::class_of(letter);
+    if class == fields::REFERENCE {
+        return resolve_ref(s, slots, at + 1);
+    }
+    if room.slots < w.slots + flag {
+        return Opened::Refused(refusals::NO_SLOT, at);
+    }
+    if fields::REFUSED <= class {
+        return Opened::Refused(class - fields::REFUSED, at);
+    }
+    if room.nodes <= w.nodes {
+        return Opened::Refused(refusals::NO_NODE, at);
+    }
+    open_node(s, allowance, letter, flag, class, at + 1)
 }
 
 // The node of one part of a code: this child, where so many came before it.
