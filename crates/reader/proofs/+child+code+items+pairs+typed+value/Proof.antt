@@ -2,7 +2,8 @@
 -- measures: a value's is four times its allowance, a node's contents one less, a child's one more, a loop's two more. Assumes nothing.
 use lib.ListN.{length}
 use native.Mathlib.Omega.{arith}
-use mathlib.Core.Path.{refl, sym, ap, subst, _∙_}
+use mathlib.Core.Path.{ap, _∙_}
+use Rattle.fields.specs.Behind.{childrenOf}
 use Rattle.reader.proofs.Chains.{Stands, stands-safe}
 use Rattle.reader.proofs.Values.{head-in, inside-safe, inside-line, value-refused, value-known, value-cut, value-whole}
 use Rattle.reader.proofs.Children.{child-cut, child-unfit, child-linked, attach-asks}
@@ -184,7 +185,8 @@ child-attach-requires : (t : ℕ) → child-lts.Need-attach-requires (
   attach-reads.Asked,
   attach-reads.Learnt,
 ) (child-at t) child.Post
-child-attach-requires t c κs = search needs
+child-attach-requires t c κs =
+    attach-asks (c .before .before .before .before .before .before .before .before .before .before .before .before .before .before .before .before .before .before .before .before .before .before .before .pre .1 .0) (c .before .before .before .before .before .before .before .before .before .before .before .before .before .before .before .before .before .before .before .before .before .before .before .pre .1 .1) (c .before .before .before .before .before .before .before .before .before .before .before .before .before .before .value .ensures) (c .before .before .before .before .before .before .c2 .given .1) (c .before .before .before .before .before .before .before .before .before .before .before .before .before .before .value .kept .1 .1 .0)
 
 child-same-length-4 : (t : ℕ) → child-lts.Need-same-length-4 (
   value-below t,
@@ -264,7 +266,8 @@ child-returns-3 : (t : ℕ) → child-lts.Need-returns-3 (
   attach-reads.Asked,
   attach-reads.Learnt,
 ) (child-at t) child.Post
-child-returns-3 t c = search (child-cut, child-unfit, child-linked, needs)
+child-returns-3 t c =
+    child-linked (c .before .before .before .before .before .before .before .before .before .before .before .before .before .before .before .before .before .before .before .before .before .before .before .before .before .before .pre .1 .0) (c .before .before .before .before .before .before .before .before .before .before .before .before .before .before .before .before .before .before .before .before .before .before .before .before .before .before .pre .1 .1) (c .before .before .before .before .before .before .before .before .before .before .before .before .before .before .before .before .before .value .ensures) (c .before .before .before .before .before .before .before .before .before .c2 .given .1) (c .before .before .before .before .before .suits .ensures) (c .before .before .before .before .if1 .left) (c .before .before .before .before .before .before .before .before .before .before .before .before .before .before .before .before .before .value .kept .1 .1 .0) (c .before .before .attach .ensures)
 
 abbrev code-Inv-loop : code-lts.InvT-loop
 code-Inv-loop s nodes₀ entries₀ slots₀ room allowance header l₀ i₀ nodes entries slots l i =
@@ -403,7 +406,8 @@ code-child-requires : (t : ℕ) → code-lts.Need-child-requires (
   code-fault-reads.Asked,
   code-fault-reads.Learnt,
 ) (code-at t) code.Post code-Inv-loop code-μ-loop
-code-child-requires t c κs = search needs
+code-child-requires t c κs =
+    (omega (arith, c .before .before .before .before .before .before .before .before .before .before .before .before .before .before .pre .0, c .before .before .before .before .before .before .before .before .before .before .before .before .before .before .pre .1 .2), (stands-safe (c .before .before .before .before .before .before .before .before .before .before .before .before .before .before .pre .1 .0) (line-stands (c .before .before .before .before .before .before .before .before .before .before .before .before .before .before .pre .1 .2) (c .before .before .before .before .before .before .before .before .before .loop .inv) (c .before .before .before .before .before .before .before .before .loop-test .taken) (c .before .before .before .before .before .before .before .first-line .ensures) (c .before .before .before .before .before .g2 .given .1)), line-stands (c .before .before .before .before .before .before .before .before .before .before .before .before .before .before .pre .1 .2) (c .before .before .before .before .before .before .before .before .before .loop .inv) (c .before .before .before .before .before .before .before .before .loop-test .taken) (c .before .before .before .before .before .before .before .first-line .ensures) (c .before .before .before .before .before .g2 .given .1) .lineIn))
 
 code-enum-known-r : (t : ℕ) → code-lts.Need-enum-known-r (
   first-line-reads.Asked,
@@ -463,7 +467,8 @@ code-returns-2 : (t : ℕ) → code-lts.Need-returns-2 (
   code-fault-reads.Asked,
   code-fault-reads.Learnt,
 ) (code-at t) code.Post code-Inv-loop code-μ-loop
-code-returns-2 t c = search (code-start, code-fault, code-end, line-cut, part-cut, code-next, needs)
+code-returns-2 t c =
+    part-cut (c .before .before .before .before .before .before .before .before .before .before .before .before .before .before .before .before .before .before .before .before .before .before .before .before .pre .1 .2) (c .before .before .before .before .before .before .before .before .before .before .before .before .before .before .before .before .before .before .before .loop .inv) (c .before .before .before .before .before .before .before .before .before .before .before .before .before .before .before .before .before .before .loop-test .taken) (c .before .before .before .before .before .before .before .before .before .before .before .before .before .before .before .before .before .first-line .ensures) (c .before .before .before .before .before .before .before .before .before .before .before .before .before .before .before .g2 .given .1) (c .before .before .before .before .before .before .before .before .before .before .before .before .before .rule-at .ensures) (c .before .before .before .before .before .before .before .before .before .child .ensures) (c .before .r .given .1)
 
 code-enum-known-r-2 : (t : ℕ) → code-lts.Need-enum-known-r-2 (
   first-line-reads.Asked,
@@ -511,7 +516,8 @@ code-loop-again : (t : ℕ) → code-lts.Need-loop-again (
   code-fault-reads.Asked,
   code-fault-reads.Learnt,
 ) (code-at t) code.Post code-Inv-loop code-μ-loop
-code-loop-again t c = search (code-start, code-fault, code-end, line-cut, part-cut, code-next, needs)
+code-loop-again t c =
+    code-next (c .before .before .before .before .before .before .before .before .before .before .before .before .before .before .before .before .before .before .before .before .before .before .before .before .pre .1 .2) (c .before .before .before .before .before .before .before .before .before .before .before .before .before .before .before .before .before .before .before .loop .inv) (c .before .before .before .before .before .before .before .before .before .before .before .before .before .before .before .before .before .before .loop-test .taken) (c .before .before .before .before .before .before .before .before .before .before .before .before .before .before .before .before .before .first-line .ensures) (c .before .before .before .before .before .before .before .before .before .before .before .before .before .before .before .g2 .given .1) (c .before .before .before .before .before .before .before .before .before .before .before .before .before .rule-at .ensures) (c .before .before .before .before .before .before .before .before .before .child .ensures) (c .before .r2 .given .1) (c .before .before .before .before .before .before .before .before .before .child .kept .1 .0) (c .before .before .before .before .before .before .before .before .before .child .kept .1 .1 .0) (c .before .before .before .before .before .before .before .before .before .child .kept .1 .1 .1 .0)
 
 code-add-code-fault : (t : ℕ) → code-lts.Need-add-code-fault (
   first-line-reads.Asked,
@@ -658,7 +664,8 @@ items-child-requires :
     items.Post
     items-Inv-loop
     items-μ-loop
-items-child-requires t c κs = search needs
+items-child-requires t c κs =
+    (omega (arith, c .before .before .before .before .before .before .before .before .before .pre .0), (stands-safe (c .before .before .before .before .before .before .before .before .before .pre .1 .0) (kids-stands (c .before .before .before .before .loop .inv)), kids-stands (c .before .before .before .before .loop .inv) .lineIn))
 
 items-enum-known-r :
     (t : ℕ) →
@@ -728,7 +735,8 @@ items-add-i :
     items.Post
     items-Inv-loop
     items-μ-loop
-items-add-i t c = search needs
+items-add-i t c =
+    omega (arith, c .before .before .before .before .before .before .before .before .before .before .before .before .before .loop-test .taken, c .before .before .before .before .before .before .before .before .before .before .before .before .before .before .before .before .before .before .before .fits .count)
 
 items-loop-less :
     (t : ℕ) →
@@ -921,7 +929,8 @@ pairs-child-requires :
     pairs.Post
     pairs-Inv-loop
     pairs-μ-loop
-pairs-child-requires t c κs = search needs
+pairs-child-requires t c κs =
+    (omega (arith, c .before .before .before .before .before .before .before .before .before .before .before .before .before .pre .0), (stands-safe (c .before .before .before .before .before .before .before .before .before .before .before .before .before .pre .1 .0) (c .before .before .before .before .before .before .before .before .loop .inv .stands), c .before .before .before .before .before .before .before .before .loop .inv .stands .lineIn))
 
 pairs-enum-known-r :
     (t : ℕ) →
@@ -991,7 +1000,8 @@ pairs-child-requires-2 :
     pairs.Post
     pairs-Inv-loop
     pairs-μ-loop
-pairs-child-requires-2 t c κs = search needs
+pairs-child-requires-2 t c κs =
+    (omega (arith, c .before .before .before .before .before .before .before .before .before .before .before .before .before .before .before .before .before .before .before .before .before .before .before .before .before .before .pre .0), (stands-safe (c .before .before .before .before .before .before .before .before .before .before .before .before .before .before .before .before .before .before .before .before .before .before .before .before .before .before .pre .1 .0) (key-stands (c .before .before .before .before .before .before .before .before .before .before .before .before .before .before .before .before .before .before .before .before .before .loop .inv) (c .before .before .before .before .before .before .before .before .before .before .before .before .before .before .before .before .before .before .if1 .left) (c .before .before .before .before .before .before .before .before .before .before .before .before .before .before .before .before .if2 .left) (c .before .before .before .before .before .before .before .before .before .before .before .before .child .ensures) (c .before .before .before .before .r2 .given .1) (c .before .before .before .before .before .before .before .before .before .before .before .before .child .kept .1 .0) (c .before .before .before .before .before .before .before .before .before .before .before .before .child .kept .1 .1 .0) (c .before .before .before .before .before .before .before .before .before .before .before .before .child .kept .1 .1 .1 .0)), key-stands (c .before .before .before .before .before .before .before .before .before .before .before .before .before .before .before .before .before .before .before .before .before .loop .inv) (c .before .before .before .before .before .before .before .before .before .before .before .before .before .before .before .before .before .before .if1 .left) (c .before .before .before .before .before .before .before .before .before .before .before .before .before .before .before .before .if2 .left) (c .before .before .before .before .before .before .before .before .before .before .before .before .child .ensures) (c .before .before .before .before .r2 .given .1) (c .before .before .before .before .before .before .before .before .before .before .before .before .child .kept .1 .0) (c .before .before .before .before .before .before .before .before .before .before .before .before .child .kept .1 .1 .0) (c .before .before .before .before .before .before .before .before .before .before .before .before .child .kept .1 .1 .1 .0) .lineIn))
 
 pairs-enum-known-q :
     (t : ℕ) →
@@ -1011,7 +1021,8 @@ pairs-same-length-10 :
     pairs.Post
     pairs-Inv-loop
     pairs-μ-loop
-pairs-same-length-10 t c = search needs
+pairs-same-length-10 t c =
+    c .before .before .before .before .before .before .before .before .before .child2 .kept .1 .0 ∙ c .before .before .before .before .before .before .before .before .before .before .before .before .before .before .before .before .before .before .before .before .before .before .child .kept .1 .0 ∙ c .before .before .before .before .before .before .before .before .before .before .before .before .before .before .before .before .before .before .before .before .before .before .before .before .before .before .before .before .before .before .before .loop .inv .stands .nodeStore
 
 pairs-same-length-11 :
     (t : ℕ) →
@@ -1021,7 +1032,8 @@ pairs-same-length-11 :
     pairs.Post
     pairs-Inv-loop
     pairs-μ-loop
-pairs-same-length-11 t c = search needs
+pairs-same-length-11 t c =
+    c .before .before .before .before .before .before .before .before .before .child2 .kept .1 .1 .0 ∙ c .before .before .before .before .before .before .before .before .before .before .before .before .before .before .before .before .before .before .before .before .before .before .child .kept .1 .1 .0 ∙ c .before .before .before .before .before .before .before .before .before .before .before .before .before .before .before .before .before .before .before .before .before .before .before .before .before .before .before .before .before .before .before .loop .inv .stands .entryStore
 
 pairs-same-length-12 :
     (t : ℕ) →
@@ -1031,7 +1043,8 @@ pairs-same-length-12 :
     pairs.Post
     pairs-Inv-loop
     pairs-μ-loop
-pairs-same-length-12 t c = search needs
+pairs-same-length-12 t c =
+    c .before .before .before .before .before .before .before .before .before .child2 .kept .1 .1 .1 .0 ∙ c .before .before .before .before .before .before .before .before .before .before .before .before .before .before .before .before .before .before .before .before .before .before .child .kept .1 .1 .1 .0 ∙ c .before .before .before .before .before .before .before .before .before .before .before .before .before .before .before .before .before .before .before .before .before .before .before .before .before .before .before .before .before .before .before .loop .inv .stands .slotStore
 
 pairs-returns-4 :
     (t : ℕ) →
@@ -1041,7 +1054,8 @@ pairs-returns-4 :
     pairs.Post
     pairs-Inv-loop
     pairs-μ-loop
-pairs-returns-4 t c = search (pairs-start, pairs-out, pairs-null, key-cut, item-cut, pairs-next, pairs-less, needs)
+pairs-returns-4 t c =
+    item-cut (c .before .before .before .before .before .before .before .before .before .before .before .before .before .before .before .before .before .before .before .before .before .before .before .before .before .before .before .before .before .before .before .loop .inv) (c .before .before .before .before .before .before .before .before .before .before .before .before .before .before .before .before .before .before .before .before .before .before .before .before .before .before .before .before .if1 .left) (c .before .before .before .before .before .before .before .before .before .before .before .before .before .before .before .before .before .before .before .before .before .before .before .before .before .before .if2 .left) (c .before .before .before .before .before .before .before .before .before .before .before .before .before .before .before .before .before .before .before .before .before .before .child .ensures) (c .before .before .before .before .before .before .before .before .before .before .before .before .before .before .r2 .given .1) (c .before .before .before .before .before .before .before .before .before .before .before .before .before .before .before .before .before .before .before .before .before .before .child .kept .1 .0) (c .before .before .before .before .before .before .before .before .before .before .before .before .before .before .before .before .before .before .before .before .before .before .child .kept .1 .1 .0) (c .before .before .before .before .before .before .before .before .before .before .before .before .before .before .before .before .before .before .before .before .before .before .child .kept .1 .1 .1 .0) (c .before .before .before .before .before .before .before .before .before .child2 .ensures) (c .before .q .given .1)
 
 pairs-enum-known-q-2 :
     (t : ℕ) →
@@ -1061,7 +1075,8 @@ pairs-loop-less :
     pairs.Post
     pairs-Inv-loop
     pairs-μ-loop
-pairs-loop-less t c = search (pairs-start, pairs-out, pairs-null, key-cut, item-cut, pairs-next, pairs-less, needs)
+pairs-loop-less t c =
+    pairs-less (c .before .before .before .before .before .before .before .before .before .before .before .before .before .before .before .before .before .before .before .before .before .before .before .before .before .before .before .before .before .before .before .loop .inv) (c .before .before .before .before .before .before .before .before .before .before .before .before .before .before .before .before .before .before .before .before .before .before .before .before .before .before .before .before .if1 .left) (c .before .before .before .before .before .before .before .before .before .before .before .before .before .before .before .before .before .before .before .before .before .before .before .before .before .before .if2 .left) (c .before .before .before .before .before .before .before .before .before .before .before .before .before .before .before .before .before .before .before .before .before .before .child .ensures) (c .before .before .before .before .before .before .before .before .before .before .before .before .before .before .r2 .given .1) (c .before .before .before .before .before .before .before .before .before .before .before .before .before .before .before .before .before .before .before .before .before .before .child .kept .1 .0) (c .before .before .before .before .before .before .before .before .before .before .before .before .before .before .before .before .before .before .before .before .before .before .child .kept .1 .1 .0) (c .before .before .before .before .before .before .before .before .before .before .before .before .before .before .before .before .before .before .before .before .before .before .child .kept .1 .1 .1 .0) (c .before .before .before .before .before .before .before .before .before .child2 .ensures) (c .before .q2 .given .1)
 
 pairs-loop-again :
     (t : ℕ) →
@@ -1071,7 +1086,8 @@ pairs-loop-again :
     pairs.Post
     pairs-Inv-loop
     pairs-μ-loop
-pairs-loop-again t c = search (pairs-start, pairs-out, pairs-null, key-cut, item-cut, pairs-next, pairs-less, needs)
+pairs-loop-again t c =
+    pairs-next (c .before .before .before .before .before .before .before .before .before .before .before .before .before .before .before .before .before .before .before .before .before .before .before .before .before .before .before .before .before .before .before .loop .inv) (c .before .before .before .before .before .before .before .before .before .before .before .before .before .before .before .before .before .before .before .before .before .before .before .before .before .before .before .before .if1 .left) (c .before .before .before .before .before .before .before .before .before .before .before .before .before .before .before .before .before .before .before .before .before .before .before .before .before .before .if2 .left) (c .before .before .before .before .before .before .before .before .before .before .before .before .before .before .before .before .before .before .before .before .before .before .child .ensures) (c .before .before .before .before .before .before .before .before .before .before .before .before .before .before .r2 .given .1) (c .before .before .before .before .before .before .before .before .before .before .before .before .before .before .before .before .before .before .before .before .before .before .child .kept .1 .0) (c .before .before .before .before .before .before .before .before .before .before .before .before .before .before .before .before .before .before .before .before .before .before .child .kept .1 .1 .0) (c .before .before .before .before .before .before .before .before .before .before .before .before .before .before .before .before .before .before .before .before .before .before .child .kept .1 .1 .1 .0) (c .before .before .before .before .before .before .before .before .before .child2 .ensures) (c .before .q2 .given .1) (c .before .before .before .before .before .before .before .before .before .child2 .kept .1 .0) (c .before .before .before .before .before .before .before .before .before .child2 .kept .1 .1 .0) (c .before .before .before .before .before .before .before .before .before .child2 .kept .1 .1 .1 .0)
 
 typed-enum-known-kids : (t : ℕ) → typed-lts.Need-enum-known-kids (
   items-below t,
@@ -1161,7 +1177,8 @@ typed-code-requires : (t : ℕ) → typed-lts.Need-code-requires (
   code-below t,
   code.Post,
 ) (typed-at t) typed.Post
-typed-code-requires t c κs = search needs
+typed-code-requires t c κs =
+    (omega (arith, (c .before .before .before .before .before .before .before .before .before .pre .1 .3 (ap childrenOf (c .before .before .before .enum-told2 .given .1))) .0, c .before .before .before .before .before .before .before .before .before .pre .0), (c .before .before .before .before .before .before .before .before .before .pre .1 .0, c .before .before .before .before .before .before .before .before .before .pre .1 .1, omega (arith, (c .before .before .before .before .before .before .before .before .before .pre .1 .3 (ap childrenOf (c .before .before .before .enum-told2 .given .1))) .0), (c .before .before .before .before .before .before .before .before .before .pre .1 .3 (ap childrenOf (c .before .before .before .enum-told2 .given .1))) .1))
 
 typed-same-length : (t : ℕ) → typed-lts.Need-same-length (
   items-below t,
@@ -1351,7 +1368,8 @@ value-add-t29 : (t : ℕ) → value-lts.Need-add-t29 (
   fill-slot-reads.Asked,
   fill-slot-reads.Learnt,
 ) (value-at t) value.Post
-value-add-t29 t c = search needs
+value-add-t29 t c =
+    omega (arith, c .before .before .before .before .before .before .before .before .before .before .pre .1, (head-in (c .before .before .before .before .front .ensures) (c .before .before .o3 .given .1)))
 
 value-add-t30 : (t : ℕ) → value-lts.Need-add-t30 (
   front-reads.Asked,
@@ -1379,7 +1397,8 @@ value-add-t31 : (t : ℕ) → value-lts.Need-add-t31 (
   fill-slot-reads.Asked,
   fill-slot-reads.Learnt,
 ) (value-at t) value.Post
-value-add-t31 t c = search needs
+value-add-t31 t c =
+    omega (arith, c .before .before .before .before .before .before .before .before .before .before .before .pre .1, (head-in (c .before .before .before .before .before .front .ensures) (c .before .before .before .o3 .given .1)))
 
 value-typed-requires : (t : ℕ) → value-lts.Need-typed-requires (
   front-reads.Asked,
@@ -1393,7 +1412,8 @@ value-typed-requires : (t : ℕ) → value-lts.Need-typed-requires (
   fill-slot-reads.Asked,
   fill-slot-reads.Learnt,
 ) (value-at t) value.Post
-value-typed-requires t c κs = search needs
+value-typed-requires t c κs =
+    (omega (arith, (head-in (c .before .before .before .before .before .before .before .before .front .ensures) (c .before .before .before .before .before .before .o3 .given .1)) .level, c .before .before .before .before .before .before .before .before .before .before .before .before .before .before .pre .0), (inside-safe (c .before .before .before .before .before .before .before .before .before .before .before .before .before .before .pre .1) (c .before .before .before .before .before .before .before .before .front .ensures) (c .before .before .before .before .before .before .o3 .given .1), inside-line (c .before .before .before .before .before .before .before .before .before .before .before .before .before .before .pre .1) (c .before .before .before .before .before .before .before .before .front .ensures) (c .before .before .before .before .before .before .o3 .given .1), (head-in (c .before .before .before .before .before .before .before .before .front .ensures) (c .before .before .before .before .before .before .o3 .given .1)) .level, λ q. ((head-in (c .before .before .before .before .before .before .before .before .front .ensures) (c .before .before .before .before .before .before .o3 .given .1)) .code q .2, omega (arith, (head-in (c .before .before .before .before .before .before .before .before .front .ensures) (c .before .before .before .before .before .before .o3 .given .1)) .code q .0, (head-in (c .before .before .before .before .before .before .before .before .front .ensures) (c .before .before .before .before .before .before .o3 .given .1)) .code q .1, (head-in (c .before .before .before .before .before .before .before .before .front .ensures) (c .before .before .before .before .before .before .o3 .given .1)) .within))))
 
 value-enum-known-k : (t : ℕ) → value-lts.Need-enum-known-k (
   front-reads.Asked,
@@ -1449,7 +1469,8 @@ value-write-node-requires : (t : ℕ) → value-lts.Need-write-node-requires (
   fill-slot-reads.Asked,
   fill-slot-reads.Learnt,
 ) (value-at t) value.Post
-value-write-node-requires t c κs = search needs
+value-write-node-requires t c κs =
+    omega (arith, c .before .before .before .before .before .before .before .before .before .before .before .before .before .before .before .before .before .before .before .before .before .before .before .before .before .before .pre .1, (head-in (c .before .before .before .before .before .before .before .before .before .before .before .before .before .before .before .before .before .before .before .before .front .ensures) (c .before .before .before .before .before .before .before .before .before .before .before .before .before .before .before .before .before .before .o3 .given .1)), c .before .before .before .before .before .before .before .before .before .before .before .typed .kept .1 .0)
 
 value-fill-slot-requires : (t : ℕ) → value-lts.Need-fill-slot-requires (
   front-reads.Asked,
@@ -1463,7 +1484,8 @@ value-fill-slot-requires : (t : ℕ) → value-lts.Need-fill-slot-requires (
   fill-slot-reads.Asked,
   fill-slot-reads.Learnt,
 ) (value-at t) value.Post
-value-fill-slot-requires t c κs = search needs
+value-fill-slot-requires t c κs =
+    (omega (arith, c .before .before .before .before .before .before .before .before .before .before .before .before .before .before .before .before .before .before .before .before .before .before .before .before .before .before .before .before .before .before .pre .1, (head-in (c .before .before .before .before .before .before .before .before .before .before .before .before .before .before .before .before .before .before .before .before .before .before .before .before .front .ensures) (c .before .before .before .before .before .before .before .before .before .before .before .before .before .before .before .before .before .before .before .before .before .before .o3 .given .1)), c .before .before .before .before .before .before .before .before .before .before .before .before .before .before .before .typed .kept .1 .1 .1 .0), omega (arith, c .before .before .before .before .before .before .before .before .before .before .before .before .before .before .before .before .before .before .before .before .before .before .before .before .before .before .before .before .before .before .pre .1, (head-in (c .before .before .before .before .before .before .before .before .before .before .before .before .before .before .before .before .before .before .before .before .before .before .before .before .front .ensures) (c .before .before .before .before .before .before .before .before .before .before .before .before .before .before .before .before .before .before .before .before .before .before .o3 .given .1))))
 
 value-same-length : (t : ℕ) → value-lts.Need-same-length (
   front-reads.Asked,
@@ -1575,7 +1597,8 @@ value-returns-3 : (t : ℕ) → value-lts.Need-returns-3 (
   fill-slot-reads.Asked,
   fill-slot-reads.Learnt,
 ) (value-at t) value.Post
-value-returns-3 t c = search (value-refused, value-known, value-cut, value-whole, needs)
+value-returns-3 t c =
+    value-cut (c .before .before .before .before .before .before .before .before .before .before .before .before .before .before .before .before .before .before .before .before .before .before .before .before .pre .1) (c .before .before .before .before .before .before .before .before .before .before .before .before .before .before .before .before .before .before .front .ensures) (c .before .before .before .before .before .before .before .before .before .before .before .before .before .before .before .before .o3 .given .1) (c .before .before .before .before .before .before .before .before .before .typed .ensures) (c .before .k .given .1)
 
 value-same-length-6 : (t : ℕ) → value-lts.Need-same-length-6 (
   front-reads.Asked,
@@ -1631,7 +1654,8 @@ value-returns-4 : (t : ℕ) → value-lts.Need-returns-4 (
   fill-slot-reads.Asked,
   fill-slot-reads.Learnt,
 ) (value-at t) value.Post
-value-returns-4 t c = search (value-refused, value-known, value-cut, value-whole, needs)
+value-returns-4 t c =
+    value-whole (c .before .before .before .before .before .before .before .before .before .before .before .before .before .before .before .before .before .before .before .before .before .before .before .before .before .before .before .before .before .before .before .before .before .before .pre .1) (c .before .before .before .before .before .before .before .before .before .before .before .before .before .before .before .before .before .before .before .before .before .before .before .before .before .before .before .before .front .ensures) (c .before .before .before .before .before .before .before .before .before .before .before .before .before .before .before .before .before .before .before .before .before .before .before .before .before .before .o3 .given .1) (c .before .before .before .before .before .before .before .before .before .before .before .before .before .before .before .before .before .before .before .typed .ensures) (c .before .before .before .before .before .before .before .before .before .before .before .k2 .given .1) (c .before .before .before .before .before .before .before .before .before .node-size .ensures) (c .before .before .before .before .before .before .before .write-node .ensures) (c .before .before .before .fill-slot .ensures)
 
 pub +child+code+items+pairs+typed+value-spec : {M : Type 1} → statement M
 +child+code+items+pairs+typed+value-spec =
