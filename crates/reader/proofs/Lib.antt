@@ -3,3 +3,4 @@ pub mod Values
 pub mod Children
 pub mod Loops
 pub mod Codes
+pub mod Wholes

@@ -86,7 +86,16 @@ fn typed(
     ensures { λ r. ⌜ ReadsMembers (aNode header kids) 0 (now (s .entry)) room allowance line (now (nodes .entry)) (now (entries .entry)) (now (slots .entry)) r (now (nodes .exit)) (now (entries .exit)) (now (slots .exit)) ⌝ }
 {
     match kids {
-        fields::Kids::Items(count) => items(s, nodes, entries, slots, room, allowance - 1, line, count),
+        fields::Kids::Items(count) => items(
+            s,
+            nodes,
+            entries,
+            slots,
+            room,
+            allowance - 1,
+            line,
+            count,
+        ),
         fields::Kids::Pairs => pairs(s, nodes, entries, slots, room, allowance - 1, line),
         fields::Kids::Parts => code(s, nodes, entries, slots, room, allowance - 1, line, header),
     }
@@ -136,7 +145,16 @@ fn items(
     let mut l = line;
     let mut i = 0u32;
     while i < count {
-        let r = child(s, nodes, entries, slots, room, allowance, l, steps::WHATEVER);
+        let r = child(
+            s,
+            nodes,
+            entries,
+            slots,
+            room,
+            allowance,
+            l,
+            steps::WHATEVER,
+        );
         match r {
             steps::Linked::Refused(number, place) => {
                 return steps::Linked::Refused(number, place);
@@ -187,13 +205,31 @@ fn pairs(
                 },
             });
         }
-        let r = child(s, nodes, entries, slots, room, allowance, l, steps::WHATEVER);
+        let r = child(
+            s,
+            nodes,
+            entries,
+            slots,
+            room,
+            allowance,
+            l,
+            steps::WHATEVER,
+        );
         match r {
             steps::Linked::Refused(number, place) => {
                 return steps::Linked::Refused(number, place);
             }
             steps::Linked::Line(key) => {
-                let q = child(s, nodes, entries, slots, room, allowance, key, steps::WHATEVER);
+                let q = child(
+                    s,
+                    nodes,
+                    entries,
+                    slots,
+                    room,
+                    allowance,
+                    key,
+                    steps::WHATEVER,
+                );
                 match q {
                     steps::Linked::Refused(number, place) => {
                         return steps::Linked::Refused(number, place);
