@@ -4,3 +4,4 @@ pub mod Children
 pub mod Loops
 pub mod Codes
 pub mod Wholes
+pub mod Untouched
