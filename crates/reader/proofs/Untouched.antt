@@ -19,7 +19,7 @@ use Rattle.grammar.specs.State.{State, start, nodeWidth, nodeCapacity}
 use Rattle.grammar.specs.Steps.{Front, stored, reference, reserving, opened, header, front, after, one, value}
 use Rattle.grammar.specs.Answer.{plain, roomsOf, reading, readOf}
 use Rattle.steps.proofs.Runs.{onto, run-bind, run-reads}
-use Rattle.reader.specs.declared.Delivery.{Delivery}
+use Rattle.reader.specs.declared.Outcome.{Outcome}
 use Rattle.reader.specs.Delivered.{Delivers}
 
 -- a reading that gives something
@@ -100,7 +100,7 @@ differ zero h e = omega arith
 differ (suc n) h e = let z : _≡_ {A = ℕ} 0 1 = ap (λ l. getD l 0 0) e in absurd (omega arith)
 
 -- Whatever it answers: for an accepted input no reader delivers what is asked, for all stores of these lengths, and leaves each as lent.
-pub untouched-fails : (s : List ℕ) (n e k nesting : ℕ) → Given (reading s n e k nesting) → (answer : (ns es ss : List ℕ) → Delivery)
+pub untouched-fails : (s : List ℕ) (n e k nesting : ℕ) → Given (reading s n e k nesting) → (answer : (ns es ss : List ℕ) → Outcome)
     → ((ns es ss : List ℕ) → length ns ≡ n → length es ≡ e → length ss ≡ k → Delivers (readOf s n e k nesting) (answer ns es ss) ns es ss) → ⊥
 untouched-fails s n e k nesting given answer meets =
     let some : 0 < n = omega (arith, accepted-claims s n e k nesting given) in

@@ -24,7 +24,7 @@ use Rattle.steps.specs.declared.Walk.{Walk}
 use Rattle.steps.specs.declared.Step.{Step}
 use Rattle.steps.specs.declared.Step.the-variants as step
 use Rattle.steps.specs.Held.{rooms, Holds}
-use Rattle.reader.specs.declared.Delivery.the-variants as delivery
+use Rattle.reader.specs.declared.Outcome.the-variants as outcome
 use Rattle.reader.specs.Delivered.{Delivers}
 use Rattle.reader.specs.Readings.{ReadsValue, Agrees}
 
@@ -37,7 +37,7 @@ begin = record { at = 0; nodes = 0; entries = 0; slots = 0 }
 
 module _ (s : List ℕ) (n e k nesting : ℕ) where
   pub whole-long : {ns es ss : List ℕ} → mostBytes < length s → ns ≡ zeros n → es ≡ zeros e → ss ≡ zeros k
-      → Delivers (readOf s n e k nesting) (delivery.Refused inputTooLong 0) ns es ss
+      → Delivers (readOf s n e k nesting) (outcome.Refused inputTooLong 0) ns es ss
   unfolding readOf reading
   whole-long h a b c = rw (lt-ltb mostBytes (length s) h) (record { answer = refl; nodes = a; entries = b; slots = c })
 
@@ -74,14 +74,14 @@ module _ (s : List ℕ) (n e k nesting : ℕ) where
         (subst (λ R. Agrees r ns′ es′ ss′ (run R (value (length s) s 0 start))) rooms-are (rv .exact (length s) 0 start starts (omega arith)))
 
     pub whole-refused : {m p : ℕ} {ns es ss : List ℕ} → r ≡ step.Refused m p → ns ≡ zeros n → es ≡ zeros e → ss ≡ zeros k
-        → Delivers (readOf s n e k nesting) (delivery.Refused m p) ns es ss
+        → Delivers (readOf s n e k nesting) (outcome.Refused m p) ns es ss
     unfolding readOf
     whole-refused {m} {p} is a b c =
         let x : reading s n e k nesting ≡ stops m p = subst (λ r. Agrees r ns′ es′ ss′ (reading s n e k nesting)) is agrees in
         rw x (record { answer = refl; nodes = a; entries = b; slots = c })
 
     pub whole-read : {v : ℕ} {w : Walk} → r ≡ step.Value v w → length ns′ ≡ length ns₀ → length es′ ≡ length es₀ → length ss′ ≡ length ss₀
-        → Delivers (readOf s n e k nesting) (delivery.Read (w .at) (w .nodes) (w .entries) (w .slots)) ns′ es′ ss′
+        → Delivers (readOf s n e k nesting) (outcome.Read (w .at) (w .nodes) (w .entries) (w .slots)) ns′ es′ ss′
     unfolding readOf
     whole-read {v} {w} is a b c =
         let x : Agrees (step.Value v w) ns′ es′ ss′ (reading s n e k nesting) = subst (λ r. Agrees r ns′ es′ ss′ (reading s n e k nesting)) is agrees in

@@ -289,8 +289,13 @@ fn code(
 }
 
 // The answer: bytes consumed and the counts of nodes, entries and slots; or a refusal's number and place.
-pub enum Delivery {
-    Read(u32, u32, u32, u32),
+pub enum Outcome {
+    Read {
+        consumed: u32,
+        nodes: u32,
+        entries: u32,
+        slots: u32,
+    },
     Refused(u32, u32),
 }
 
@@ -307,14 +312,14 @@ pub fn deserialize_value(
     entries: &mut [u32],
     slots: &mut [u32],
     nesting: u32,
-) -> Delivery
+) -> Outcome
     ensures { λ r. ⌜ Delivers (readOf (now (input .entry)) (length (now (nodes .entry))) (length (now (entries .entry))) (length (now (slots .entry))) nesting) r (now (nodes .exit)) (now (entries .exit)) (now (slots .exit)) ⌝ }
 {
     lent::clear_words(nodes);
     lent::clear_words(entries);
     lent::clear_words(slots);
     if (refusals::MOST_BYTES as usize) < input.len() {
-        return Delivery::Refused(refusals::INPUT_TOO_LONG, 0);
+        return Outcome::Refused(refusals::INPUT_TOO_LONG, 0);
     }
     let room = steps::Room {
         nodes: at_most(nodes.len() / stores::NODE_WIDTH, refusals::MOST_RECORDS),
@@ -330,12 +335,17 @@ pub fn deserialize_value(
     };
     let r = value(input, nodes, entries, slots, room, allowance, start);
     match r {
-        steps::Step::Value(_, w) => Delivery::Read(w.at, w.nodes, w.entries, w.slots),
+        steps::Step::Value(_, w) => Outcome::Read {
+            consumed: w.at,
+            nodes: w.nodes,
+            entries: w.entries,
+            slots: w.slots,
+        },
         steps::Step::Refused(number, place) => {
             lent::clear_words(nodes);
             lent::clear_words(entries);
             lent::clear_words(slots);
-            Delivery::Refused(number, place)
+            Outcome::Refused(number, place)
         }
     }
 }
