@@ -1,12 +1,12 @@
 -- The laws that every reader of children goes by, whatever its turns read: at the head of a loop, what is still to be read comes to the
 -- same answer as the whole. Assumes nothing.
-use mathlib.Core.Path.{_≡_, refl, sym, ap, ap₂, subst, _∙_}
-use Prim.Native.Nat.{ℕ, zero, suc, _+_, _-_, _*_, _≤_, _<_}
+use mathlib.Core.Path.{_≡_, refl, ap, subst, _∙_}
+use Prim.Native.Nat.{ℕ, _+_, _-_, _≤_}
 use native.Mathlib.Omega.{arith}
 use mathlib.Core.List.{List}
 use lib.ListN.{length}
-use Rattle.grammar.specs.Reading.{Reading, done, refused, Answer, gives, stops, bind}
-use Rattle.grammar.specs.Room.{Rooms, run}
+use Rattle.grammar.specs.Reading.{done, refused, bind}
+use Rattle.grammar.specs.Room.{run}
 use Rattle.grammar.specs.Steps.{Chain}
 use Rattle.steps.specs.declared.Room.{Room}
 use Rattle.steps.specs.declared.Line.{Line}

@@ -1,7 +1,7 @@
 -- The answers of `child`, one law for each way out: its value is refused, does not suit the rule, or gets its entry.
 -- Assumes nothing.
 use mathlib.Core.Path.{_≡_, refl, sym, ap, ap₂, subst, _∙_}
-use Prim.Native.Nat.{ℕ, zero, suc, _+_, _-_, _*_, _≤_, _<_}
+use Prim.Native.Nat.{ℕ, _+_, _*_, _≤_, _<_}
 use native.Mathlib.Omega.{arith}
 use mathlib.Core.Bool.{Bool, true, false, cond, not}
 use mathlib.Core.Option.{Option, none, some}
@@ -11,10 +11,10 @@ use lib.Dec.{ltb}
 use borrow.Author.Tests.{ltb-true, ltb-false, not-true, not-false}
 use Rattle.refusals.specs.Numbers.{badType, noEntry}
 use Rattle.refusals.specs.Limits.{nothing, mostRecords}
-use Rattle.grammar.specs.Reading.{done, refused, claim, entry, bind, gives, stops}
+use Rattle.grammar.specs.Reading.{done, refused, claim, entry}
 use Rattle.grammar.specs.Room.{run}
 use Rattle.grammar.specs.State.{State, entryWidth}
-use Rattle.grammar.specs.Steps.{Chain, Rule, attach, suits, child, value}
+use Rattle.grammar.specs.Steps.{Chain, Rule, attach, child, value}
 use Rattle.steps.specs.declared.Room.{Room}
 use Rattle.steps.specs.declared.Walk.{Walk}
 use Rattle.steps.specs.declared.Line.{Line}

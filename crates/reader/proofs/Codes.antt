@@ -1,18 +1,18 @@
 -- The loop over a code's parts with its first line and its end, and what a node holds by the kind of its children.
 -- Assumes nothing.
 use mathlib.Core.Path.{_≡_, refl, sym, ap, ap₂, subst, _∙_}
-use Prim.Native.Nat.{ℕ, zero, suc, _+_, _-_, _*_, _≤_, _<_}
+use Prim.Native.Nat.{ℕ, suc, _+_, _-_, _≤_, _<_}
 use native.Mathlib.Omega.{arith}
 use mathlib.Core.Bool.{Bool, true, false, cond}
 use mathlib.Core.List.{List}
 use lib.ListN.{length, getD}
 use lib.Dec.{leb, eqb}
-use borrow.Author.Tests.{eq-eqb, ne-eqb, leb-true, leb-false}
+use borrow.Author.Tests.{eq-eqb, ne-eqb, leb-true}
 use Rattle.refusals.specs.Numbers.{accepted, dataTooShort}
-use Rattle.grammar.specs.Reading.{done, refused, reads, gives, stops, bind}
+use Rattle.grammar.specs.Reading.{done, reads, gives, stops, bind}
 use Rattle.grammar.specs.Room.{run}
-use Rattle.grammar.specs.Fields.{items, pairs, parts, field}
-use Rattle.grammar.specs.Steps.{Chain, Rule, whatever, rules, codeParts, linePart, child, couples, lined, firstLine, partsFrom, faultOf, ended, body, value}
+use Rattle.grammar.specs.Fields.{field}
+use Rattle.grammar.specs.Steps.{Chain, whatever, rules, codeParts, linePart, couples, lined, firstLine, partsFrom, faultOf, ended, body, value}
 use Rattle.fields.specs.Behind.{childrenOf}
 use Rattle.fields.specs.declared.Kids.{Kids}
 use Rattle.fields.specs.declared.Kids.the-variants as kind
@@ -20,11 +20,11 @@ use Rattle.steps.specs.declared.Room.{Room}
 use Rattle.steps.specs.declared.Line.{Line}
 use Rattle.steps.specs.declared.Linked.{Linked}
 use Rattle.steps.specs.declared.Linked.the-variants as linked
-use Rattle.steps.specs.Held.{rooms, Safe, HoldsChain, LineIn}
+use Rattle.steps.specs.Held.{rooms, Safe, LineIn}
 use Rattle.steps.specs.Linking.{ruleOf, lineLined, firstLined, faultIn}
 use Rattle.steps.proofs.Runs.{bind-assoc}
 use Rattle.steps.proofs.States.{holds-lined, fault-held}
-use Rattle.reader.specs.Readings.{ChainReader, Lists, ReadsMembers, aChild, soMany, aCode, aNode, ReadsPairs, childOf, kidsOf, couplesOf, firstLineOf, partsOf, codeOf, bodyOf}
+use Rattle.reader.specs.Readings.{ChainReader, Lists, ReadsMembers, aChild, soMany, aCode, aNode, ReadsPairs, childOf, firstLineOf, partsOf, codeOf, bodyOf}
 use Rattle.reader.proofs.Chains.{Stands, Inv, Then, inv-start, inv-as, inv-end, inv-refused, inv-cut, inv-more, lists-inside}
 
 -- `first_line` is the reading of its name

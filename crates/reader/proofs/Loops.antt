@@ -1,9 +1,9 @@
 -- The loops over a container's children and over a dict's pairs, on plain values: each turn is one of the laws of `Chains` at the
 -- definition's own unrolling. Assumes nothing.
 use mathlib.Core.Path.{_≡_, refl, sym, ap, ap₂, subst, _∙_}
-use Prim.Native.Nat.{ℕ, zero, suc, _+_, _-_, _*_, _/_, _%_, _≤_, _<_}
+use Prim.Native.Nat.{ℕ, zero, suc, _+_, _-_, _%_, _≤_, _<_}
 use native.Mathlib.Omega.{arith}
-use mathlib.Core.Bool.{Bool, true, false, cond}
+use mathlib.Core.Bool.{true, false, cond}
 use mathlib.Core.List.{List}
 use lib.ListN.{length, getD}
 use lib.Dec.{ltb, eqb}
@@ -15,7 +15,7 @@ use Rattle.steps.specs.declared.Room.{Room}
 use Rattle.steps.specs.declared.Line.{Line}
 use Rattle.steps.specs.declared.Linked.{Linked}
 use Rattle.steps.specs.declared.Linked.the-variants as linked
-use Rattle.steps.specs.Held.{Safe, HoldsChain, LineIn}
+use Rattle.steps.specs.Held.{Safe, LineIn}
 use Rattle.steps.specs.Linking.{lineOn}
 use Rattle.steps.proofs.States.{holds-passed}
 use Rattle.reader.specs.Readings.{ChainReader, ReadsMembers, aChild, soMany, ReadsPairs, LinkedMoved, childOf, kidsOf, couplesOf}

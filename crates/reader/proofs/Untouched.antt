@@ -2,20 +2,20 @@
 -- that the store of nodes holds a number, and two contents that differ in it cannot both be the one that the contract asks for.
 -- Assumes nothing.
 use mathlib.Core.Path.{_≡_, refl, sym, ap, subst, _∙_}
-use Prim.Native.Nat.{ℕ, zero, suc, _+_, _-_, _*_, _/_, _≤_, _<_, min}
+use Prim.Native.Nat.{ℕ, zero, suc, _+_, _≤_, _<_}
 use native.Mathlib.Omega.{arith}
 use mathlib.Core.Bool.{Bool, true, false, cond}
-use mathlib.Core.List.{List, [], _∷_}
+use mathlib.Core.List.{List, []}
 use lib.ListN.{length, getD, replicate, length-replicate}
 use lib.Dec.{leb, ltb}
 use borrow.Author.Tests.{leb-true}
 use Rattle.refusals.specs.Numbers.{inputTooLong, dataTooShort, eofObject}
 use Rattle.refusals.specs.Limits.{mostBytes}
-use Rattle.grammar.specs.Reading.{Kind, level, node, slot, Reading, done, refused, claim, bind, reads, Answer, gives, stops}
+use Rattle.grammar.specs.Reading.{Kind, level, node, slot, Reading, refused, claim, bind, Answer, gives, stops}
 use Rattle.grammar.specs.Room.{Rooms, roomFor, numberOf, run}
 use Rattle.grammar.specs.Letters.{Class, refers, keeps, contains, codes, refuses, flagOf, letterOf, classOf}
-use Rattle.grammar.specs.Fields.{field, fields, contained, codeFields, le32}
-use Rattle.grammar.specs.State.{State, start, nodeWidth, nodeCapacity}
+use Rattle.grammar.specs.Fields.{fields, contained, codeFields, le32}
+use Rattle.grammar.specs.State.{start, nodeCapacity}
 use Rattle.grammar.specs.Steps.{Front, stored, reference, reserving, opened, header, front, after, one, value}
 use Rattle.grammar.specs.Answer.{plain, roomsOf, reading, readOf}
 use Rattle.steps.proofs.Runs.{onto, run-bind, run-reads}

@@ -1,16 +1,16 @@
 -- The answers of `value`, one law for each way out: its front refuses, or knows the value, or opens a node whose children are then read.
 -- Assumes nothing.
-use mathlib.Core.Path.{_≡_, refl, sym, ap, ap₂, subst, subst₂, _∙_}
-use Prim.Native.Nat.{ℕ, zero, suc, _+_, _-_, _*_, _≤_, _<_}
+use mathlib.Core.Path.{_≡_, refl, sym, ap, subst, subst₂, _∙_}
+use Prim.Native.Nat.{ℕ, zero, suc, _+_, _≤_}
 use native.Mathlib.Omega.{arith}
-use mathlib.Core.List.{List, [], _∷_}
+use mathlib.Core.List.{List}
 use lib.ListN.{length}
 use borrow.Author.Tests.{le-ltb}
-use Rattle.grammar.specs.Reading.{Answer, gives, stops, bind}
+use Rattle.grammar.specs.Reading.{gives, bind}
 use Rattle.grammar.specs.Room.{run}
-use Rattle.grammar.specs.Fields.{Fields, parts}
+use Rattle.grammar.specs.Fields.{Fields}
 use Rattle.grammar.specs.State.{State, movedTo}
-use Rattle.grammar.specs.Steps.{Chain, known, opens, front, body, enter, close, fresh, fill, sizeOf, after, one, value}
+use Rattle.grammar.specs.Steps.{known, opens, front, body, enter, close, fresh, fill, sizeOf, after, one, value}
 use Rattle.fields.specs.Behind.{childrenOf}
 use Rattle.fields.specs.declared.Kids.{Kids}
 use Rattle.stores.specs.Written.{nodeWritten}
@@ -18,17 +18,16 @@ use Rattle.steps.specs.declared.Room.{Room}
 use Rattle.steps.specs.declared.Walk.{Walk}
 use Rattle.steps.specs.declared.Head.{Head}
 use Rattle.steps.specs.declared.Line.{Line}
-use Rattle.steps.specs.declared.Step.{Step}
 use Rattle.steps.specs.declared.Step.the-variants as step
 use Rattle.steps.specs.declared.Opened.{Opened}
 use Rattle.steps.specs.declared.Opened.the-variants as opened
 use Rattle.steps.specs.declared.Linked.{Linked}
 use Rattle.steps.specs.declared.Linked.the-variants as linked
-use Rattle.steps.specs.Held.{rooms, Safe, Moved, Holds, HoldsChain, LineIn, noLine}
+use Rattle.steps.specs.Held.{rooms, Safe, Holds, LineIn, noLine}
 use Rattle.steps.specs.Opening.{frontOf, Ahead, HeadIn, Fronts}
 use Rattle.steps.proofs.Runs.{bind-gives, bind-stops}
 use Rattle.steps.proofs.States.{front-slots, holds-known, holds-enter, holds-close}
-use Rattle.reader.specs.Readings.{ReadsValue, ReadsMembers, aNode, Agrees, AgreesChain, LinkedMoved}
+use Rattle.reader.specs.Readings.{ReadsValue, ReadsMembers, aNode, AgreesChain, LinkedMoved}
 
 -- with fuel for each byte that is left, a value is always one more step
 pub unroll : (s : List ℕ) (fuel depth : ℕ) (st : State) → length s ≤ st .at + fuel

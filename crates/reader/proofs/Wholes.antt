@@ -1,23 +1,21 @@
 -- The answers of `deserialize_value`, one law for each way out: too long, refused, or read.
 -- Assumes nothing.
 use mathlib.Core.Path.{_≡_, refl, sym, ap, subst, _∙_}
-use Prim.Native.Nat.{ℕ, zero, suc, _+_, _-_, _*_, _/_, _≤_, _<_, min}
+use Prim.Native.Nat.{ℕ, _+_, _≤_, _<_, min}
 use native.Mathlib.Nat.{zero-add}
 use native.Mathlib.Omega.{arith}
-use mathlib.Core.Bool.{true, false, cond}
 use mathlib.Core.List.{List, []}
 use lib.ListN.{length, length-replicate}
-use lib.Dec.{ltb}
 use borrow.Author.Tests.{lt-ltb, le-ltb}
 use Rattle.refusals.specs.Numbers.{inputTooLong}
-use Rattle.refusals.specs.Limits.{mostBytes, mostRecords, mostNesting}
+use Rattle.refusals.specs.Limits.{mostBytes, mostNesting}
 use Rattle.lent.specs.Lent.{zeros, padded}
 use Rattle.lent.proofs.Laws.{padded-none}
-use Rattle.grammar.specs.Reading.{Answer, gives, stops}
+use Rattle.grammar.specs.Reading.{gives, stops}
 use Rattle.grammar.specs.Room.{run}
-use Rattle.grammar.specs.State.{State, start, nodeCells, entryCells, nodeCapacity, entryCapacity, slotCapacity}
+use Rattle.grammar.specs.State.{start, nodeCells, entryCells, nodeCapacity, entryCapacity, slotCapacity}
 use Rattle.grammar.specs.Steps.{value}
-use Rattle.grammar.specs.Answer.{plain, roomsOf, reading, outcomeOf, readOf}
+use Rattle.grammar.specs.Answer.{plain, roomsOf, reading, readOf}
 use Rattle.stores.specs.Written.{Keeps}
 use Rattle.steps.specs.declared.Room.{Room}
 use Rattle.steps.specs.declared.Walk.{Walk}

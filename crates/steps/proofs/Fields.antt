@@ -1,7 +1,7 @@
 -- Only a code has parts, and its numbers stand behind its header: what the fields of each class can say of the children to come.
 -- Assumes nothing.
 use mathlib.Core.Path.{_≡_, refl, sym, ap, subst, _∙_}
-use Prim.Native.Nat.{ℕ, zero, suc, _+_, _-_, _*_, _≤_, _<_}
+use Prim.Native.Nat.{ℕ, zero, suc, _+_, _*_, _<_}
 use native.Mathlib.Omega.{arith}
 use mathlib.Core.Bool.{Bool, true, false, cond}
 use mathlib.Core.List.{List}
@@ -11,7 +11,7 @@ use Rattle.refusals.specs.Numbers.{dataTooShort, badSize, invalidBytecode, inva
 use Rattle.wtf8.specs.Forms.{wellFormed}
 use Rattle.grammar.specs.Reading.{Answer, gives, stops}
 use Rattle.grammar.specs.Letters as letter
-use Rattle.grammar.specs.Letters.{Form, Sort, Class, refers, keeps, contains, codes, refuses}
+use Rattle.grammar.specs.Letters.{Form, Sort, keeps, contains, codes}
 use Rattle.grammar.specs.Fields.{Fields, Children, items, pairs, parts, span, field, le16, le32, notNegative, contents, digits, digitCount, lastDigit, pylong, numbers, codeNumbers, fields, contained, codeFields}
 use Rattle.fields.specs.Classes.{classes, classAt, keptClasses}
 use Rattle.fields.specs.Behind.{fieldsOf}

@@ -1,19 +1,19 @@
 -- What `open_node` and `front` answer, one law for each way out.
 -- Assumes nothing.
 use mathlib.Core.Path.{_≡_, refl, sym, ap, subst, _∙_}
-use Prim.Native.Nat.{ℕ, zero, suc, _+_, _-_, _*_, _/_, _%_, _≤_, _<_}
+use Prim.Native.Nat.{ℕ, zero, suc, _+_, _-_, _/_, _%_, _≤_, _<_}
 use native.Mathlib.Omega.{arith}
 use mathlib.Core.Bool.{Bool, true, false, cond}
 use mathlib.Core.List.{List}
 use lib.ListN.{length, getD, List·getD-eq-default}
-use lib.Dec.{leb, ltb, eqb}
+use lib.Dec.{ltb, eqb}
 use borrow.Author.Tests.{lt-ltb, le-ltb, ltb-true, ltb-false, eq-eqb, ne-eqb}
 use Rattle.refusals.specs.Numbers.{tooDeep, eofObject, noSlot, noNode}
-use Rattle.grammar.specs.Reading.{level, node, slot, Reading, done, refused, claim, reads, Answer, gives, stops}
+use Rattle.grammar.specs.Reading.{level, node, slot, Reading, refused, claim, reads, gives, stops}
 use Rattle.grammar.specs.Room.{Rooms, run}
-use Rattle.grammar.specs.Letters.{Class, refers, keeps, contains, codes, refuses, flagOf, letterOf, classOf}
-use Rattle.grammar.specs.Fields.{Fields, parts, span}
-use Rattle.grammar.specs.Steps.{Front, known, opens, opened, reference, reserving, header, front}
+use Rattle.grammar.specs.Letters.{refers, codes, refuses, flagOf, letterOf, classOf}
+use Rattle.grammar.specs.Fields.{Fields, span}
+use Rattle.grammar.specs.Steps.{Front, opens, opened, reference, reserving, header, front}
 use Rattle.fields.specs.Classes.{classes, classAt, keptClasses, refusedFrom}
 use Rattle.fields.specs.Behind.{fieldsOf, childrenOf, behindOf, Reads}
 use Rattle.fields.specs.Behind as fields
@@ -22,11 +22,10 @@ use Rattle.fields.specs.declared.Behind.{Behind}
 use Rattle.fields.specs.declared.Behind.the-variants as behind
 use Rattle.steps.specs.declared.Room.{Room}
 use Rattle.steps.specs.declared.Walk.{Walk}
-use Rattle.steps.specs.declared.Head.{Head}
 use Rattle.steps.specs.declared.Opened.{Opened}
 use Rattle.steps.specs.declared.Opened.the-variants as answer
 use Rattle.steps.specs.Held.{rooms}
-use Rattle.steps.specs.Opening.{frontOf, inner, KnownAhead, References, NodeAhead, Spans, Opens, HeadIn, Ahead, Fronts}
+use Rattle.steps.specs.Opening.{inner, KnownAhead, References, NodeAhead, Opens, Ahead, Fronts}
 use Rattle.steps.proofs.Runs.{claim-fits, claim-fails, run-reads}
 use Rattle.steps.proofs.Fields.{Kept, aForm, aSort, aCode, kept-class, parts-code}
 

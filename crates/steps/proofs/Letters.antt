@@ -1,17 +1,17 @@
 -- The tests of letters and rules, one law for each way out: `is_tuple`, `is_string`, `strings`, `suits` and `rule_at`.
 -- Assumes nothing.
 use mathlib.Core.Path.{_≡_, refl, sym, ap, _∙_}
-use Prim.Native.Nat.{ℕ, zero, suc, _+_, _-_, _*_, _≤_, _<_}
+use Prim.Native.Nat.{ℕ, zero, suc, _-_, _≤_, _<_}
 use native.Mathlib.Omega.{arith}
 use mathlib.Core.Bool.{Bool, true, false, cond, not, _&&_}
 use mathlib.Core.List.{List}
-use lib.ListN.{length, getD, List·getD-eq-default}
+use lib.ListN.{getD}
 use lib.Dec.{eqb}
 use borrow.Author.Tests.{ne-eqb, not-true, not-false}
 use Rattle.grammar.specs.Letters.{isBytes, isTuple, isString}
 use Rattle.grammar.specs.State.{nodeAt, entryAt}
-use Rattle.grammar.specs.Steps.{Rule, whatever, asBytes, asTuple, asNames, asString, rules}
-use Rattle.steps.specs.Linking.{ruleOf, stringsIn, suitsIn}
+use Rattle.grammar.specs.Steps.{whatever, asString, rules}
+use Rattle.steps.specs.Linking.{ruleOf, stringsIn}
 
 pub tuple-none : (x : ℕ) → (x ≡ 0x28 → ⊥) → (x ≡ 0x29 → ⊥) → false ≡ isTuple x
 tuple-none x a b = rw (ne-eqb x 0x28 a, ne-eqb x 0x29 b) refl

@@ -1,21 +1,20 @@
 -- What `resolve_ref` and `attach` answer, one law for each way out.
 -- Assumes nothing.
-use mathlib.Core.Path.{_≡_, refl, sym, ap, ap₂, _∙_}
+use mathlib.Core.Path.{_≡_, refl, sym, ap, _∙_}
 use Prim.Native.Nat.{ℕ, zero, suc, _+_, _-_, _≤_, _<_}
 use native.Mathlib.Omega.{arith}
-use mathlib.Core.Bool.{Bool, true, false, cond}
+use mathlib.Core.Bool.{cond}
 use mathlib.Core.List.{List}
 use lib.ListN.{length, getD}
-use lib.Dec.{leb, ltb, eqb}
 use borrow.Author.Tests.{le-leb, lt-leb, lt-ltb, le-ltb, eq-eqb, ne-eqb}
 use Rattle.refusals.specs.Numbers.{dataTooShort, invalidRef, noEntry}
 use Rattle.refusals.specs.Limits.{nothing}
-use Rattle.grammar.specs.Reading.{Answer, gives, stops}
-use Rattle.grammar.specs.Fields.{field, le32}
-use Rattle.grammar.specs.Steps.{Front, known, stored, reference, codePart, localsPart, kindsPart}
+use Rattle.grammar.specs.Reading.{gives, stops}
+use Rattle.grammar.specs.Fields.{le32}
+use Rattle.grammar.specs.Steps.{known, stored, reference, codePart, localsPart, kindsPart}
 use Rattle.stores.specs.Written.{entryWritten, entryLinked}
 use Rattle.steps.specs.Opening.{References}
-use Rattle.steps.specs.Linking.{kept, Attaches, entriesNext, attached, lineNext}
+use Rattle.steps.specs.Linking.{kept, Attaches}
 use Rattle.steps.specs.declared.Walk.{Walk}
 use Rattle.steps.specs.declared.Line.{Line}
 use Rattle.steps.specs.declared.Linked.the-variants as linked

@@ -1,12 +1,12 @@
 -- What the walk, the line and the stores hold, step by step: a value that is known, a node entered and closed, a child attached.
 -- The laws of records in padded stores carry it. Assumes nothing.
 use mathlib.Core.Path.{_≡_, refl, sym, ap, ap₂, subst, _∙_}
-use Prim.Native.Nat.{ℕ, zero, suc, _+_, _-_, _*_, _≤_, _<_}
+use Prim.Native.Nat.{ℕ, zero, suc, _+_, _*_, _≤_, _<_}
 use native.Mathlib.Omega.{arith}
 use mathlib.Core.Bool.{Bool, true, false, cond, _&&_}
 use mathlib.Core.Option.{Option, none, some}
 use mathlib.Core.List.{List, [], _∷_, _++_}
-use lib.ListN.{length, getD, set, length-append, length-set}
+use lib.ListN.{length, getD, length-append, length-set}
 use lib.Dec.{eqb, ltb}
 use borrow.Author.Tests.{eq-eqb, ne-eqb, eqb-true, eqb-false}
 use Rattle.refusals.specs.Limits.{mostRecords, nothing}
@@ -15,8 +15,8 @@ use Rattle.grammar.specs.Reading.{level, refused, claim, reads}
 use Rattle.grammar.specs.Fields.{Fields, field, le32, sumAt, codeFault}
 use Rattle.grammar.specs.Letters.{Class, refers, keeps, contains, codes, refuses, flagOf, letterOf, classOf, isBytes, isTuple, isString}
 use Rattle.grammar.specs.State.{Node, Entry, State, blank, unlinked, movedTo, nodeWidth, entryWidth, nodeCells, entryCells, nodeAt, entryAt}
-use Rattle.grammar.specs.Steps.{Chain, Rule, whatever, asBytes, asTuple, asNames, asString, letterIn, strings, suits, stored, reference, header, front, attach, follow, passed, lined, enter, close, sizeOf, reserve, fill, codePart, localsPart, kindsPart, faultOf}
-use Rattle.stores.specs.Written.{Keeps, nodeWritten, entryWritten, entryLinked}
+use Rattle.grammar.specs.Steps.{Chain, Rule, whatever, asBytes, asTuple, asNames, asString, letterIn, strings, suits, stored, reference, header, front, attach, passed, lined, enter, close, sizeOf, fill, codePart, localsPart, kindsPart, faultOf}
+use Rattle.stores.specs.Written.{Keeps, nodeWritten, entryWritten}
 use Rattle.stores.proofs.Records.{node-claimed, node-written, entry-written, entry-linked, slot-reserved, slot-filled, length-reserve, length-fill}
 use Rattle.stores.proofs.Lookups.{cell-kept, node-kept, entry-kept}
 use Rattle.steps.specs.declared.Walk.{Walk}

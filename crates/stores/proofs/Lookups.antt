@@ -5,7 +5,6 @@ use Prim.Native.Nat.{ℕ, zero, suc, _+_, _*_}
 use native.Mathlib.Omega.{arith}
 use mathlib.Core.List.{List, [], _∷_}
 use lib.ListN.{length, getD}
-use Rattle.lent.specs.Lent.{padded}
 use Rattle.grammar.specs.State.{Node, Entry, blank, unlinked, nodeWidth, entryWidth, nodeCells, entryCells, nodeAt, entryAt}
 use Rattle.stores.specs.Written.{Keeps}
 use Rattle.stores.proofs.Padded.{getD-padded}

@@ -4,7 +4,7 @@ use mathlib.Core.Path.{_≡_, refl, sym, ap, _∙_}
 use Prim.Native.Nat.{ℕ, zero, suc, _+_, _-_, _≤_, _<_}
 use native.Mathlib.Omega.{arith}
 use mathlib.Core.List.{List, [], _∷_, _++_, append-assoc}
-use lib.ListN.{length, getD, set, replicate, length-append, length-set, length-replicate, replicate-append-replicate}
+use lib.ListN.{length, getD, set, length-append, length-set, length-replicate, replicate-append-replicate}
 use lib.Seq.{sets, set-append-left}
 use Rattle.lent.specs.Lent.{zeros, padded}
 

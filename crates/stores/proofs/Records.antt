@@ -1,13 +1,13 @@
 -- Laws of records in padded stores: one is claimed and nothing is written; it is written; an entry is linked; a slot is reserved and filled.
 -- Each says of a store that keeps the cells of a list of records which list it keeps afterwards. Assumes nothing.
 use mathlib.Core.Path.{_≡_, refl, sym, ap, ap₂, _∙_}
-use Prim.Native.Nat.{ℕ, zero, suc, _+_, _-_, _*_, _≤_, _<_}
+use Prim.Native.Nat.{ℕ, zero, suc, _+_, _*_, _≤_, _<_}
 use native.Mathlib.Omega.{arith}
 use mathlib.Core.List.{List, [], _∷_, _++_}
 use lib.ListN.{length, getD, set, length-append, length-set}
 use lib.Seq.{sets, length-sets, set-at}
 use Rattle.refusals.specs.Limits.{nothing}
-use Rattle.lent.specs.Lent.{zeros, padded}
+use Rattle.lent.specs.Lent.{padded}
 use Rattle.grammar.specs.State.{Node, Entry, blank, unlinked, nodeWidth, entryWidth, nodeCells, entryCells}
 use Rattle.grammar.specs.Steps.{reserve, fill}
 use Rattle.stores.specs.Written.{Keeps, nodeWritten, entryWritten, entryLinked}

@@ -4,11 +4,11 @@ use lib.ListN.{length}
 use native.Mathlib.Omega.{arith}
 use mathlib.Core.Path.{ap, _∙_}
 use Rattle.fields.specs.Behind.{childrenOf}
-use Rattle.reader.proofs.Chains.{Stands, stands-safe}
+use Rattle.reader.proofs.Chains.{stands-safe}
 use Rattle.reader.proofs.Values.{head-in, inside-safe, inside-line, value-refused, value-known, value-cut, value-whole}
 use Rattle.reader.proofs.Children.{child-cut, child-unfit, child-linked, attach-asks}
 use Rattle.reader.proofs.Loops.{InvKids, kids-start, kids-stands, kids-end, kids-cut, kids-next, InvPairs, pairs-start, pairs-out, pairs-null, key-cut, key-stands, item-cut, pairs-next, pairs-less}
-use Rattle.reader.proofs.Codes.{InvCode, code-start, code-stands, code-fault, code-end, line-cut, line-stands, part-cut, code-next, body-items, body-pairs, body-parts}
+use Rattle.reader.proofs.Codes.{InvCode, code-start, code-fault, code-end, line-cut, line-stands, part-cut, code-next, body-items, body-pairs, body-parts}
 use borrow.Author.Needs.{needs}
 use Prim.Native.Nat.{ℕ, _+_, _-_, _*_, _<_}
 use borrow.Fn.Kinds.{In}

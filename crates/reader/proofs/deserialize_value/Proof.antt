@@ -7,11 +7,6 @@ use Rattle.reader.proofs.Wholes.{whole-long, whole-refused, whole-read}
 use borrow.Author.Needs.{needs}
 use Rattle.reader.proofs.deserialize_value.Statement.{statement}
 use Rattle.reader.proofs.deserialize_value.Tie as tie
-use Rattle.reader.proofs.deserialize_value.Reads as reads
-use Rattle.reader.proofs.deserialize_value.Lts as lts
-use Rattle.lent.proofs.clear_words.Reads as clear-words-reads
-use Rattle.reader.proofs.at_most.Reads as at-most-reads
-use Rattle.reader.proofs.value.Reads as value-reads
 
 clear-words-requires : tie.Need-clear-words-requires
 clear-words-requires c κs = search needs

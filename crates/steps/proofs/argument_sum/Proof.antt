@@ -1,56 +1,43 @@
-use mathlib.Core.Path.{refl, sym, ap, _∙_}
+-- `argument_sum` adds the numbers that the definition adds.
+-- Assumes nothing.
+use mathlib.Core.Path.{refl}
 use borrow.Author.Needs.{needs}
 use Rattle.steps.proofs.argument_sum.Statement.{statement}
 use Rattle.steps.proofs.argument_sum.Tie as tie
-use Rattle.steps.proofs.argument_sum.Reads as reads
-use Rattle.steps.proofs.argument_sum.Lts as lts
-use Rattle.fields.proofs.le32.Reads as le32-reads
 
--- src/lib.rt:279:21
 le32-requires : tie.Need-le32-requires
 le32-requires c κs = search needs
 
--- src/lib.rt:279:21
 cast-arguments : tie.Need-cast-arguments
 cast-arguments c = search needs
 
--- src/lib.rt:280:40
 add-le32 : tie.Need-add-le32
 add-le32 c = search needs
 
--- src/lib.rt:280:24
 le32-requires-2 : tie.Need-le32-requires-2
 le32-requires-2 c κs = search needs
 
--- src/lib.rt:280:24
 cast-keyword-only : tie.Need-cast-keyword-only
 cast-keyword-only c = search needs
 
--- src/lib.rt:281:33
 add-le32-2 : tie.Need-add-le32-2
 add-le32-2 c = search needs
 
--- src/lib.rt:281:17
 le32-requires-3 : tie.Need-le32-requires-3
 le32-requires-3 c κs = search needs
 
--- src/lib.rt:281:17
 cast-flags : tie.Need-cast-flags
 cast-flags c = search needs
 
--- src/lib.rt:282:5
 add-result : tie.Need-add-result
 add-result c = search needs
 
--- src/lib.rt:282:5
 add-result-2 : tie.Need-add-result-2
 add-result-2 c = search needs
 
--- src/lib.rt:282:5
 add-result-3 : tie.Need-add-result-3
 add-result-3 c = search needs
 
--- src/lib.rt:274:1
 returns : tie.Need-returns
 returns c = rw (← c .before .before .le32 .ensures, ← c .before .le322 .ensures, ← c .le323 .ensures) refl
 

@@ -1,20 +1,16 @@
-use mathlib.Core.Path.{refl, sym, ap, _∙_}
+-- `is_tuple` is the test of its name.
+-- Assumes nothing.
+use mathlib.Core.Path.{refl}
 use Rattle.steps.proofs.Letters.{tuple-none}
-use borrow.Author.Needs.{needs}
 use Rattle.steps.proofs.is_tuple.Statement.{statement}
 use Rattle.steps.proofs.is_tuple.Tie as tie
-use Rattle.steps.proofs.is_tuple.Reads as reads
-use Rattle.steps.proofs.is_tuple.Lts as lts
 
--- src/lib.rt:146:1
 returns : tie.Need-returns
 returns c = rw (c .match .keys1) refl
 
--- src/lib.rt:146:1
 returns-2 : tie.Need-returns-2
 returns-2 c = rw (c .match .keys2) refl
 
--- src/lib.rt:146:1
 returns-3 : tie.Need-returns-3
 returns-3 c = tuple-none _ (c .match .rest .0 .1) (c .match .rest .1)
 

@@ -1,67 +1,48 @@
+-- `suits` is the definition's test over the stores, rule by rule.
+-- Assumes nothing.
 use mathlib.Core.Path.{refl}
 use Rattle.steps.proofs.Letters.{bytes-is, rule-string}
 use borrow.Author.Tests.{not-true, not-false}
 use borrow.Author.Needs.{needs}
 use Rattle.steps.proofs.suits.Statement.{statement}
 use Rattle.steps.proofs.suits.Tie as tie
-use Rattle.steps.proofs.suits.Reads as reads
-use Rattle.steps.proofs.suits.Lts as lts
-use Rattle.steps.proofs.is_string.Reads as is-string-reads
-use Rattle.steps.proofs.is_tuple.Reads as is-tuple-reads
-use Rattle.steps.proofs.strings.Reads as strings-reads
-use Rattle.stores.proofs.count_of.Reads as count-of-reads
-use Rattle.stores.proofs.first_of.Reads as first-of-reads
-use Rattle.stores.proofs.letter_of.Reads as letter-of-reads
 
--- src/lib.rt:221:9
 returns : tie.Need-returns
 returns c = rw (c .if1 .taken) refl
 
--- src/lib.rt:223:9
 letter-of-requires : tie.Need-letter-of-requires
 letter-of-requires c κs = search needs
 
--- src/lib.rt:225:9
 returns-2 : tie.Need-returns-2
 returns-2 c = rw (c .if2 .taken, ← c .before .letter-of .ensures) (bytes-is (c .before .letter-of .result))
 
--- src/lib.rt:228:9
 is-tuple-requires : tie.Need-is-tuple-requires
 is-tuple-requires c κs = search needs
 
--- src/lib.rt:228:9
 returns-3 : tie.Need-returns-3
 returns-3 c = rw (c .before .if3 .taken, ← c .before .before .before .letter-of .ensures) (c .is-tuple .ensures)
 
--- src/lib.rt:231:13
 is-tuple-requires-2 : tie.Need-is-tuple-requires-2
 is-tuple-requires-2 c κs = search needs
 
--- src/lib.rt:232:13
 returns-4 : tie.Need-returns-4
 returns-4 c = rw (c .before .before .if4 .taken, ← c .before .before .before .before .before .letter-of .ensures, ← c .before .is-tuple2 .ensures, not-true (c .before .is-tuple2 .result) (c .if5 .taken)) refl
 
--- src/lib.rt:234:13
 count-of-requires : tie.Need-count-of-requires
 count-of-requires c κs = search needs
 
--- src/lib.rt:235:13
 first-of-requires : tie.Need-first-of-requires
 first-of-requires c κs = search needs
 
--- src/lib.rt:236:9
 strings-requires : tie.Need-strings-requires
 strings-requires c κs = search needs
 
--- src/lib.rt:236:9
 returns-5 : tie.Need-returns-5
 returns-5 c = rw (c .before .before .before .before .before .if4 .taken, ← c .before .before .before .before .before .before .before .before .letter-of .ensures, ← c .before .before .before .before .is-tuple2 .ensures, not-false (c .before .before .before .before .is-tuple2 .result) (c .before .before .before .if5 .left), ← c .before .before .count-of .ensures, ← c .before .first-of .ensures) (c .strings .ensures)
 
--- src/lib.rt:238:5
 is-string-requires : tie.Need-is-string-requires
 is-string-requires c κs = search needs
 
--- src/lib.rt:217:1
 returns-6 : tie.Need-returns-6
 returns-6 c = rw (rule-string _ (c .before .before .before .before .before .if1 .left) (c .before .before .before .if2 .left) (c .before .before .if3 .left) (c .before .if4 .left), ← c .before .before .before .before .letter-of .ensures) (c .is-string .ensures)
 

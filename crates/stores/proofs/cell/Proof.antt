@@ -1,24 +1,20 @@
+-- `cell` reads within the store and answers 0 past its end.
+-- Assumes nothing.
 use mathlib.Core.Path.{sym}
 use lib.ListN.{List·getD-eq-default}
 use borrow.Author.Needs.{needs}
 use Rattle.stores.proofs.cell.Statement.{statement}
 use Rattle.stores.proofs.cell.Tie as tie
-use Rattle.stores.proofs.cell.Reads as reads
-use Rattle.stores.proofs.cell.Lts as lts
 
--- src/lib.rt:70:26
 mul-result : tie.Need-mul-result
 mul-result c = search needs
 
--- src/lib.rt:70:26
 shared-slice-read-result : tie.Need-shared-slice-read-result
 shared-slice-read-result c = search needs
 
--- src/lib.rt:67:1
 returns : tie.Need-returns
 returns c = search needs
 
--- src/lib.rt:67:1
 returns-2 : tie.Need-returns-2
 returns-2 c = sym (List·getD-eq-default (c .before .args .store .now) 0 (c .if1 .left))
 

@@ -1,78 +1,60 @@
-use Rattle.refusals.specs.Limits.{nothing}
+-- `write_node` leaves the record's numbers in a row; the law of a node's stores carries it.
+-- Assumes nothing.
 use Rattle.stores.proofs.Records.{node-stores}
 use native.Mathlib.Omega.{arith}
 use lib.ListN.{length-set}
 use borrow.Author.Needs.{needs}
 use Rattle.stores.proofs.write_node.Statement.{statement}
 use Rattle.stores.proofs.write_node.Tie as tie
-use Rattle.stores.proofs.write_node.Reads as reads
-use Rattle.stores.proofs.write_node.Lts as lts
 
--- src/lib.rt:29:16
 mul-base : tie.Need-mul-base
 mul-base c = search needs
 
--- src/lib.rt:30:5
 mul-nodes : tie.Need-mul-nodes
 mul-nodes c = search needs
 
--- src/lib.rt:30:5
 slice-write-nodes : tie.Need-slice-write-nodes
 slice-write-nodes c = search needs
 
--- src/lib.rt:31:11
 add-nodes : tie.Need-add-nodes
 add-nodes c = search needs
 
--- src/lib.rt:31:5
 mul-nodes-2 : tie.Need-mul-nodes-2
 mul-nodes-2 c = search needs
 
--- src/lib.rt:31:5
 slice-write-nodes-2 : tie.Need-slice-write-nodes-2
 slice-write-nodes-2 c = simp length-set (omega arith)
 
--- src/lib.rt:32:11
 add-nodes-2 : tie.Need-add-nodes-2
 add-nodes-2 c = search needs
 
--- src/lib.rt:32:5
 mul-nodes-3 : tie.Need-mul-nodes-3
 mul-nodes-3 c = search needs
 
--- src/lib.rt:32:5
 slice-write-nodes-3 : tie.Need-slice-write-nodes-3
 slice-write-nodes-3 c = simp length-set (omega arith)
 
--- src/lib.rt:33:11
 add-nodes-3 : tie.Need-add-nodes-3
 add-nodes-3 c = search needs
 
--- src/lib.rt:33:5
 mul-nodes-4 : tie.Need-mul-nodes-4
 mul-nodes-4 c = search needs
 
--- src/lib.rt:33:5
 slice-write-nodes-4 : tie.Need-slice-write-nodes-4
 slice-write-nodes-4 c = simp length-set (omega arith)
 
--- src/lib.rt:34:11
 add-nodes-4 : tie.Need-add-nodes-4
 add-nodes-4 c = search needs
 
--- src/lib.rt:34:5
 mul-nodes-5 : tie.Need-mul-nodes-5
 mul-nodes-5 c = search needs
 
--- src/lib.rt:34:5
 slice-write-nodes-5 : tie.Need-slice-write-nodes-5
 slice-write-nodes-5 c = simp length-set (omega arith)
 
--- src/lib.rt:17:1
 same-length : tie.Need-same-length
 same-length c = search needs
 
--- src/lib.rt:17:1
 returns : tie.Need-returns
 returns c = node-stores (c .args .nodes .now) (c .args .n) (c .args .letter) (c .args .place) (c .args .size) (c .args .first) (c .args .count)
 
