@@ -3,4 +3,5 @@
 mod leaves;
 mod locals;
 mod locations;
+mod values;
 mod varints;
