@@ -52,6 +52,32 @@ sill_written_t sill_write_varint_with_start(uint8_t *out, size_t out_len, uint32
 sill_found_t sill_read_varint(const uint8_t *data, size_t data_len, size_t at);
 sill_found_t sill_read_varint_with_start(const uint8_t *data, size_t data_len, size_t at);
 
+/* ---- Line tables: where each instruction of a code object comes from. */
+
+typedef struct {
+    uint32_t refusal; /* 14: the table is too long, at 0; 17: fewer records than instructions, place is the capacity in
+                         records; 18: a line or a number outside 32 bits, place is its entry's start from the table's */
+    uint32_t place;
+    uint32_t from_entries; /* how many instructions the entries placed; those after them show the first line, column 1 */
+    uint32_t whole; /* 1: every byte was used, none was missing, and the entries' lengths add up to count */
+} sill_located_t;
+
+typedef struct {
+    uint32_t line; /* lines and columns count from 1 */
+    uint32_t column;
+    uint32_t end_line;
+    uint32_t end_column;
+} sill_location_t;
+
+/* Four numbers an instruction, in the order of sill_location_t. The capacity is records_len / 4. */
+sill_located_t sill_locate(const uint8_t *table, size_t table_len, int32_t first_line, uint32_t count,
+                           uint32_t *records, size_t records_len);
+
+/* One struct an instruction in out, and the same as numbers in flat. The capacity is the smaller of flat_len / 4 and
+ * out_len. */
+sill_located_t sill_locations(const uint8_t *table, size_t table_len, int32_t first_line, uint32_t count,
+                              uint32_t *flat, size_t flat_len, sill_location_t *out, size_t out_len);
+
 /* ---- Local names by their kinds: Local 0x20, Cell 0x40, Free 0x80. */
 
 typedef struct {
