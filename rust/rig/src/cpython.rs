@@ -63,7 +63,7 @@ fn of_lines(row: &str) -> Option<(linetable::Ask, Vec<Position>)> {
 fn hold_positions(ask: &linetable::Ask, said: &[Position]) -> Result<(), String> {
     let mut running = i64::from(ask.first_line);
     let records = said.iter().map(|position| as_shown(*position, &mut running)).collect();
-    let origin = Some(Origin { from_entries: ask.count, whole: true });
+    let origin = Origin { from_entries: ask.count, whole: true };
     let answer = linetable::Answer::Accepted { records, origin };
     LineTables::check(ask, &answer).map_err(|difference| format!("{}; {difference}", LineTables::row(ask, &answer)))
 }

@@ -11,10 +11,9 @@ pub struct Ask {
     pub count: u32,
 }
 
-/// What is known of the answer: the Rust shows neither a refusal's place nor where the records come from.
 pub enum Answer {
-    Refused { number: u32, place: Option<u32> },
-    Accepted { records: Vec<Location>, origin: Option<Origin> },
+    Refused { number: u32, place: u32 },
+    Accepted { records: Vec<Location>, origin: Origin },
 }
 
 #[derive(Clone, Copy)]
@@ -35,14 +34,15 @@ impl Subject for LineTables {
             _ if is_too_long(ask) => "listed difference: a table above 16 MiB is refused (the Rust reads it)",
             Answer::Refused { .. } => "refused: a number leaves its range (there the checked Rust panics)",
             Answer::Accepted { .. } if ask.table.is_empty() => "an empty table",
-            Answer::Accepted { .. } => "every record alike",
+            Answer::Accepted { origin, .. } if origin.whole => "every record alike, whole",
+            Answer::Accepted { .. } => "every record alike, not whole",
         }
     }
 
     fn check(ask: &Ask, answer: &Answer) -> Result<(), String> {
         let part = Part::new(&ask.table);
         match answer {
-            _ if is_too_long(ask) => check_refused(ask, &part, refusals::INPUT_TOO_LONG, Some(0)),
+            _ if is_too_long(ask) => check_refused(ask, &part, refusals::INPUT_TOO_LONG, 0),
             Answer::Refused { number, place } => check_refused(ask, &part, *number, *place),
             Answer::Accepted { records, origin } => check_accepted(ask, &part, records, *origin),
         }?;
@@ -52,12 +52,9 @@ impl Subject for LineTables {
     fn row(ask: &Ask, answer: &Answer) -> String {
         let asked = format!("locate {} {} {}", hex(&ask.table), ask.first_line, ask.count);
         match answer {
-            Answer::Refused { number, place } => {
-                format!("{asked} refused {number} {}", place.map_or("?".to_string(), |place| place.to_string()))
-            }
-            Answer::Accepted { records, origin } => {
-                let shown = origin.map(|o| format!("{}:{}", o.from_entries, u32::from(o.whole)));
-                format!("{asked} {} {}", shown.unwrap_or("?".to_string()), runs(records))
+            Answer::Refused { number, place } => format!("{asked} refused {number} {place}"),
+            Answer::Accepted { records, origin: Origin { from_entries, whole } } => {
+                format!("{asked} {from_entries}:{} {}", u32::from(*whole), runs(records))
             }
         }
     }
@@ -68,12 +65,8 @@ impl Subject for LineTables {
         };
         let ask = Ask { table: of_hex(table)?, first_line: first_line.parse().ok()?, count: count.parse().ok()? };
         let answer = match rest {
-            ["refused", number, "?"] => Answer::Refused { number: number.parse().ok()?, place: None },
-            ["refused", number, place] => {
-                Answer::Refused { number: number.parse().ok()?, place: Some(place.parse().ok()?) }
-            }
-            ["?", records] => Answer::Accepted { records: of_runs(records)?, origin: None },
-            [origin, records] => Answer::Accepted { records: of_runs(records)?, origin: Some(of_origin(origin)?) },
+            ["refused", number, place] => Answer::Refused { number: number.parse().ok()?, place: place.parse().ok()? },
+            [origin, records] => Answer::Accepted { records: of_runs(records)?, origin: of_origin(origin)? },
             _ => return None,
         };
         Some((ask, answer))
@@ -94,37 +87,26 @@ fn refused(number: u32, place: u32) -> Located {
 }
 
 /// The records in the flat store and in the store of structs, with zeros after them.
-fn check_accepted(ask: &Ask, part: &Part, records: &[Location], origin: Option<Origin>) -> Result<(), String> {
-    let count = ask.count as usize;
-    let (answered, flat) = locate(ask, part, 4 * count + 3);
-    if answered.refusal != refusals::ACCEPTED || answered.place != 0 {
-        return Err(format!("{answered:?} and not accepted"));
-    }
-    if let Some(origin) = origin {
-        let expected = Located { from_entries: origin.from_entries, whole: origin.whole.into(), ..answered };
-        same("sill_locate", answered, expected)?;
-    }
-    flat.holds("records", &numbers(records))?;
-    let (again, flat, out) = locations(ask, part, 4 * count, count + 1);
-    same("sill_locations", again, answered)?;
-    flat.holds("flat", &numbers(records))?;
-    out.holds("out", records)
+fn check_accepted(ask: &Ask, part: &Part, records: &[Location], origin: Origin) -> Result<(), String> {
+    let Origin { from_entries, whole } = origin;
+    let expected = Located { refusal: refusals::ACCEPTED, place: 0, from_entries, whole: whole.into() };
+    check_both(ask, part, expected, records)
 }
 
-/// The same refusal from both, every store zero. A place that is not known is at least an entry's start.
-fn check_refused(ask: &Ask, part: &Part, number: u32, place: Option<u32>) -> Result<(), String> {
-    let count = ask.count as usize;
+/// The same refusal from both, every store zero.
+fn check_refused(ask: &Ask, part: &Part, number: u32, place: u32) -> Result<(), String> {
+    check_both(ask, part, refused(number, place), &[])
+}
+
+fn check_both(ask: &Ask, part: &Part, expected: Located, records: &[Location]) -> Result<(), String> {
+    let (count, numbers) = (ask.count as usize, numbers(records));
     let (answered, flat) = locate(ask, part, 4 * count + 3);
-    same("sill_locate", answered, refused(number, place.unwrap_or(answered.place)))?;
-    let starts_entry = |byte: &u8| byte & 0x80 != 0;
-    if place.is_none() && !ask.table.get(answered.place as usize).is_some_and(starts_entry) {
-        return Err(format!("no entry starts at {}", answered.place));
-    }
-    flat.holds("records", &[])?;
-    let (again, flat, out) = locations(ask, part, 4 * count, count + 1);
-    same("sill_locations", again, answered)?;
-    flat.holds("flat", &[])?;
-    out.holds("out", &[])
+    same("sill_locate", answered, expected)?;
+    flat.holds("records", &numbers)?;
+    let (answered, flat, out) = locations(ask, part, 4 * count, count + 1);
+    same("sill_locations", answered, expected)?;
+    flat.holds("flat", &numbers)?;
+    out.holds("out", records)
 }
 
 /// Fewer records than instructions in one store or in both: refused at the smaller capacity, before the table is read.
@@ -190,22 +172,40 @@ fn numbers(records: &[Location]) -> Vec<u32> {
 #[cfg(carried)]
 pub mod carried_side {
     //! The Rust's answers, and the questions put to both.
-    use super::{Answer, Ask, LineTables};
+    use super::{Answer, Ask, LineTables, Origin};
     use crate::panics::unless_overflow;
     use crate::random::Random;
+    use crate::shape;
     use crate::subject::Carried;
     use crate::varint::carried_side::strings_of;
     use carried::{SourceLocation, marshal, varint};
     use sillgarland_sys::{Location, refusals};
 
     impl Carried for LineTables {
+        /// The Rust shows the records, or panics; at which entry, and where records come from, the table's shape tells.
         fn by_the_rust(ask: &Ask) -> Answer {
-            let read = || marshal::linetable_to_locations(&ask.table, ask.first_line, ask.count as usize);
-            match unless_overflow(read) {
-                None => Answer::Refused { number: refusals::NUMBER_RANGE, place: None },
-                Some(pairs) => Answer::Accepted { records: pairs.iter().map(record).collect(), origin: None },
+            match records(ask, &ask.table) {
+                None => Answer::Refused { number: refusals::NUMBER_RANGE, place: place_of_panic(ask) },
+                Some(records) => Answer::Accepted { records, origin: origin(ask) },
             }
         }
+    }
+
+    fn records(ask: &Ask, table: &[u8]) -> Option<Vec<Location>> {
+        let read = || marshal::linetable_to_locations(table, ask.first_line, ask.count as usize);
+        Some(unless_overflow(read)?.iter().map(record).collect())
+    }
+
+    /// The start of the first entry with which, but without which not, the Rust panics.
+    fn place_of_panic(ask: &Ask) -> u32 {
+        let entries = shape::entries(&ask.table, ask.count);
+        let panics = |end: usize| records(ask, &ask.table[..end]).is_none();
+        entries.iter().find(|entry| panics(entry.end)).expect("some entry panics").start as u32
+    }
+
+    fn origin(ask: &Ask) -> Origin {
+        let placed = shape::placed(&shape::entries(&ask.table, ask.count));
+        Origin { from_entries: placed.min(ask.count), whole: shape::is_whole(&ask.table, ask.count) }
     }
 
     fn record((start, end): &(SourceLocation, SourceLocation)) -> Location {

@@ -2,7 +2,7 @@
 use crate::lent::{Lent, Part};
 use crate::subject::Subject;
 use crate::text::{hex, numbers, of_hex, of_numbers};
-use sillgarland_sys::{self as sys, Names, refusals};
+use sillgarland_sys::{self as sys, Split, refusals};
 
 #[derive(Clone, Debug)]
 pub struct Ask {
@@ -87,14 +87,14 @@ fn is_too_long(ask: &Ask) -> bool {
     ask.kinds.len() > refusals::MOST_BYTES as usize
 }
 
-fn refused(number: u32, place: usize) -> Names {
-    Names { refusal: number, place: place as u32, locals: 0, cells: 0, frees: 0, present: 0 }
+fn refused(number: u32, place: usize) -> Split {
+    Split { refusal: number, place: place as u32, locals: 0, cells: 0, frees: 0, present: 0 }
 }
 
 /// The five lists and their counts, in stores of exactly as many numbers as names and in longer ones.
 fn check_accepted(ask: &Ask, stores: &[Vec<u32>; 5]) -> Result<(), String> {
     let [locals, cells, frees, _, cell_args] = stores;
-    let expected = Names {
+    let expected = Split {
         refusal: refusals::ACCEPTED,
         place: 0,
         locals: locals.len() as u32,
@@ -132,7 +132,7 @@ fn check_no_room(ask: &Ask) -> Result<(), String> {
     Ok(())
 }
 
-fn hold(ask: &Ask, lens: [usize; 5], expected: Names, written: &[Vec<u32>; 5]) -> Result<(), String> {
+fn hold(ask: &Ask, lens: [usize; 5], expected: Split, written: &[Vec<u32>; 5]) -> Result<(), String> {
     let part = Part::new(&ask.kinds);
     let (answered, stores) = split(ask, &part, lens);
     if answered != expected {
@@ -144,7 +144,7 @@ fn hold(ask: &Ask, lens: [usize; 5], expected: Names, written: &[Vec<u32>; 5]) -
     Ok(())
 }
 
-pub fn split(ask: &Ask, part: &Part, lens: [usize; 5]) -> (Names, [Lent<u32>; 5]) {
+pub fn split(ask: &Ask, part: &Part, lens: [usize; 5]) -> (Split, [Lent<u32>; 5]) {
     let kinds = part.bytes();
     let mut stores = lens.map(Lent::new);
     let [locals, cells, frees, map, cell_args] = stores.each_mut().map(|store| store.pointer());

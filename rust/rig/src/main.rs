@@ -4,10 +4,14 @@ mod cpython;
 mod lent;
 mod linetable;
 mod localsplus;
+mod nulls;
+mod numbers;
 #[cfg(carried)]
 mod panics;
 #[cfg(carried)]
 mod random;
+#[cfg(carried)]
+mod shape;
 mod subject;
 mod tally;
 mod text;
@@ -100,9 +104,9 @@ fn contents(file: &str) -> Result<String, String> {
 }
 
 fn replay_lists() -> bool {
-    let lists = ["fixed", "vectors"];
-    all(lists
-        .map(|folder| all([replay::<Varints>(folder), replay::<LineTables>(folder), replay::<LocalNames>(folder)])))
+    let replay_all =
+        |folder| all([replay::<Varints>(folder), replay::<LineTables>(folder), replay::<LocalNames>(folder)]);
+    all([numbers::hold(), nulls::hold(), replay_all("fixed"), replay_all("vectors")])
 }
 
 fn all<const N: usize>(held: [bool; N]) -> bool {

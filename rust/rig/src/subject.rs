@@ -50,6 +50,7 @@ pub fn compare<S: Carried>(asks: impl Iterator<Item = S::Ask>) -> bool {
 pub fn write_list<S: Carried>(folder: &str, asks: impl Iterator<Item = S::Ask>) -> Result<(), String> {
     let mut text = format!(
         "# {}: what the carried Rust (rustpython-compiler-core 0.6.0, unchanged, built with overflow checks) answers.\n\
+         # What it does not show (whole or cut, where from, at which entry) the rig tells from the input's shape.\n\
          # Made by `rig --write-fixed`; replayed against the port without the Rust.\n",
         S::NAME
     );

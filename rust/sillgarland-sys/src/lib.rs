@@ -49,7 +49,7 @@ pub struct Location {
 /// What splitting local names answers: how many of each kind, and whether the cell-to-argument list is present.
 #[repr(C)]
 #[derive(Clone, Copy, Debug, PartialEq, Eq)]
-pub struct Names {
+pub struct Split {
     pub refusal: u32,
     pub place: u32,
     pub locals: u32,
@@ -100,7 +100,7 @@ unsafe extern "C" {
         map_len: usize,
         cell_args: *mut u32,
         cell_args_len: usize,
-    ) -> Names;
+    ) -> Split;
 }
 
 /// The refusal numbers and limits of document 01, under the names of the crate `refusals`.

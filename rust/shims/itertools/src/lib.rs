@@ -73,3 +73,17 @@ where
         Ok(())
     }
 }
+
+#[cfg(test)]
+mod tests {
+    use super::process_results;
+
+    #[test]
+    fn stops_at_the_first_error() {
+        let mut taken = 0;
+        let results = [Ok(1), Ok(2), Err("bad"), Ok(4)].into_iter().inspect(|_| taken += 1);
+        assert_eq!(process_results(results, |values| values.sum::<i32>()), Err("bad"));
+        assert_eq!(taken, 3);
+        assert_eq!(process_results([Ok::<_, ()>(1), Ok(2)], |values| values.sum::<i32>()), Ok(3));
+    }
+}

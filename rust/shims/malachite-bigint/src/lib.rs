@@ -134,3 +134,34 @@ impl fmt::Display for BigInt {
         self.to_bytes_le().1.iter().rev().try_for_each(|byte| write!(f, "{byte:02x}"))
     }
 }
+
+#[cfg(test)]
+mod tests {
+    use super::{BigInt, Sign};
+
+    /// Digits of 15 bits, put together as a long is read, have the bytes of the machine's own sum.
+    #[test]
+    fn digits_add_up() {
+        let mut seed = 1u64;
+        for len in 0..8 {
+            let (mut sum, mut expected) = (BigInt::from(0), 0u128);
+            for i in 0..len {
+                seed = seed.wrapping_mul(6_364_136_223_846_793_005).wrapping_add(1_442_695_040_888_963_407);
+                let digit = (seed >> 49) as u32;
+                sum += BigInt::from(digit) << (15 * i);
+                expected += u128::from(digit) << (15 * i);
+            }
+            let (sign, mut bytes) = (-sum).to_bytes_le();
+            assert_eq!(sign, if expected == 0 { Sign::NoSign } else { Sign::Minus });
+            bytes.resize(16, 0);
+            assert_eq!(bytes, expected.to_le_bytes());
+        }
+    }
+
+    #[test]
+    fn fits_32_bits_exactly_where_it_does() {
+        for value in [0, 1, -1, 255, 256, i64::from(i32::MAX), i64::from(i32::MIN), 1 << 31, -(1 << 31) - 1, i64::MIN] {
+            assert_eq!(i32::try_from(&BigInt::from(value)).ok(), i32::try_from(value).ok());
+        }
+    }
+}

@@ -91,3 +91,50 @@ impl fmt::Debug for Wtf8Buf {
         fmt::Debug::fmt(&**self, f)
     }
 }
+
+#[cfg(test)]
+mod tests {
+    use super::Wtf8;
+    use alloc::vec::Vec;
+
+    fn is_text(bytes: &[u8]) -> bool {
+        Wtf8::from_bytes(bytes).is_some()
+    }
+
+    /// A code point in UTF-8's pattern, also where it is a surrogate.
+    fn encoded(point: u32) -> Vec<u8> {
+        let low = |shift: u32| 0x80 | (point >> shift & 0x3F) as u8;
+        match point {
+            0..=0x7F => Vec::from([point as u8]),
+            0x80..=0x7FF => Vec::from([0xC0 | (point >> 6) as u8, low(0)]),
+            0x800..=0xFFFF => Vec::from([0xE0 | (point >> 12) as u8, low(6), low(0)]),
+            _ => Vec::from([0xF0 | (point >> 18) as u8, low(12), low(6), low(0)]),
+        }
+    }
+
+    #[test]
+    fn every_code_point_is_text() {
+        assert!((0..=0x10_FFFF).all(|point| is_text(&encoded(point))));
+    }
+
+    /// Of the strings with a lead byte for their length, as many are text as there are code points of that length.
+    #[test]
+    fn nothing_else_is_text() {
+        let bytes = || 0..=0xFFu8;
+        let two = (0x80..=0xFF).flat_map(|a| bytes().map(move |b| [a, b])).filter(|string| is_text(string));
+        assert_eq!(two.count(), 0x800 - 0x80);
+        let three = (0xE0..=0xEF).flat_map(|a| bytes().flat_map(move |b| bytes().map(move |c| [a, b, c])));
+        assert_eq!(three.filter(|string| is_text(string)).count(), 0x1_0000 - 0x800);
+        let later = || 0x80..=0xBFu8;
+        let four = (0xF0..=0xFF)
+            .flat_map(|a| later().flat_map(move |b| later().flat_map(move |c| later().map(move |d| [a, b, c, d]))));
+        assert_eq!(four.filter(|string| is_text(string)).count(), 0x11_0000 - 0x1_0000);
+    }
+
+    #[test]
+    fn surrogates_stand_in_any_order_and_cut_text_is_none() {
+        assert!(is_text(b"\xED\xA0\x80\xED\xB0\x80 \xED\xBF\xBF"));
+        assert!(!is_text(b"\xED\xA0"));
+        assert!(!is_text(b"a\x80"));
+    }
+}

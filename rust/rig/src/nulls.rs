@@ -1,0 +1,37 @@
+//! A null pointer with length 0 is an empty slice: every exported function, called so, answers as for no bytes and no room.
+use crate::tally::Tally;
+use sillgarland_sys::{Found, Located, Split, Written, refusals};
+use sillgarland_sys::{sill_locate, sill_locations, sill_read_varint, sill_read_varint_with_start, sill_split};
+use sillgarland_sys::{
+    sill_write_signed_varint, sill_write_varint, sill_write_varint_be, sill_write_varint_with_start,
+};
+use std::fmt::Debug;
+use std::ptr::{null, null_mut};
+
+pub fn hold() -> bool {
+    let mut tally = Tally::new("nulls");
+    let no_room = Written { refusal: refusals::NO_ROOM, place: 0, written: 0 };
+    let none = Found { found: 0, value: 0, whole: 0, pad: 0, next: 0 };
+    let no_instructions = Located { refusal: refusals::ACCEPTED, place: 0, from_entries: 0, whole: 1 };
+    let no_names = Split { refusal: refusals::ACCEPTED, place: 0, locals: 0, cells: 0, frees: 0, present: 0 };
+    // SAFETY: null with length 0 is what the functions promise to take.
+    unsafe {
+        let (n, m, w) = (null(), null_mut(), null_mut());
+        count(&mut tally, "sill_write_varint", sill_write_varint(m, 0, 0), no_room);
+        count(&mut tally, "sill_write_signed_varint", sill_write_signed_varint(m, 0, 0), no_room);
+        count(&mut tally, "sill_write_varint_be", sill_write_varint_be(m, 0, 0), no_room);
+        count(&mut tally, "sill_write_varint_with_start", sill_write_varint_with_start(m, 0, 0), no_room);
+        count(&mut tally, "sill_read_varint", sill_read_varint(n, 0, 0), none);
+        count(&mut tally, "sill_read_varint_with_start", sill_read_varint_with_start(n, 0, 0), none);
+        count(&mut tally, "sill_locate", sill_locate(n, 0, 1, 0, w, 0), no_instructions);
+        count(&mut tally, "sill_locations", sill_locations(n, 0, 1, 0, w, 0, null_mut(), 0), no_instructions);
+        let split = sill_split(n, 0, 0, 0, 0, 0, w, 0, w, 0, w, 0, w, 0, w, 0);
+        count(&mut tally, "sill_split", split, no_names);
+    }
+    tally.finish()
+}
+
+fn count<T: PartialEq + Debug>(tally: &mut Tally, name: &str, answered: T, expected: T) {
+    let held = if answered == expected { Ok(()) } else { Err(format!("{name}: {answered:?} and not {expected:?}")) };
+    tally.count("functions called with null and 0", held);
+}
