@@ -6,7 +6,8 @@
  * - It answers for any bytes and any numbers. It never fails, allocates, prints or keeps anything: it is reentrant, and may
  *   run in any number of threads at once on stores of their own.
  * - A slice is a pointer and a length that counts elements. A null pointer with length 0 is an empty slice. A pointer with
- *   a length above 0 points to that many elements, aligned for their type (1 byte for uint8_t, 4 for uint32_t).
+ *   a length above 0 points to that many elements, aligned for their type (1 byte for uint8_t, 4 for uint32_t
+ *   and sill_location_t).
  * - A store lent for writing (a pointer without const) overlaps no other argument. The function may read and write all of it.
  * - refusal is 0 where the call was accepted; then place is 0, and what was written is followed by zeros to the store's end.
  *   Otherwise refusal is the number, and place the place, that document 01 gives; every other field is 0, and so is every
@@ -56,10 +57,12 @@ sill_found_t sill_read_varint_with_start(const uint8_t *data, size_t data_len, s
 
 typedef struct {
     uint32_t refusal; /* 14: the table is too long, at 0; 17: fewer records than instructions, place is the capacity in
-                         records; 18: a line or a number outside 32 bits, place is its entry's start from the table's */
+                         records; 18: a line outside signed 32 bits or a number of more than six bytes, place is the
+                         start of its entry, from the table's start */
     uint32_t place;
-    uint32_t from_entries; /* how many instructions the entries placed; those after them show the first line, column 1 */
-    uint32_t whole; /* 1: every byte was used, none was missing, and the entries' lengths add up to count */
+    uint32_t from_entries; /* how many instructions the entries placed; the others show the first line (1 where that is
+                              not positive) and column 1 */
+    uint32_t whole; /* every byte was used, none was missing, no stop was met, and the lengths add up to count */
 } sill_located_t;
 
 typedef struct {

@@ -155,9 +155,9 @@ module _ {M : Type 1} (𝓤 : URA M) (H : Heap 𝓤) (A : Atoms 𝓤) (W : Given
 
   exits : (r : Located) (n : SillLocated) (w : Val) (zs : List ℕ) (ws : List Location) → Told r zs ws → n ≡ locatedStruct r → length zs ≡ length (x .now) → length ws ≡ length (u .now)
       → ent 𝓤 (⋆ 𝓤 H A (‵ (R.the-row .own n (w ∷ [])) ∷ Tokens ∷ ‵ (finally T.the-row (u .name) ws) ∷ ‵ (finally u32 (x .name) zs) ∷ ‵ Own₀ ∷ [])) (Post w)
-  exits r n w zs ws e e₂ l l₂ =
+  exits r n w zs ws e e₂ same₁ same₂ =
       qed W (‵ (R.the-row .own n (w ∷ [])) ∷ Tokens ∷ ‵ (finally T.the-row (u .name) ws) ∷ ‵ (finally u32 (x .name) zs) ∷ ‵ Own₀ ∷ []) ∵
-      suffices ! _ (ends-at 𝓤 H A sill.ended stayed (sill.clauses 𝓤 H A mem run) W bound w n (tt, (tt, (tt, (zs, (ws, tt))))) (tt, (tt, (tt, (l, (l₂, tt)))))) $ says ! (e₂ ∙ ap locatedStruct (e .0), e .1, e .2) $
+      suffices ! _ (ends-at 𝓤 H A sill.ended stayed (sill.clauses 𝓤 H A mem run) W bound w n (tt, (tt, (tt, (zs, (ws, tt))))) (tt, (tt, (tt, (same₁, (same₂, tt)))))) $ says ! (e₂ ∙ ap locatedStruct (e .0), e .1, e .2) $
       move ! (1 ∷ []) $ frame ! $
       -- [the result; out's last list; flat's; what table owns]
       nothing ! $ move ! (2 ∷ 0 ∷ []) $ fjoin ! $ move ! (2 ∷ 0 ∷ []) $ fjoin ! $
@@ -182,8 +182,8 @@ module _ {M : Type 1} (𝓤 : URA M) (H : Heap 𝓤) (A : Atoms 𝓤) (W : Given
         use1 W (later (some (λ (r : Located). (Tokens ⊛ ‵ (S.the-row .own r (w ∷ []))) ⊛ raw (ensured 𝓤 H A into.ended (into.clauses 𝓤 H A mem run) κs a tt r)))) (id⊢ 𝓤 _) $ await ! tt $ pick ! (λ r.
         split ! $ move ! (1 ∷ []) $ use1 W (some (λ (zs : Last). ‵ (lasts into.ended κs a zs) ⊛ raw (fact 𝓤 (Told r (zs .1 .1 .1 .0) (zs .1 .1 .1 .1 .0))))) (id⊢ 𝓤 _) $ pick ! (λ zs.
         split ! $ move ! (1 ∷ []) $ heard ! (Told r (zs .1 .1 .1 .0) (zs .1 .1 .1 .1 .0)) (λ e.
-        fsplit ! $ drop ! $ fsplit ! $ drop ! $ fsplit ! $ drop ! $ fsplit ! $ fsplit ! $ move ! (1 ∷ []) $ feqL ! (λ l.
-        move ! (1 ∷ []) $ fsplit ! $ fsplit ! $ move ! (1 ∷ []) $ feqL ! (λ l₂′. move ! (1 ∷ []) $ drop ! $
+        fsplit ! $ drop ! $ fsplit ! $ drop ! $ fsplit ! $ drop ! $ fsplit ! $ fsplit ! $ move ! (1 ∷ []) $ feqL ! (λ same₁.
+        move ! (1 ∷ []) $ fsplit ! $ fsplit ! $ move ! (1 ∷ []) $ feqL ! (λ same₂. move ! (1 ∷ []) $ drop ! $
         -- [out's last list; flat's; the tokens and the answer; what table owns; _10; …]
         move ! (2 ∷ []) $ split ! $ move ! (1 ∷ []) $ peeks ! S.the-row (Is S.the-row) (shows 𝓤 H A S.the-row) r (w ∷ []) (λ is.
         land ! (from ! (stop !)) (init ! 13 refl (EL.lawful S.the-type S′.the-laws 𝓤 H A W tt .typed r _ is .0)) $
@@ -196,7 +196,7 @@ module _ {M : Type 1} (𝓤 : URA M) (H : Heap 𝓤) (A : Atoms 𝓤) (W : Given
         land ! (from ! (stop !)) (init ! 25 refl (LL.lawful R.the-type R′.the-laws 𝓤 H A W .typed n _ is₂ .0)) $
         returns ! (look ! 25 refl) $ forget ! 5 refl $ forget ! 7 refl $ forget ! 9 refl $ forget ! 11 refl $ forget ! 13 refl $ forget ! 15 refl $ forget ! 17 refl $ forget ! 19 refl $ forget ! 21 refl $ forget ! 23 refl $ forget ! 25 refl $
         move ! (25 ∷ 26 ∷ []) $ free1 ! $ move ! (23 ∷ 24 ∷ []) $ free1 ! $ move ! (21 ∷ 22 ∷ []) $ free1 ! $ move ! (19 ∷ 20 ∷ []) $ free1 ! $ move ! (17 ∷ 18 ∷ []) $ free1 ! $ move ! (15 ∷ 16 ∷ []) $ free1 ! $ move ! (13 ∷ 14 ∷ []) $ free1 ! $ move ! (11 ∷ 12 ∷ []) $ free1 ! $ move ! (9 ∷ 10 ∷ []) $ free1 ! $ move ! (7 ∷ 8 ∷ []) $ free1 ! $ move ! (5 ∷ 6 ∷ []) $ free1 ! $ free0 ! $
-        by ! (exits r n w₂ (zs .1 .1 .1 .0) (zs .1 .1 .1 .1 .0) e e₂ l l₂′)))))))))))))))))))))))
+        by ! (exits r n w₂ (zs .1 .1 .1 .0) (zs .1 .1 .1 .1 .0) e e₂ same₁ same₂)))))))))))))))))))))))
 
 module _ {M : Type 1} (𝓤 : URA M) (H : Heap 𝓤) (A : Atoms 𝓤) (W : Given 𝓤 H A) (mem : Memory → SProp 𝓤) (run : Routine → Fun 𝓤) where
   sill-walks : (C : Calls 𝓤 H) (Λ : Loops 𝓤 H) → FmC 𝓤 H (W .laws) C → Triple 𝓤 (C #linetable-to-locations) (Into 𝓤 H A mem run) → Triple 𝓤 (C #located-numbers) (Num 𝓤 H A mem run)
