@@ -6,7 +6,8 @@
  * - It answers for any bytes and any numbers. It never fails, allocates, prints or keeps anything: it is reentrant, and may
  *   run in any number of threads at once on stores of their own.
  * - A slice is a pointer and a length that counts elements. A null pointer with length 0 is an empty slice. A pointer with
- *   a length above 0 points to that many elements, aligned for their type (1 byte for uint8_t, 4 for uint32_t).
+ *   a length above 0 points to that many elements, aligned for their type (1 byte for uint8_t, 4 for uint32_t
+ *   and sill_location_t).
  * - A store lent for writing (a pointer without const) overlaps no other argument. The function may read and write all of it.
  * - refusal is 0 where the call was accepted; then place is 0, and what was written is followed by zeros to the store's end.
  *   Otherwise refusal is the number, and place the place, that document 01 gives; every other field is 0, and so is every
@@ -51,6 +52,34 @@ sill_written_t sill_write_varint_with_start(uint8_t *out, size_t out_len, uint32
 /* Big-endian reading at any position, also beyond the end; with_start asks for 0x80 on the first byte. */
 sill_found_t sill_read_varint(const uint8_t *data, size_t data_len, size_t at);
 sill_found_t sill_read_varint_with_start(const uint8_t *data, size_t data_len, size_t at);
+
+/* ---- Line tables: where each instruction of a code object comes from. */
+
+typedef struct {
+    uint32_t refusal; /* 14: the table is too long, at 0; 17: fewer records than instructions, place is the capacity in
+                         records; 18: a line outside signed 32 bits or a number of more than six bytes, place is the
+                         start of its entry, from the table's start */
+    uint32_t place;
+    uint32_t from_entries; /* how many instructions the entries placed; the others show the first line (1 where that is
+                              not positive) and column 1 */
+    uint32_t whole; /* every byte was used, none was missing, no stop was met, and the lengths add up to count */
+} sill_located_t;
+
+typedef struct {
+    uint32_t line; /* lines and columns count from 1 */
+    uint32_t column;
+    uint32_t end_line;
+    uint32_t end_column;
+} sill_location_t;
+
+/* Four numbers an instruction, in the order of sill_location_t. The capacity is records_len / 4. */
+sill_located_t sill_locate(const uint8_t *table, size_t table_len, int32_t first_line, uint32_t count,
+                           uint32_t *records, size_t records_len);
+
+/* One struct an instruction in out, and the same as numbers in flat. The capacity is the smaller of flat_len / 4 and
+ * out_len. */
+sill_located_t sill_locations(const uint8_t *table, size_t table_len, int32_t first_line, uint32_t count,
+                              uint32_t *flat, size_t flat_len, sill_location_t *out, size_t out_len);
 
 /* ---- Local names by their kinds: Local 0x20, Cell 0x40, Free 0x80. */
 
