@@ -4,12 +4,12 @@ use mathlib.Core.Path.{_≡_, ap, _∙_}
 use Prim.Native.Nat.{ℕ}
 use mathlib.Core.List.{List}
 use Rattle.grammar.specs.Answer.{Outcome}
-use Rattle.reader.specs.declared.Delivery.{Delivery}
+use Rattle.reader.specs.declared.Outcome.{Outcome as Answered}
 use Rattle.reader.specs.Delivered.{answerOf, Delivers}
 use Rattle.sillgarland.specs.declared.values.SillRead.{SillRead}
 use Rattle.sillgarland.specs.Values.{readStruct, ReadAs}
 
-pub read-handed : {o : Outcome} {answer : Delivery} {r : SillRead} {nodes entries slots : List ℕ}
+pub read-handed : {o : Outcome} {answer : Answered} {r : SillRead} {nodes entries slots : List ℕ}
     → r ≡ readStruct (answerOf answer) → Delivers o answer nodes entries slots → ReadAs o r nodes entries slots
 read-handed is read =
     record {

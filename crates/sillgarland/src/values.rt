@@ -1,5 +1,5 @@
 // Reading a value for C and Rust callers. See include/sillgarland.h for what a caller owes.
-use reader::Delivery;
+use reader::Outcome;
 ghost use mathlib.Core.Path.{_≡_};
 ghost use lib.ListN.{length};
 ghost use Rattle.grammar.specs.Answer.{readOf};
@@ -33,11 +33,16 @@ pub extern "C" fn sill_read(
     read_numbers(answer)
 }
 
-fn read_numbers(answer: Delivery) -> SillRead
+fn read_numbers(answer: Outcome) -> SillRead
     ensures { λ r. ⌜ r ≡ readStruct (answerOf answer) ⌝ }
 {
     match answer {
-        Delivery::Read(consumed, nodes, entries, slots) => SillRead {
+        Outcome::Read {
+            consumed,
+            nodes,
+            entries,
+            slots,
+        } => SillRead {
             refusal: refusals::ACCEPTED,
             place: 0,
             consumed,
@@ -45,7 +50,7 @@ fn read_numbers(answer: Delivery) -> SillRead
             entries,
             slots,
         },
-        Delivery::Refused(number, place) => SillRead {
+        Outcome::Refused(number, place) => SillRead {
             refusal: number,
             place,
             consumed: 0,
