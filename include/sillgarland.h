@@ -100,6 +100,43 @@ sill_split_t sill_split(const uint8_t *kinds, size_t kinds_len, uint32_t names, 
                         uint32_t *frees, size_t frees_len, uint32_t *map, size_t map_len, uint32_t *cell_args,
                         size_t cell_args_len);
 
+/* ---- Values: reading one from the start of the input, and what its leaves are. */
+
+typedef struct {
+    uint32_t refusal; /* 1 to 15, with the place that document 01's table gives */
+    uint32_t place;
+    uint32_t consumed; /* how many bytes the value took; what follows them is not looked at */
+    uint32_t nodes;    /* how many of each record were used */
+    uint32_t entries;
+    uint32_t slots;
+} sill_read_t;
+
+typedef struct {
+    uint32_t refusal; /* 14 at 0; 16: the node's record is not sound, place is the node number */
+    uint32_t place;
+    uint32_t kind; /* 0 not a leaf, 1 none, 2 truth, 3 ellipsis, 4 stop, 5 whole, 6 float, 7 two floats, 8 wide */
+    uint32_t pad;
+    uint64_t first;  /* truth: 0 or 1; whole: two's complement; floats: the stored bits; else 0 */
+    uint64_t second; /* two floats: the second's bits; else 0 */
+} sill_leaf_t;
+
+/* The input has at most 16,777,216 bytes (14). nodes holds five numbers a node: letter, place, size, first entry, count;
+ * entries two an entry: node, next entry; slots one a slot: 0 while open, else node + 1. No entry is 4,294,967,295. Each
+ * capacity counts as at most 1,048,576 records, nesting as at most 2,000. The root is node 0. A nesting of 2,000 needs
+ * less than 1 MiB of stack. */
+sill_read_t sill_read(const uint8_t *input, size_t input_len, uint32_t *nodes, size_t nodes_len, uint32_t *entries,
+                      size_t entries_len, uint32_t *slots, size_t slots_len, uint32_t nesting);
+
+/* Any node store may be asked, of which so many nodes count as used. */
+sill_leaf_t sill_leaf(const uint8_t *input, size_t input_len, const uint32_t *nodes, size_t nodes_len, uint32_t used,
+                      uint32_t node);
+
+/* The line table that is a bytes node's contents, as sill_locate reads it: 14 at 0, then 16 at the node number where its
+ * record is not sound or it is not bytes. Places of 18 count from the table's start. */
+sill_located_t sill_locate_node(const uint8_t *input, size_t input_len, const uint32_t *nodes, size_t nodes_len,
+                                uint32_t used, uint32_t node, int32_t first_line, uint32_t count, uint32_t *records,
+                                size_t records_len);
+
 #ifdef __cplusplus
 }
 #endif
