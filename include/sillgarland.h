@@ -6,13 +6,14 @@
  * - It answers for any bytes and any numbers. It never fails, allocates, prints or keeps anything: it is reentrant, and may
  *   run in any number of threads at once on stores of their own.
  * - A slice is a pointer and a length that counts elements. A null pointer with length 0 is an empty slice. A pointer with
- *   a length above 0 points to that many elements, aligned for their type (1 byte for uint8_t, 4 for uint32_t).
+ *   a length above 0 points to that many elements, aligned for their type (1 byte for uint8_t, 4 for uint32_t
+ *   and sill_location_t).
  * - A store lent for writing (a pointer without const) overlaps no other argument. The function may read and write all of it.
  * - refusal is 0 where the call was accepted; then place is 0, and what was written is followed by zeros to the store's end.
  *   Otherwise refusal is the number, and place the place, that document 01 gives; every other field is 0, and so is every
  *   element of every store lent for writing.
  * - A truth is 0 or 1. A field named pad is 0.
- * - The functions below need less than 1 KiB of stack.
+ * - The functions below need less than 1 KiB of stack; sill_read needs some for each level of nesting.
  */
 #ifndef SILLGARLAND_H
 #define SILLGARLAND_H
@@ -52,6 +53,34 @@ sill_written_t sill_write_varint_with_start(uint8_t *out, size_t out_len, uint32
 sill_found_t sill_read_varint(const uint8_t *data, size_t data_len, size_t at);
 sill_found_t sill_read_varint_with_start(const uint8_t *data, size_t data_len, size_t at);
 
+/* ---- Line tables: where each instruction of a code object comes from. */
+
+typedef struct {
+    uint32_t refusal; /* 14: the table is too long, at 0; 17: fewer records than instructions, place is the capacity in
+                         records; 18: a line outside signed 32 bits or a number of more than six bytes, place is the
+                         start of its entry, from the table's start */
+    uint32_t place;
+    uint32_t from_entries; /* how many instructions the entries placed; the others show the first line (1 where that is
+                              not positive) and column 1 */
+    uint32_t whole; /* every byte was used, none was missing, no stop was met, and the lengths add up to count */
+} sill_located_t;
+
+typedef struct {
+    uint32_t line; /* lines and columns count from 1 */
+    uint32_t column;
+    uint32_t end_line;
+    uint32_t end_column;
+} sill_location_t;
+
+/* Four numbers an instruction, in the order of sill_location_t. The capacity is records_len / 4. */
+sill_located_t sill_locate(const uint8_t *table, size_t table_len, int32_t first_line, uint32_t count,
+                           uint32_t *records, size_t records_len);
+
+/* One struct an instruction in out, and the same as numbers in flat. The capacity is the smaller of flat_len / 4 and
+ * out_len. */
+sill_located_t sill_locations(const uint8_t *table, size_t table_len, int32_t first_line, uint32_t count,
+                              uint32_t *flat, size_t flat_len, sill_location_t *out, size_t out_len);
+
 /* ---- Local names by their kinds: Local 0x20, Cell 0x40, Free 0x80. */
 
 typedef struct {
@@ -70,6 +99,46 @@ sill_split_t sill_split(const uint8_t *kinds, size_t kinds_len, uint32_t names, 
                         uint32_t flags, uint32_t *locals, size_t locals_len, uint32_t *cells, size_t cells_len,
                         uint32_t *frees, size_t frees_len, uint32_t *map, size_t map_len, uint32_t *cell_args,
                         size_t cell_args_len);
+
+/* ---- Values: a marshalled value is read into three stores of numbers that the caller lends.
+ *
+ * Node: five numbers: type letter without the flag, place, size, first entry, count. The value itself is node 0.
+ * Entry: two numbers: node, next entry. A container's children are the chain from its first entry, count of them.
+ * Slot: one number: a value that later references name, as node + 1.
+ * No entry, and no next entry, are 4,294,967,295. A capacity is length / 5, length / 2 and length, at most 1,048,576 each;
+ * nesting counts as at most 2,000. No value needs more nodes, entries or slots than it has bytes.
+ */
+
+typedef struct {
+    uint32_t refusal; /* 1 to 15 and 18; 11, 12, 13: the store of nodes, entries, slots is too small */
+    uint32_t place;
+    uint32_t consumed; /* how many bytes the value takes; those after it are not looked at */
+    uint32_t nodes;    /* how many records of each store are used */
+    uint32_t entries;
+    uint32_t slots;
+} sill_read_t;
+
+sill_read_t sill_read(const uint8_t *input, size_t input_len, uint32_t *nodes, size_t nodes_len, uint32_t *entries,
+                      size_t entries_len, uint32_t *slots, size_t slots_len, uint32_t nesting);
+
+typedef struct {
+    uint32_t refusal; /* 14: the input is too long, at 0; 16: no sound record, place is the node's number */
+    uint32_t place;
+    uint32_t kind; /* 0 not a leaf, 1 none, 2 truth, 3 ellipsis, 4 stop, 5 whole number, 6 one float, 7 two floats,
+                      8 wide: a whole number outside signed 64 bits */
+    uint32_t pad;
+    uint64_t first;  /* the truth; the whole number's bits, two's complement; the (first) float's bits; else 0 */
+    uint64_t second; /* the second float's bits; else 0 */
+} sill_leaf_t;
+
+/* What a node holds. used is how many nodes the reading used. */
+sill_leaf_t sill_leaf(const uint8_t *input, size_t input_len, const uint32_t *nodes, size_t nodes_len, uint32_t used,
+                      uint32_t node);
+
+/* sill_locate for the table that a bytes node (letter s) holds; 14 at 0 for the input, then 16 at the node's number. */
+sill_located_t sill_locate_node(const uint8_t *input, size_t input_len, const uint32_t *nodes, size_t nodes_len,
+                                uint32_t used, uint32_t node, int32_t first_line, uint32_t count, uint32_t *records,
+                                size_t records_len);
 
 #ifdef __cplusplus
 }
