@@ -6,6 +6,11 @@
 //! Truth is 0 or 1.
 #![no_std]
 
+#[cfg(feature = "write")]
+mod write;
+#[cfg(feature = "write")]
+pub use write::sill_write;
+
 /// What a varint writer answers: how many bytes it wrote.
 #[repr(C)]
 #[derive(Clone, Copy, Debug, PartialEq, Eq)]
@@ -58,6 +63,31 @@ pub struct Split {
     pub present: u32,
 }
 
+/// What reading a value answers: how many bytes it takes, and how many records of each store are used.
+#[repr(C)]
+#[derive(Clone, Copy, Debug, PartialEq, Eq)]
+pub struct Read {
+    pub refusal: u32,
+    pub place: u32,
+    pub consumed: u32,
+    pub nodes: u32,
+    pub entries: u32,
+    pub slots: u32,
+}
+
+/// What a node holds. Kind: 0 not a leaf, 1 none, 2 truth, 3 ellipsis, 4 stop, 5 whole number (its bits in first),
+/// 6 one float (its bits in first), 7 two floats (their bits), 8 wide.
+#[repr(C)]
+#[derive(Clone, Copy, Debug, PartialEq, Eq)]
+pub struct Leaf {
+    pub refusal: u32,
+    pub place: u32,
+    pub kind: u32,
+    pub pad: u32,
+    pub first: u64,
+    pub second: u64,
+}
+
 unsafe extern "C" {
     pub fn sill_write_varint(out: *mut u8, out_len: usize, value: u32) -> Written;
     pub fn sill_write_signed_varint(out: *mut u8, out_len: usize, value: i32) -> Written;
@@ -101,6 +131,37 @@ unsafe extern "C" {
         cell_args: *mut u32,
         cell_args_len: usize,
     ) -> Split;
+    pub fn sill_read(
+        input: *const u8,
+        input_len: usize,
+        nodes: *mut u32,
+        nodes_len: usize,
+        entries: *mut u32,
+        entries_len: usize,
+        slots: *mut u32,
+        slots_len: usize,
+        nesting: u32,
+    ) -> Read;
+    pub fn sill_leaf(
+        input: *const u8,
+        input_len: usize,
+        nodes: *const u32,
+        nodes_len: usize,
+        used: u32,
+        node: u32,
+    ) -> Leaf;
+    pub fn sill_locate_node(
+        input: *const u8,
+        input_len: usize,
+        nodes: *const u32,
+        nodes_len: usize,
+        used: u32,
+        node: u32,
+        first_line: i32,
+        count: u32,
+        records: *mut u32,
+        records_len: usize,
+    ) -> Located;
 }
 
 /// The refusal numbers and limits of document 01, under the names of the crate `refusals`.

@@ -1,0 +1,57 @@
+//! Golden files of a spreadsheet harness hold marshalled Python values: formulas compiled to code objects, and the results
+//! that are expected of them. This crate reads them through the proved port (`sillgarland-sys` links it), owns the stores
+//! that the port asks for, and lets a caller walk what was read without copying anything.
+//!
+//! ```
+//! use sillgarland::{Content, Reader};
+//!
+//! let mut reader = Reader::new();
+//! let golden = reader.read(b")\x02i\x05\0\0\0T")?;
+//! assert_eq!(golden.consumed(), 8);
+//!
+//! let mut children = golden.root().children();
+//! assert!(matches!(children.next().unwrap().content(), Content::Whole(5)));
+//! assert!(matches!(children.next().unwrap().content(), Content::Truth(true)));
+//! # Ok::<(), sillgarland::Refused>(())
+//! ```
+//!
+//! What cannot be read is refused, with the number, name and place that document 01 gives:
+//!
+//! ```
+//! use sillgarland::{Place, Reader, Refusal};
+//!
+//! let refused = Reader::new().read(b"u\x02\0\0\0a").unwrap_err();
+//! assert_eq!(refused.refusal, Refusal::DataTooShort);
+//! assert_eq!(refused.place, Place::Byte(5));
+//! assert_eq!(refused.to_string(), "2 DataTooShort at byte 5: the field that starts here is cut: the input ends inside it");
+//! ```
+//!
+//! A line table that is cut is not an error: it is an answer that cannot be overlooked. [`Code::lines`] gives [`Lines`],
+//! whose locations are reached only by saying which of the two it is, and each location says whether an entry of the
+//! table placed it.
+#![warn(missing_docs)]
+
+mod code;
+mod golden;
+mod lines;
+mod reader;
+mod refusal;
+mod same;
+mod value;
+#[cfg(feature = "write")]
+mod write;
+
+pub use code::{Code, NUMBERS, PARTS};
+pub use golden::Golden;
+pub use lines::{Lines, Located, Location, Locations, Records};
+pub use reader::Reader;
+pub use refusal::{Place, Refusal, Refused};
+pub use same::{Difference, Path, Step, What, first_difference};
+pub use value::{Children, Content, Text, Value, Wide};
+
+/// The longest input that is read, in bytes.
+pub const MOST_BYTES: usize = sillgarland_sys::refusals::MOST_BYTES as usize;
+/// The most nodes, entries or slots that a value may need.
+pub const MOST_RECORDS: usize = sillgarland_sys::refusals::MOST_RECORDS as usize;
+/// The deepest nesting that is read; a container takes one level and a code object two.
+pub const MOST_NESTING: u32 = sillgarland_sys::refusals::MOST_NESTING;

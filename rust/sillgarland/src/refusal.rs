@@ -1,0 +1,178 @@
+//! Document 01's refusals: number, name and place, and what each means for the person whose file was refused.
+use std::fmt;
+
+/// Why nothing was read, written or located; the numbers and names are document 01's.
+#[allow(missing_docs)] // each is explained by its `meaning`
+#[derive(Clone, Copy, Debug, PartialEq, Eq, PartialOrd, Ord, Hash)]
+pub enum Refusal {
+    EofObject = 1,
+    DataTooShort,
+    UnknownType,
+    NullObject,
+    InvalidRef,
+    BadSize,
+    BadType,
+    InvalidBytecode,
+    InvalidUtf8,
+    TooDeep,
+    NoNode,
+    NoEntry,
+    NoSlot,
+    InputTooLong,
+    NotCarried,
+    BadTable,
+    NoRoom,
+    NumberRange,
+}
+
+/// Each refusal's meaning, said of the place where it stands, in the order of the numbers.
+const MEANINGS: [(Refusal, &str); 18] = [
+    (Refusal::EofObject, "a value is expected here, and the input ends"),
+    (Refusal::DataTooShort, "the field that starts here is cut: the input ends inside it"),
+    (Refusal::UnknownType, "a type letter is expected here, and this byte is none"),
+    (Refusal::NullObject, "a value is expected here, and a null stands here (it may only end a dict)"),
+    (Refusal::InvalidRef, "a reference to a value that is already complete is expected here, and this one names none"),
+    (Refusal::BadSize, "a length is expected here, and this one is negative"),
+    (Refusal::BadType, "this part of a code object is not of the type that belongs here (bytes, tuple, names, string)"),
+    (
+        Refusal::InvalidBytecode,
+        "a sound digit or code object is expected here: a digit is below 32,768 and the last one not 0; \
+         a code object has as many kinds as local names and an even number of code bytes",
+    ),
+    (Refusal::InvalidUtf8, "the text that starts here is not UTF-8 (surrogates would be allowed)"),
+    (Refusal::TooDeep, "the value here is nested more than 2,000 levels deep"),
+    (Refusal::NoNode, "the value that starts here is one too many: 1,048,576 fit in one reading"),
+    (Refusal::NoEntry, "the child that starts here is one too many: 1,048,576 fit in one reading"),
+    (Refusal::NoSlot, "the shared value that starts here is one too many: 1,048,576 fit in one reading"),
+    (Refusal::InputTooLong, "the input is longer than 16,777,216 bytes"),
+    (Refusal::NotCarried, "a float written as decimal digits (letter f or x) stands here; these are not read"),
+    (Refusal::BadTable, "the stores hold no sound record of this node"),
+    (Refusal::NoRoom, "what is written does not fit"),
+    (
+        Refusal::NumberRange,
+        "a number here leaves its range: a code object's argument counts add up to 2^32 or more, \
+         or a line table's entry steps out of 32 bits",
+    ),
+];
+
+impl Refusal {
+    /// The refusal that a number stands for; 0 means accepted and is none.
+    ///
+    /// ```
+    /// use sillgarland::Refusal;
+    /// assert_eq!(Refusal::of_number(9), Some(Refusal::InvalidUtf8));
+    /// assert_eq!(Refusal::of_number(0), None);
+    /// ```
+    pub fn of_number(number: u32) -> Option<Self> {
+        let at = usize::try_from(number).ok()?.checked_sub(1)?;
+        MEANINGS.get(at).map(|(refusal, _)| *refusal)
+    }
+
+    /// Document 01's number.
+    pub fn number(self) -> u32 {
+        self as u32
+    }
+
+    /// What is wrong at the place of the refusal, and what is expected there.
+    pub fn meaning(self) -> &'static str {
+        MEANINGS[self as usize - 1].1
+    }
+}
+
+/// Number and name: `9 InvalidUtf8`.
+impl fmt::Display for Refusal {
+    fn fmt(&self, f: &mut fmt::Formatter) -> fmt::Result {
+        write!(f, "{} {self:?}", self.number())
+    }
+}
+
+/// Where a refusal stands.
+#[derive(Clone, Copy, Debug, PartialEq, Eq, Hash)]
+pub enum Place {
+    /// A byte of the input, counted from its start.
+    Byte(usize),
+    /// A node of the stores, by its number.
+    Node(u32),
+    /// No place in the input: this much room was lent, and it does not do.
+    Room(u32),
+}
+
+impl fmt::Display for Place {
+    fn fmt(&self, f: &mut fmt::Formatter) -> fmt::Result {
+        match self {
+            Place::Byte(at) => write!(f, "byte {at}"),
+            Place::Node(number) => write!(f, "node {number}"),
+            Place::Room(room) => write!(f, "room for {room}"),
+        }
+    }
+}
+
+/// A refusal and its place.
+#[derive(Clone, Copy, Debug, PartialEq, Eq, Hash)]
+pub struct Refused {
+    /// Which.
+    pub refusal: Refusal,
+    /// Where.
+    pub place: Place,
+}
+
+impl Refused {
+    /// The answer of a call as a result: its number, and its place by what places mean in that call.
+    pub(crate) fn unless_accepted(number: u32, place: impl FnOnce(Refusal) -> Place) -> Result<(), Self> {
+        match Refusal::of_number(number) {
+            None => Ok(()),
+            Some(refusal) => Err(Self { refusal, place: place(refusal) }),
+        }
+    }
+
+    /// The same refusal in an input that has `before` more bytes at its front.
+    pub fn after(self, before: usize) -> Self {
+        match self.place {
+            Place::Byte(at) => Self { place: Place::Byte(at + before), ..self },
+            _ => self,
+        }
+    }
+}
+
+/// Number, name, place and meaning, on one line.
+impl fmt::Display for Refused {
+    fn fmt(&self, f: &mut fmt::Formatter) -> fmt::Result {
+        write!(f, "{} at {}: {}", self.refusal, self.place, self.refusal.meaning())
+    }
+}
+
+impl std::error::Error for Refused {}
+
+#[cfg(test)]
+mod tests {
+    use super::*;
+    use sillgarland_sys::refusals;
+
+    #[test]
+    fn each_number_gives_the_refusal_of_that_number() {
+        for number in 1..=18 {
+            let refusal = Refusal::of_number(number).unwrap();
+            assert_eq!(refusal.number(), number);
+            assert_eq!(MEANINGS[number as usize - 1].0, refusal);
+        }
+        assert_eq!(Refusal::of_number(refusals::ACCEPTED), None);
+        assert_eq!(Refusal::of_number(19), None);
+        assert_eq!(Refusal::of_number(u32::MAX), None);
+    }
+
+    #[test]
+    fn numbers_are_those_of_the_port() {
+        assert_eq!(Refusal::EofObject.number(), refusals::EOF_OBJECT);
+        assert_eq!(Refusal::InvalidUtf8.number(), refusals::INVALID_UTF8);
+        assert_eq!(Refusal::NoSlot.number(), refusals::NO_SLOT);
+        assert_eq!(Refusal::NumberRange.number(), refusals::NUMBER_RANGE);
+    }
+
+    #[test]
+    fn only_bytes_move() {
+        let at = |place| Refused { refusal: Refusal::TooDeep, place }.after(7).place;
+        assert_eq!(at(Place::Byte(3)), Place::Byte(10));
+        assert_eq!(at(Place::Node(3)), Place::Node(3));
+        assert_eq!(at(Place::Room(3)), Place::Room(3));
+    }
+}
