@@ -1,4 +1,6 @@
 pub mod Reached
 pub mod Leads
 pub mod Going
-pub mod Points
+pub mod Lengths
+pub mod Exactly
+pub mod Determined
