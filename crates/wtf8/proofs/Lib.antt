@@ -4,3 +4,4 @@ pub mod Going
 pub mod Lengths
 pub mod Exactly
 pub mod Determined
+pub mod Agreement

@@ -32,7 +32,9 @@ plain-requires-3 c κs = search needs
 
 le32-requires : tie.Need-le32-requires
 unfolding letters found classOf
-le32-requires c κs = fixed-held (c .before .before .args .s .now) (nodeOf (c .before .before .args .node)) (c .before .before .pre .0) 4 (ap classOf (c .match .keys6))
+le32-requires c κs =
+    fixed-held (c .before .before .args .s .now) (nodeOf (c .before .before .args .node)) (c .before .before .pre .0) 4
+    (ap classOf (c .match .keys6))
 
 extended-requires : tie.Need-extended-requires
 extended-requires c κs = search needs
@@ -42,36 +44,47 @@ whole-requires c κs = search needs
 
 le64-requires : tie.Need-le64-requires
 unfolding letters found classOf
-le64-requires c κs = fixed-held (c .before .before .args .s .now) (nodeOf (c .before .before .args .node)) (c .before .before .pre .0) 8 (ap classOf (c .match .keys7))
+le64-requires c κs =
+    fixed-held (c .before .before .args .s .now) (nodeOf (c .before .before .args .node)) (c .before .before .pre .0) 8
+    (ap classOf (c .match .keys7))
 
 whole-requires-2 : tie.Need-whole-requires-2
 whole-requires-2 c κs = search needs
 
 le64-requires-2 : tie.Need-le64-requires-2
 unfolding letters found classOf
-le64-requires-2 c κs = fixed-held (c .before .before .args .s .now) (nodeOf (c .before .before .args .node)) (c .before .before .pre .0) 8 (ap classOf (c .match .keys8))
+le64-requires-2 c κs =
+    fixed-held (c .before .before .args .s .now) (nodeOf (c .before .before .args .node)) (c .before .before .pre .0) 8
+    (ap classOf (c .match .keys8))
 
 float-requires : tie.Need-float-requires
 float-requires c κs = search needs
 
 le64-requires-3 : tie.Need-le64-requires-3
 unfolding letters found classOf
-le64-requires-3 c κs = omega (arith, double-held (c .before .before .args .s .now) (nodeOf (c .before .before .args .node)) (c .before .before .pre .0) (ap classOf (c .match .keys9)))
+le64-requires-3 c κs =
+    omega
+    (arith, double-held (c .before .before .args .s .now) (nodeOf (c .before .before .args .node)) (c .before .before .pre .0) (ap classOf (c .match .keys9)))
 
 add-le64 : tie.Need-add-le64
 unfolding letters found classOf
-add-le64 c = omega (arith, double-held (c .before .before .before .args .s .now) (nodeOf (c .before .before .before .args .node)) (c .before .before .before .pre .0) (ap classOf (c .before .match .keys9)))
+add-le64 c =
+    omega
+    (arith, double-held (c .before .before .before .args .s .now) (nodeOf (c .before .before .before .args .node)) (c .before .before .before .pre .0) (ap classOf (c .before .match .keys9)))
 
 le64-requires-4 : tie.Need-le64-requires-4
 unfolding letters found classOf
-le64-requires-4 c κs = double-held (c .before .before .before .args .s .now) (nodeOf (c .before .before .before .args .node)) (c .before .before .before .pre .0) (ap classOf (c .before .match .keys9))
+le64-requires-4 c κs =
+    double-held (c .before .before .before .args .s .now) (nodeOf (c .before .before .before .args .node))
+    (c .before .before .before .pre .0) (ap classOf (c .before .match .keys9))
 
 complex-requires : tie.Need-complex-requires
 complex-requires c κs = search needs
 
 long-leaf-requires : tie.Need-long-leaf-requires
 unfolding letters found classOf
-long-leaf-requires c κs = (long-held (c .before .before .args .s .now) (nodeOf (c .before .before .args .node)) (c .before .before .pre .0) (ap classOf (c .match .keys10)), c .before .before .pre .1)
+long-leaf-requires c κs =
+    (long-held (c .before .before .args .s .now) (nodeOf (c .before .before .args .node)) (c .before .before .pre .0) (ap classOf (c .match .keys10)), c .before .before .pre .1)
 
 plain-requires-4 : tie.Need-plain-requires-4
 plain-requires-4 c κs = search needs
@@ -98,7 +111,9 @@ returns-5 c = rw (c .before .match .keys5) (c .plain3 .ensures)
 
 returns-6 : tie.Need-returns-6
 unfolding definition.leafAs
-returns-6 c = rw (c .before .before .before .match .keys6) (c .whole .ensures ∙ ap (λ n. toldOf (definition.whole n)) (c .before .extended .ensures ∙ ap definition.extended (c .before .before .le32 .ensures)))
+returns-6 c =
+    rw (c .before .before .before .match .keys6)
+    (c .whole .ensures ∙ ap (λ n. toldOf (definition.whole n)) (c .before .extended .ensures ∙ ap definition.extended (c .before .before .le32 .ensures)))
 
 returns-7 : tie.Need-returns-7
 unfolding definition.leafAs
@@ -110,7 +125,9 @@ returns-8 c = rw (c .before .before .match .keys8) (c .float .ensures ∙ ap (λ
 
 returns-9 : tie.Need-returns-9
 unfolding definition.leafAs
-returns-9 c = rw (c .before .before .before .match .keys9) (rw (c .before .before .le643 .ensures, c .before .le644 .ensures) at (c .complex .ensures))
+returns-9 c =
+    rw (c .before .before .before .match .keys9)
+    (rw (c .before .before .le643 .ensures, c .before .le644 .ensures) at (c .complex .ensures))
 
 returns-10 : tie.Need-returns-10
 unfolding definition.leafAs
@@ -118,7 +135,21 @@ returns-10 c = rw (c .before .match .keys10) (c .long-leaf .ensures)
 
 returns-11 : tie.Need-returns-11
 unfolding definition.leafAs
-returns-11 c = let rest = c .before .match .rest in rw (ne-eqb _ _ (rest .0 .0 .0 .0 .0 .0 .0 .0 .0 .1), ne-eqb _ _ (rest .0 .0 .0 .0 .0 .0 .0 .0 .1), ne-eqb _ _ (rest .0 .0 .0 .0 .0 .0 .0 .1), ne-eqb _ _ (rest .0 .0 .0 .0 .0 .0 .1), ne-eqb _ _ (rest .0 .0 .0 .0 .0 .1), ne-eqb _ _ (rest .0 .0 .0 .0 .1), ne-eqb _ _ (rest .0 .0 .0 .1), ne-eqb _ _ (rest .0 .0 .1), ne-eqb _ _ (rest .0 .1), ne-eqb _ _ (rest .1)) (c .plain4 .ensures)
+returns-11 c =
+    let rest = c .before .match .rest in
+    rw (
+      ne-eqb _ _ (rest .0 .0 .0 .0 .0 .0 .0 .0 .0 .1),
+      ne-eqb _ _ (rest .0 .0 .0 .0 .0 .0 .0 .0 .1),
+      ne-eqb _ _ (rest .0 .0 .0 .0 .0 .0 .0 .1),
+      ne-eqb _ _ (rest .0 .0 .0 .0 .0 .0 .1),
+      ne-eqb _ _ (rest .0 .0 .0 .0 .0 .1),
+      ne-eqb _ _ (rest .0 .0 .0 .0 .1),
+      ne-eqb _ _ (rest .0 .0 .0 .1),
+      ne-eqb _ _ (rest .0 .0 .1),
+      ne-eqb _ _ (rest .0 .1),
+      ne-eqb _ _ (rest .1),
+    )
+    (c .plain4 .ensures)
 
 pub leaf-as-spec : {M : Type 1} → statement M
 leaf-as-spec =

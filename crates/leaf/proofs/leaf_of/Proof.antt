@@ -24,17 +24,31 @@ sound-at-requires c κs = search needs
 
 returns-2 : tie.Need-returns-2
 unfolding definition.leafOf
-returns-2 c = rw (le-ltb _ _ (c .before .before .if1 .left), ← c .before .sound-at .ensures, not-true (c .before .sound-at .result) (c .if2 .taken))
+returns-2 c =
+    rw (le-ltb _ _ (c .before .before .if1 .left), ← c .before .sound-at .ensures, not-true (c .before .sound-at .result) (c .if2 .taken))
 
 node-at-requires : tie.Need-node-at-requires
-node-at-requires c κs = in-store (c .before .before .before .before .before .args .input .now) (c .before .before .before .before .before .args .nodes .now) (c .before .before .before .before .before .args .used) (c .before .before .before .before .before .args .node) (sym (c .before .sound-at .ensures) ∙ not-false _ (c .if2 .left))
+node-at-requires c κs =
+    let tested = c in
+    let args = tested .before .before .before .before .before .args in
+    let ok = sym (tested .before .sound-at .ensures) ∙ not-false _ (tested .if2 .left) in
+    in-store (args .input .now) (args .nodes .now) (args .used) (args .node) ok
 
 leaf-as-requires : tie.Need-leaf-as-requires
-leaf-as-requires c κs = (ap (sound (c .before .before .before .before .before .before .args .input .now)) (c .node-at .ensures) ∙ sound-node (c .before .before .before .before .before .before .args .input .now) (c .before .before .before .before .before .before .args .nodes .now) (c .before .before .before .before .before .before .args .used) (c .before .before .before .before .before .before .args .node) (sym (c .before .before .sound-at .ensures) ∙ not-false _ (c .before .if2 .left)), search needs)
+leaf-as-requires c κs =
+    let tested = c .before in
+    let args = tested .before .before .before .before .before .args in
+    let ok = sym (tested .before .sound-at .ensures) ∙ not-false _ (tested .if2 .left) in
+    (ap (sound (args .input .now)) (c .node-at .ensures) ∙ sound-node (args .input .now) (args .nodes .now) (args .used) (args .node) ok, search needs)
 
 returns-3 : tie.Need-returns-3
 unfolding definition.leafOf
-returns-3 c = rw (le-ltb _ _ (c .before .before .before .before .if1 .left), ← c .before .before .before .sound-at .ensures, not-false (c .before .before .before .sound-at .result) (c .before .before .if2 .left)) (ap answered.Told (c .leaf-as .ensures) ∙ ap (λ (n : Node). answered.Told (toldOf (definition.leafAs (c .before .before .before .before .before .before .before .args .input .now) (n .letter) (n .place)))) (c .before .node-at .ensures))
+returns-3 c =
+    let tested = c .before .before in
+    let input = tested .before .before .before .before .before .args .input .now in
+    rw (le-ltb _ _ (tested .before .before .if1 .left), ← tested .before .sound-at .ensures, not-false (tested .before .sound-at .result) (tested .if2 .left))
+    (ap answered.Told (c .leaf-as .ensures)
+    ∙ ap (λ (n : Node). answered.Told (toldOf (definition.leafAs input (n .letter) (n .place)))) (c .before .node-at .ensures))
 
 pub leaf-of-spec : {M : Type 1} → statement M
 leaf-of-spec =

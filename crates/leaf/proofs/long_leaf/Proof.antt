@@ -18,7 +18,12 @@ add-magnitude : tie.Need-add-magnitude
 add-magnitude c = search needs
 
 magnitude-requires : tie.Need-magnitude-requires
-magnitude-requires c κs = let pre = c .before .before .before .pre in (omega (arith, counts (c .before .before .before .args .s .now) (c .before .before .before .args .place) (c .before .le32 .result) (c .digit-count .result) (c .before .le32 .ensures) (c .digit-count .ensures .0), pre .0 .digits), pre .1)
+magnitude-requires c κs =
+    let read = c in
+    let start = read .before .before .before in
+    let digits = counts (start .args .s .now) (start .args .place) (read .before .le32 .result) (read .digit-count .result)
+    (read .before .le32 .ensures) (read .digit-count .ensures .0) in
+    (omega (arith, digits, start .pre .0 .digits), start .pre .1)
 
 enum-told : tie.Need-enum-told
 enum-told c = search needs
@@ -30,13 +35,30 @@ enum-known-number : tie.Need-enum-known-number
 enum-known-number c = search needs
 
 long-of-requires : tie.Need-long-of-requires
-long-of-requires c κs = λ negative. negative-some (c .before .before .before .before .before .before .before .args .s .now) (c .before .before .before .before .before .before .before .args .place) (c .before .before .before .before .before .le32 .result) (c .before .before .before .before .digit-count .result) (c .before .before .before .before .before .le32 .ensures) (c .before .before .before .before .digit-count .ensures .0) (c .before .before .before .magnitude .ensures) (c .before .number .given .1) (c .before .before .before .before .before .before .before .pre .0) (search needs) negative
+long-of-requires c κs =
+    let read = c .before .before .before .before in
+    let start = read .before .before .before in
+    λ negative. negative-some (start .args .s .now) (start .args .place) (read .before .le32 .result) (read .digit-count .result)
+    (read .before .le32 .ensures) (read .digit-count .ensures .0)
+    (c .before .before .before .magnitude .ensures) (c .before .number .given .1) (start .pre .0) (search needs) negative
 
 returns : tie.Need-returns
-returns c = c .plain .ensures ∙ ap toldOf (long-above (c .before .before .before .before .before .before .before .args .s .now) (c .before .before .before .before .before .before .before .args .place) (c .before .before .before .before .before .le32 .result) (c .before .before .before .before .digit-count .result) (c .before .before .before .before .before .le32 .ensures) (c .before .before .before .before .digit-count .ensures .0) (c .before .before .before .magnitude .ensures) (c .before .enum-told .given .1))
+returns c =
+    let read = c .before .before .before .before in
+    let start = read .before .before .before in
+    c .plain .ensures
+    ∙ ap toldOf (long-above (start .args .s .now) (start .args .place) (read .before .le32 .result) (read .digit-count .result)
+    (read .before .le32 .ensures) (read .digit-count .ensures .0)
+    (c .before .before .before .magnitude .ensures) (c .before .enum-told .given .1))
 
 returns-2 : tie.Need-returns-2
-returns-2 c = c .long-of .ensures ∙ ap toldOf (long-measured (c .before .before .before .before .before .before .before .before .args .s .now) (c .before .before .before .before .before .before .before .before .args .place) (c .before .before .before .before .before .before .le32 .result) (c .before .before .before .before .before .digit-count .result) (c .before .before .before .before .before .before .le32 .ensures) (c .before .before .before .before .before .digit-count .ensures .0) (c .before .before .before .before .magnitude .ensures) (c .before .before .number .given .1))
+returns-2 c =
+    let read = c .before .before .before .before .before in
+    let start = read .before .before .before in
+    c .long-of .ensures
+    ∙ ap toldOf (long-measured (start .args .s .now) (start .args .place) (read .before .le32 .result) (read .digit-count .result)
+    (read .before .le32 .ensures) (read .digit-count .ensures .0)
+    (c .before .before .before .before .magnitude .ensures) (c .before .before .number .given .1))
 
 pub long-leaf-spec : {M : Type 1} → statement M
 long-leaf-spec =

@@ -26,7 +26,11 @@ whole-requires : tie.Need-whole-requires
 whole-requires c κs = search needs
 
 returns-2 : tie.Need-returns-2
-returns-2 c = let n = c .before .before .before .args .number in let some : 0 < n = c .before .before .before .pre (c .before .before .if1 .taken) in let bits : 18446744073709551615 - n + 1 ≡ 18446744073709551616 - n = omega arith in rw (c .before .before .if1 .taken, le-leb _ _ (c .before .if2 .left)) (c .whole .ensures ∙ ap (λ k. toldOf (definition.whole k)) bits)
+returns-2 c =
+    let n = c .before .before .before .args .number in
+    let some : 0 < n = c .before .before .before .pre (c .before .before .if1 .taken) in
+    let bits : 18446744073709551615 - n + 1 ≡ 18446744073709551616 - n = omega arith in
+    rw (c .before .before .if1 .taken, le-leb _ _ (c .before .if2 .left)) (c .whole .ensures ∙ ap (λ k. toldOf (definition.whole k)) bits)
 
 plain-requires-2 : tie.Need-plain-requires-2
 plain-requires-2 c κs = search needs

@@ -24,13 +24,16 @@ returns-2 : tie.Need-returns-2
 returns-2 c = rw (le-leb _ _ (c .before .before .if1 .left), lt-leb _ _ (c .if2 .taken))
 
 returns-3 : tie.Need-returns-3
-returns-3 c = rw (le-leb _ _ (c .before .before .before .before .if1 .left), le-leb _ _ (c .before .before .if2 .left), ne-eqb _ _ (c .if3 .taken))
+returns-3 c =
+    rw (le-leb _ _ (c .before .before .before .before .if1 .left), le-leb _ _ (c .before .before .if2 .left), ne-eqb _ _ (c .if3 .taken))
 
 argument-sum-requires : tie.Need-argument-sum-requires
 argument-sum-requires c κs = search needs
 
 returns-4 : tie.Need-returns-4
-returns-4 c = rw (le-leb _ _ (c .before .before .before .before .before .if1 .left), le-leb _ _ (c .before .before .before .if2 .left), eq-eqb _ _ (c .before .if3 .left), c .argument-sum .ensures)
+returns-4 c =
+    rw
+    (le-leb _ _ (c .before .before .before .before .before .if1 .left), le-leb _ _ (c .before .before .before .if2 .left), eq-eqb _ _ (c .before .if3 .left), c .argument-sum .ensures)
 
 pub code-ruled-spec : {M : Type 1} → statement M
 code-ruled-spec =

@@ -47,7 +47,10 @@ returns-6 c = rw (c .before .before .before .match .keys2, eq-eqb _ _ (c .before
 
 returns-7 : tie.Need-returns-7
 unfolding classes classAt
-returns-7 c = rw (c .before .before .before .before .before .match .keys3, eq-eqb _ _ (c .before .before .before .if3 .left), le-leb _ _ (c .before .if4 .left)) (c .well-formed2 .ensures)
+returns-7 c =
+    rw
+    (c .before .before .before .before .before .match .keys3, eq-eqb _ _ (c .before .before .before .if3 .left), le-leb _ _ (c .before .if4 .left))
+    (c .well-formed2 .ensures)
 
 returns-8 : tie.Need-returns-8
 unfolding classes classAt
@@ -55,7 +58,10 @@ returns-8 c = rw (c .before .match .keys4) (c .code-ruled .ensures)
 
 returns-9 : tie.Need-returns-9
 unfolding classes classAt
-returns-9 c = let a = c .before .before .before .args in let above : 13 ≤ a .class = omega arith in not-kept (a .s .now) (nodeOf (a .node)) (a .class) above
+returns-9 c =
+    let a = c .before .before .before .args in
+    let above : 13 ≤ a .class = omega arith in
+    not-kept (a .s .now) (nodeOf (a .node)) (a .class) above
 
 pub ruled-spec : {M : Type 1} → statement M
 ruled-spec =

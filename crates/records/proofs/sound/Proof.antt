@@ -29,7 +29,10 @@ ruled-requires c κs = search needs
 
 returns-2 : tie.Need-returns-2
 unfolding definition.sound
-returns-2 c = let a = c .before .before .before .before .before .before .args in rw (le-leb _ _ (c .before .before .if1 .left)) (c .ruled .ensures ∙ ap (definition.ruled (a .s .now) (nodeOf (a .node))) (c .before .class-of .ensures))
+returns-2 c =
+    let a = c .before .before .before .before .before .before .args in
+    rw (le-leb _ _ (c .before .before .if1 .left))
+    (c .ruled .ensures ∙ ap (definition.ruled (a .s .now) (nodeOf (a .node))) (c .before .class-of .ensures))
 
 pub sound-spec : {M : Type 1} → statement M
 sound-spec =

@@ -22,7 +22,10 @@ sound-requires c κs = search needs
 
 returns-2 : tie.Need-returns-2
 unfolding definition.soundAt
-returns-2 c = let a = c .before .before .before .before .before .before .args in rw (← c .before .before .before .nodes-in .ensures, lt-ltb _ _ (c .before .before .if1 .left)) (c .sound .ensures ∙ ap (definition.sound (a .s .now)) (c .before .node-at .ensures))
+returns-2 c =
+    let a = c .before .before .before .before .before .before .args in
+    rw (← c .before .before .before .nodes-in .ensures, lt-ltb _ _ (c .before .before .if1 .left))
+    (c .sound .ensures ∙ ap (definition.sound (a .s .now)) (c .before .node-at .ensures))
 
 pub sound-at-spec : {M : Type 1} → statement M
 sound-at-spec =
