@@ -4,4 +4,3 @@ pub mod Going
 pub mod Lengths
 pub mod Exactly
 pub mod Determined
-pub mod Agreement
