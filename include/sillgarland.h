@@ -13,7 +13,7 @@
  *   Otherwise refusal is the number, and place the place, that document 01 gives; every other field is 0, and so is every
  *   element of every store lent for writing.
  * - A truth is 0 or 1. A field named pad is 0.
- * - The functions below need less than 1 KiB of stack; sill_read needs some for each level of nesting.
+ * - The functions below need less than 1 KiB of stack.
  */
 #ifndef SILLGARLAND_H
 #define SILLGARLAND_H
@@ -100,42 +100,39 @@ sill_split_t sill_split(const uint8_t *kinds, size_t kinds_len, uint32_t names, 
                         uint32_t *frees, size_t frees_len, uint32_t *map, size_t map_len, uint32_t *cell_args,
                         size_t cell_args_len);
 
-/* ---- Values: a marshalled value is read into three stores of numbers that the caller lends.
- *
- * Node: five numbers: type letter without the flag, place, size, first entry, count. The value itself is node 0.
- * Entry: two numbers: node, next entry. A container's children are the chain from its first entry, count of them.
- * Slot: one number: a value that later references name, as node + 1.
- * No entry, and no next entry, are 4,294,967,295. A capacity is length / 5, length / 2 and length, at most 1,048,576 each;
- * nesting counts as at most 2,000. No value needs more nodes, entries or slots than it has bytes.
- */
+/* ---- Values: reading one from the start of the input, and what its leaves are. */
 
 typedef struct {
-    uint32_t refusal; /* 1 to 15 and 18; 11, 12, 13: the store of nodes, entries, slots is too small */
+    uint32_t refusal; /* 1 to 15, with the place that document 01's table gives */
     uint32_t place;
-    uint32_t consumed; /* how many bytes the value takes; those after it are not looked at */
-    uint32_t nodes;    /* how many records of each store are used */
+    uint32_t consumed; /* how many bytes the value took; what follows them is not looked at */
+    uint32_t nodes;    /* how many of each record were used */
     uint32_t entries;
     uint32_t slots;
 } sill_read_t;
 
+typedef struct {
+    uint32_t refusal; /* 14 at 0; 16: the node's record is not sound, place is the node number */
+    uint32_t place;
+    uint32_t kind; /* 0 not a leaf, 1 none, 2 truth, 3 ellipsis, 4 stop, 5 whole, 6 float, 7 two floats, 8 wide */
+    uint32_t pad;
+    uint64_t first;  /* truth: 0 or 1; whole: two's complement; floats: the stored bits; else 0 */
+    uint64_t second; /* two floats: the second's bits; else 0 */
+} sill_leaf_t;
+
+/* The input has at most 16,777,216 bytes (14). nodes holds five numbers a node: letter, place, size, first entry, count;
+ * entries two an entry: node, next entry; slots one a slot: 0 while open, else node + 1. No entry is 4,294,967,295. Each
+ * capacity counts as at most 1,048,576 records, nesting as at most 2,000. The root is node 0. A nesting of 2,000 needs
+ * less than 1 MiB of stack. */
 sill_read_t sill_read(const uint8_t *input, size_t input_len, uint32_t *nodes, size_t nodes_len, uint32_t *entries,
                       size_t entries_len, uint32_t *slots, size_t slots_len, uint32_t nesting);
 
-typedef struct {
-    uint32_t refusal; /* 14: the input is too long, at 0; 16: no sound record, place is the node's number */
-    uint32_t place;
-    uint32_t kind; /* 0 not a leaf, 1 none, 2 truth, 3 ellipsis, 4 stop, 5 whole number, 6 one float, 7 two floats,
-                      8 wide: a whole number outside signed 64 bits */
-    uint32_t pad;
-    uint64_t first;  /* the truth; the whole number's bits, two's complement; the (first) float's bits; else 0 */
-    uint64_t second; /* the second float's bits; else 0 */
-} sill_leaf_t;
-
-/* What a node holds. used is how many nodes the reading used. */
+/* Any node store may be asked, of which so many nodes count as used. */
 sill_leaf_t sill_leaf(const uint8_t *input, size_t input_len, const uint32_t *nodes, size_t nodes_len, uint32_t used,
                       uint32_t node);
 
-/* sill_locate for the table that a bytes node (letter s) holds; 14 at 0 for the input, then 16 at the node's number. */
+/* The line table that is a bytes node's contents, as sill_locate reads it: 14 at 0, then 16 at the node number where its
+ * record is not sound or it is not bytes. Places of 18 count from the table's start. */
 sill_located_t sill_locate_node(const uint8_t *input, size_t input_len, const uint32_t *nodes, size_t nodes_len,
                                 uint32_t used, uint32_t node, int32_t first_line, uint32_t count, uint32_t *records,
                                 size_t records_len);

@@ -3,12 +3,12 @@
 use mathlib.Core.Path.{_≡_, refl, sym, subst, _∙_}
 use mathlib.Core.Bool.{Bool, true, false, cond}
 use mathlib.Core.List.{List}
-use Prim.Native.Nat.{ℕ, suc, _+_, _-_, _*_, _/_, _%_, _≤_, _<_}
+use Prim.Native.Nat.{ℕ, _+_, _-_, _*_, _/_, _%_, _≤_, _<_}
 use native.Mathlib.Omega.{arith}
-use lib.ListN.{length, getD}
+use lib.ListN.{length}
 use lib.Dec.{ltb, eqb}
 use lib.Bits.{bitOr, or-lt}
-use borrow.Author.Tests.{lt-ltb, le-ltb, ltb-true, ltb-false}
+use borrow.Author.Tests.{le-ltb, ltb-true, ltb-false}
 use Rattle.lineentry.specs.declared.Varint.{Varint}
 use Rattle.lineentry.specs.declared.Varint.the-variants.{Value, TooLong}
 use Rattle.lineentry.specs.declared.Moved.{Moved}
@@ -17,7 +17,7 @@ use Rattle.lineentry.specs.declared.Span.{Span}
 use Rattle.lineentry.specs.declared.Entry.{Entry}
 use Rattle.lineentry.specs.declared.Entry.the-variants.{Covers, Stop, OutOfRange}
 use Rattle.lineentry.specs.Varint.{byteAt, varintAt, signedAt}
-use Rattle.lineentry.specs.Line.{moved, asSigned}
+use Rattle.lineentry.specs.Line.{origin, moved, asSigned}
 use Rattle.lineentry.specs.Entry.{withNumber, withLine, shortForm, oneLine, noColumns, longColumns, longForm, byCode, entryOf, entryAt}
 
 -- a short entry's column is below 128
@@ -53,7 +53,7 @@ places-code : (s : List ℕ) (line code n p : ℕ) → 0 < n → Places (byCode 
 unfolding byCode shortForm oneLine noColumns
 places-code s line code n p h =
     places-cond (ltb code 10) _ _ h
-    (places-cond (ltb code 13) _ _ (places-line (moved line (2147483648 + (code - 10))) _ (λ to. h))
+    (places-cond (ltb code 13) _ _ (places-line (moved line (origin + (code - 10))) _ (λ to. h))
     (places-cond (eqb code 13) _ _ (places-number (signedAt s p) _ (λ step q m. places-line (moved line step) _ (λ to. h)))
     (places-cond (eqb code 14) _ _ (places-long s line n p h) h)))
 

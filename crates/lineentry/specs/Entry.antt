@@ -1,21 +1,19 @@
 -- 01, 'Locals, numbers and locations': one entry of a location table, for all sixteen codes.
 -- "An entry starts with 0x80 | code x 8 | (length - 1)". What an entry covers, a stop, or 18.
-use mathlib.Core.Bool.{Bool, true, false, cond}
-use mathlib.Core.List.{List, [], _∷_}
+use mathlib.Core.Bool.{Bool, false, cond}
+use mathlib.Core.List.{List}
 use Prim.Native.Nat.{ℕ, _+_, _-_, _*_, _/_, _%_, max}
-use lib.Dec.{leb, ltb, eqb}
+use lib.Dec.{ltb, eqb}
 use lib.Bits.{bitOr}
-use Rattle.lineentry.specs.declared.Byte.{Byte}
 use Rattle.lineentry.specs.declared.Varint.{Varint}
 use Rattle.lineentry.specs.declared.Varint.the-variants.{Value, TooLong}
 use Rattle.lineentry.specs.declared.Moved.{Moved}
 use Rattle.lineentry.specs.declared.Moved.the-variants.{To, Outside}
 use Rattle.lineentry.specs.declared.Location.{Location}
-use Rattle.lineentry.specs.declared.Span.{Span}
 use Rattle.lineentry.specs.declared.Entry.{Entry}
 use Rattle.lineentry.specs.declared.Entry.the-variants.{Covers, Stop, OutOfRange}
 use Rattle.lineentry.specs.Varint.{byteAt, varintAt, signedAt}
-use Rattle.lineentry.specs.Line.{asSigned, moved, shown}
+use Rattle.lineentry.specs.Line.{origin, asSigned, moved, shown}
 
 abbrev pub location : ℕ → ℕ → ℕ → ℕ → Location
 location line column endLine endColumn = record { line = line; column = column; «end_line» = endLine; «end_column» = endColumn }
@@ -51,7 +49,7 @@ shortForm s line code n p =
 -- "10 to 12: line + (code - 10), two column bytes."
 unfoldable pub oneLine : List ℕ → ℕ → ℕ → ℕ → ℕ → Entry
 oneLine s line code n p =
-    withLine (moved line (2147483648 + (code - 10))) λ to.
+    withLine (moved line (origin + (code - 10))) λ to.
     covers n to
     (location (shown to) (byteAt s p .value + 1) (shown to) (byteAt s (byteAt s p .next) .value + 1))
     (byteAt s (byteAt s p .next) .next) (byteAt s (byteAt s p .next) .missing)

@@ -1,3 +1,3 @@
-pub mod Varint
 pub mod Line
+pub mod Varint
 pub mod Entry

@@ -8,6 +8,7 @@ use lib.Dec.{leb, ltb, eqb}
 use Rattle.lineentry.specs.declared.Byte.{Byte}
 use Rattle.lineentry.specs.declared.Varint.{Varint}
 use Rattle.lineentry.specs.declared.Varint.the-variants.{Value, TooLong}
+use Rattle.lineentry.specs.Line.{origin}
 
 -- The byte at p: "Missing bytes are 0", and nothing is passed.
 abbrev pub byteAt : List ℕ → ℕ → Byte
@@ -46,9 +47,9 @@ varintWithin most s p =
 abbrev pub varintAt : List ℕ → ℕ → Varint
 varintAt s p = varintWithin 6 s p
 
--- A signed number: the lowest bit says that it is negative, the others are its magnitude. It is kept plus 2^31.
+-- A signed number: the lowest bit says that it is negative, the others are its magnitude. It is kept as lines are.
 abbrev pub signedOf : ℕ → ℕ
-signedOf v = cond (eqb (v % 2) 0) (2147483648 + v / 2) (2147483648 - v / 2)
+signedOf v = cond (eqb (v % 2) 0) (origin + v / 2) (origin - v / 2)
 
 abbrev pub signed : Varint → Varint
 signed (Value v p m) = Value (signedOf v) p m

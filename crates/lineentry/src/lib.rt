@@ -1,10 +1,13 @@
 // One entry of a location table: its bytes, its varints, its lines, and the location that it gives to some instructions.
-// `linetable` walks a whole table by it. A line, or a step from line to line, is kept as the number plus 2^31.
+// `linetable` walks a whole table by it. A line, or a step from line to line, is kept as the number plus 2^31, as `ORIGIN` says.
 ghost use mathlib.Core.Path.{_≡_};
-ghost use Prim.Native.Nat.{ℕ, _<_, _≤_, max};
+ghost use Prim.Native.Nat.{_<_, _≤_, max};
 ghost use Rattle.lineentry.specs.Varint.{byteAt, varintWithin, varintAt, signedAt};
 ghost use Rattle.lineentry.specs.Line.{asSigned, moved, shown};
 ghost use Rattle.lineentry.specs.Entry.{atLine, shortForm, oneLine, noColumns, longColumns, longForm, entryAt};
+
+// 0 as a line or a step is kept.
+const ORIGIN: u32 = 0x8000_0000;
 
 // A byte of the table; a missing one is 0, and nothing is passed.
 pub struct Byte {
@@ -115,9 +118,25 @@ fn varint_within(table: &[u8], at: usize, most: usize) -> Varint
     }
 }
 
+// Most numbers are one byte, which is answered here.
 pub fn lt_read_varint(table: &[u8], at: usize) -> Varint
     ensures { λ r. ⌜ r ≡ varintAt (now (table .entry)) at ⌝ }
 {
+    if table.len() <= at {
+        return Varint::Value {
+            value: 0,
+            next: at,
+            missing: true,
+        };
+    }
+    let b = wide(table[at]);
+    if b % 128 < 64 {
+        return Varint::Value {
+            value: (b % 64) as u32,
+            next: at + 1,
+            missing: false,
+        };
+    }
     varint_within(table, at, 6)
 }
 
@@ -134,13 +153,13 @@ pub fn lt_read_signed_varint(table: &[u8], at: usize) -> Varint
         } => {
             if value % 2 == 0 {
                 Varint::Value {
-                    value: 0x8000_0000 + value / 2,
+                    value: ORIGIN + value / 2,
                     next,
                     missing,
                 }
             } else {
                 Varint::Value {
-                    value: 0x8000_0000 - value / 2,
+                    value: ORIGIN - value / 2,
                     next,
                     missing,
                 }
@@ -153,10 +172,10 @@ pub fn lt_read_signed_varint(table: &[u8], at: usize) -> Varint
 pub fn as_signed(bits: u32) -> u32
     ensures { λ r. ⌜ r ≡ asSigned bits ⌝ }
 {
-    if bits < 0x8000_0000 {
-        bits + 0x8000_0000
+    if bits < ORIGIN {
+        bits + ORIGIN
     } else {
-        bits - 0x8000_0000
+        bits - ORIGIN
     }
 }
 
@@ -165,24 +184,20 @@ pub fn move_line(line: u32, step: u32) -> Moved
     ensures { λ r. ⌜ r ≡ moved line step ⌝ }
 {
     let sum = line as u64 + step as u64;
-    if sum < 0x8000_0000 {
+    if sum < ORIGIN as u64 {
         return Moved::Outside;
     }
-    if 0x1_7FFF_FFFF < sum {
-        return Moved::Outside;
+    if sum < 0x1_8000_0000 {
+        return Moved::To((sum - ORIGIN as u64) as u32);
     }
-    Moved::To((sum - 0x8000_0000) as u32)
+    Moved::Outside
 }
 
 // A line as it is shown.
 pub fn show_line(line: u32) -> u32
     ensures { λ r. ⌜ r ≡ shown line ⌝ }
 {
-    if line <= 0x8000_0000 {
-        1
-    } else {
-        line - 0x8000_0000
-    }
+    if line <= ORIGIN { 1 } else { line - ORIGIN }
 }
 
 // A line with no columns.
@@ -233,7 +248,7 @@ fn one_line(table: &[u8], line: u32, code: u32, instructions: usize, at: usize) 
     requires { ⌜ (10 ≤ code) × (code < 13) ⌝ }
     ensures { λ r. ⌜ r ≡ oneLine (now (table .entry)) line code instructions at ⌝ }
 {
-    let Moved::To(to) = move_line(line, 0x8000_0000 + (code - 10)) else {
+    let Moved::To(to) = move_line(line, ORIGIN + (code - 10)) else {
         return Entry::OutOfRange;
     };
     let column = lt_byte(table, at);

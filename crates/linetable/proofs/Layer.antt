@@ -1,16 +1,14 @@
 -- The layer of locations over the core: reading the core's store back gives what the definitions say the slice of locations holds.
 -- Assumes nothing.
-use mathlib.Core.Path.{_≡_, refl, sym, _∙_, ap}
+use mathlib.Core.Path.{_≡_, _∙_}
 use mathlib.Core.List.{List, []}
-use Prim.Native.Nat.{ℕ, _-_, _/_, _≤_, min}
+use Prim.Native.Nat.{ℕ, _-_, _/_, min}
 use native.Mathlib.Omega.{arith}
-use lib.ListN.{length, replicate}
-use lib.Dec.{ltb}
-use borrow.Author.Tests.{le-ltb}
-use Rattle.lent.specs.Lent.{zeros, padded}
+use lib.ListN.{length}
+use Rattle.lent.specs.Lent.{padded}
 use Rattle.lineentry.specs.declared.Location.{Location}
 use Rattle.linetable.specs.Walk.{Reading, done, refused}
-use Rattle.linetable.specs.Answer.{numbers, located, recordsOf, locationsOf, locationsFrom, blank}
+use Rattle.linetable.specs.Answer.{numbers, located, recordsOf, locationsOf, locationsFrom}
 use Rattle.linetable.proofs.Readback.{read-back}
 use Rattle.linetable.proofs.Placed.{Fits, located-fits}
 

@@ -2,7 +2,7 @@
 -- The walk leaves as many locations as there are instructions, and past those from entries each is the first line's. Assumes nothing.
 use mathlib.Core.Path.{_≡_, refl, sym, _∙_, ap, subst}
 use mathlib.Core.Bool.{Bool, true, false, cond}
-use mathlib.Core.List.{List, [], _∷_, _++_}
+use mathlib.Core.List.{List, []}
 use Prim.Native.Nat.{ℕ, zero, suc, _+_, _-_, _≤_, _<_, max}
 use native.Mathlib.Omega.{arith}
 use lib.IntN.{pos, negsuc}
@@ -15,7 +15,7 @@ use Rattle.lineentry.specs.declared.Location.{Location}
 use Rattle.lineentry.specs.declared.Span.{Span}
 use Rattle.lineentry.specs.declared.Entry.{Entry}
 use Rattle.lineentry.specs.declared.Entry.the-variants.{Covers, Stop, OutOfRange}
-use Rattle.lineentry.specs.Line.{asSigned, shown}
+use Rattle.lineentry.specs.Line.{origin, asSigned, shown}
 use Rattle.lineentry.specs.Entry.{entryAt, atLine}
 use Rattle.lineentry.proofs.Entries.{entry-places}
 use Rattle.linetable.specs.Walk.{Reading, done, refused, joined, after, walk}
@@ -127,12 +127,12 @@ left-over-first s first count capacity {ls} {k} e j h b =
     sym (rw z at (getD-drop k ls (j - k) blank)) ∙ rw (x .others) (getD-replicate (count - k) (j - k) (atLine first) blank (omega arith))
 
 -- a first line that is positive shows as itself, and any other as 1
-pub first-shown : (n : ℕ) → n < 2147483648 → shown (firstLine (pos n)) ≡ max 1 n
+pub first-shown : (n : ℕ) → n < origin → shown (firstLine (pos n)) ≡ max 1 n
 unfolding asSigned
-first-shown n h = rw (lt-ltb n 2147483648 h) (omega arith)
+first-shown n h = rw (lt-ltb n origin h) (omega arith)
 
-pub first-not-positive : (n : ℕ) → n < 2147483648 → shown (firstLine (negsuc n)) ≡ 1
+pub first-not-positive : (n : ℕ) → n < origin → shown (firstLine (negsuc n)) ≡ 1
 unfolding asSigned
 first-not-positive n h =
-    let b : 2147483648 ≤ 4294967296 - suc n = omega arith in
-    rw (le-ltb (4294967296 - suc n) 2147483648 b) (omega arith)
+    let b : origin ≤ 4294967296 - suc n = omega arith in
+    rw (le-ltb (4294967296 - suc n) origin b) (omega arith)

@@ -1,6 +1,6 @@
 -- The records read back as locations, and the slice of locations that a loop stores one by one.
 -- Assumes nothing.
-use mathlib.Core.Path.{_≡_, refl, sym, _∙_, ap, subst}
+use mathlib.Core.Path.{_≡_, refl, sym, _∙_, ap}
 use mathlib.Core.Bool.{Bool, true, false, cond}
 use mathlib.Core.List.{List, [], _∷_, _++_}
 use Prim.Native.Nat.{ℕ, zero, suc, _+_, _-_, _*_, _≤_, _<_}
@@ -9,7 +9,7 @@ use lib.ListN.{length, replicate, getD, set, length-set, length-append, length-r
 use lib.Seq.{getD-set-same, getD-set-other, ext-getD}
 use lib.Dec.{ltb, eqb, leb·suc-suc}
 use borrow.Author.Tests.{lt-ltb, eqb-true, eqb-false}
-use Rattle.lent.specs.Lent.{zeros, padded}
+use Rattle.lent.specs.Lent.{zeros}
 use Rattle.lineentry.specs.declared.Location.{Location}
 use Rattle.lineentry.specs.Entry.{location}
 use Rattle.linetable.specs.Answer.{numbers, blank, locationAt, locationsFrom}

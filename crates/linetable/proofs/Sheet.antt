@@ -2,7 +2,7 @@
 -- two from entries, not whole." By computation, with room for a fourth record, which stays zero. Assumes nothing.
 use mathlib.Core.Path.{_≡_, refl}
 use mathlib.Core.Bool.{false}
-use mathlib.Core.List.{List, [], _∷_}
+use mathlib.Core.List.{[], _∷_}
 use lib.IntN.{pos}
 use Rattle.lent.specs.Lent.{padded}
 use Rattle.lineentry.specs.Varint.{varintWithin, signedAt}

@@ -6,7 +6,7 @@ use Prim.Native.Nat.{ℕ, zero, suc, _+_, _-_, _*_, _≤_, _<_}
 use native.Mathlib.Nat.{add-zero}
 use native.Mathlib.Numerals.{add-one, sub-one, towards-suc}
 use native.Mathlib.Omega.{arith}
-use lib.ListN.{length, replicate, set, take, drop, length-append, length-replicate, length-take, drop-of-length-le}
+use lib.ListN.{length, replicate, set, take, length-append, length-replicate, drop-of-length-le}
 use lib.Seq.{sets, sets-eq, drop-at, length-take-le}
 use Rattle.lent.specs.Lent.{zeros, padded}
 use Rattle.lineentry.specs.declared.Location.{Location}

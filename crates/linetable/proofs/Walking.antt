@@ -1,8 +1,8 @@
 -- The loop of `walk_entries`: what comes of the whole table is what comes of the rest, after what is already placed.
 -- One law for each way on from a turn. Assumes nothing.
 use mathlib.Core.Path.{_≡_, refl, sym, _∙_, ap, subst}
-use mathlib.Core.Bool.{Bool, true, false, not, _&&_, _||_, cond}
-use mathlib.Core.List.{List, [], _∷_, _++_, append-assoc, append-nil}
+use mathlib.Core.Bool.{Bool, true, false, not, _&&_, _||_}
+use mathlib.Core.List.{List, [], _++_, append-assoc}
 use Prim.Native.Nat.{ℕ, zero, suc, _+_, _-_, _*_, _≤_, _<_}
 use native.Mathlib.Nat.{add-assoc}
 use native.Mathlib.Omega.{arith}
@@ -20,7 +20,7 @@ use Rattle.lineentry.specs.Entry.{entryAt, atLine}
 use Rattle.lineentry.proofs.Entries.{entry-places}
 use Rattle.linetable.specs.declared.Located.{Located}
 use Rattle.linetable.specs.declared.Located.the-variants.{Done, Refused}
-use Rattle.linetable.specs.Walk.{Reading, done, refused, joined, ended, leftOver, after, walk}
+use Rattle.linetable.specs.Walk.{Reading, done, refused, joined, ended, after, walk}
 use Rattle.linetable.specs.Answer.{numbers, answer, recordsOf}
 use Rattle.linetable.proofs.Stores.{length-numbers, stored-after, over-zeros}
 

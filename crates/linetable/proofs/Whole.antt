@@ -1,7 +1,7 @@
 -- THEOREM: the answer says whole exactly when the table is a row of complete entries whose lengths sum to the instruction count;
 -- so a table that is whole for n instructions is whole for no other count. Assumes nothing.
-use mathlib.Core.Path.{_≡_, refl, sym, _∙_, ap, subst}
-use mathlib.Core.Bool.{Bool, true, false, not, _&&_, cond}
+use mathlib.Core.Path.{_≡_, refl, sym, ap, subst}
+use mathlib.Core.Bool.{Bool, true, false, not, cond}
 use mathlib.Core.List.{List, [], _++_}
 use Prim.Native.Nat.{ℕ, zero, suc, _+_, _-_, _≤_, _<_}
 use native.Mathlib.Omega.{arith}
@@ -15,8 +15,7 @@ use Rattle.lineentry.specs.declared.Entry.{Entry}
 use Rattle.lineentry.specs.declared.Entry.the-variants.{Covers, Stop, OutOfRange}
 use Rattle.lineentry.specs.Entry.{entryAt, atLine}
 use Rattle.lineentry.proofs.Entries.{entry-places, covers-inside}
-use Rattle.linetable.specs.declared.Located.{Located}
-use Rattle.linetable.specs.declared.Located.the-variants.{Done, Refused}
+use Rattle.linetable.specs.declared.Located.the-variants.{Done}
 use Rattle.linetable.specs.Walk.{Reading, done, refused, joined, after, walk}
 use Rattle.linetable.specs.Answer.{located, answer}
 use Rattle.linetable.specs.Complete.{Complete, here, entry}

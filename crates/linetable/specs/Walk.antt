@@ -1,13 +1,12 @@
 -- 01, 'Locals, numbers and locations': the walk over a location table, entry by entry.
 -- It gives one location an instruction, how many of them came from entries, and whether the table was whole; or a refusal.
-use mathlib.Core.Bool.{Bool, true, false, not, _&&_, cond}
-use mathlib.Core.List.{List, [], _∷_, _++_}
+use mathlib.Core.Bool.{Bool, false, not, _&&_, cond}
+use mathlib.Core.List.{List, [], _++_}
 use Prim.Native.Nat.{ℕ, zero, suc, _+_, _-_}
 use lib.ListN.{length, replicate}
 use lib.Dec.{leb, eqb}
 use Rattle.refusals.specs.Numbers.{numberRange}
 use Rattle.lineentry.specs.declared.Location.{Location}
-use Rattle.lineentry.specs.declared.Span.{Span}
 use Rattle.lineentry.specs.declared.Entry.{Entry}
 use Rattle.lineentry.specs.declared.Entry.the-variants.{Covers, Stop, OutOfRange}
 use Rattle.lineentry.specs.Entry.{entryAt}

@@ -2,7 +2,7 @@
 // The contracts cite one reading of the table, `located`, which gives the answer and what every lent store holds.
 ghost use mathlib.Core.Path.{_≡_};
 ghost use mathlib.Core.Bool.{not, _&&_, _||_};
-ghost use Prim.Native.Nat.{ℕ, _+_, _-_, _*_, _/_, _<_, _≤_, min};
+ghost use Prim.Native.Nat.{_+_, _-_, _*_, _/_, _≤_, min};
 ghost use lib.ListN.{length, replicate};
 ghost use lib.Seq.{sets};
 ghost use lib.Dec.{eqb};
@@ -32,7 +32,7 @@ fn clear_from(records: &mut [u32], from: usize)
 }
 
 // A refusal leaves the whole store zero.
-fn refuse(records: &mut [u32], number: u32, place: u32) -> Located
+pub fn refuse(records: &mut [u32], number: u32, place: u32) -> Located
     ensures { λ r. ⌜ (r ≡ Located.Refused number place) × (now (records .exit) ≡ zeros (length (now (records .entry)))) ⌝ }
 {
     clear_from(records, 0);

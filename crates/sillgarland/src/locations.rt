@@ -1,9 +1,10 @@
 // Line tables for C and Rust callers. See include/sillgarland.h for what a caller owes.
+use lineentry::Location;
 use linetable::Located;
 ghost use mathlib.Core.Path.{_≡_};
-ghost use Prim.Native.Nat.{_/_};
+ghost use Prim.Native.Nat.{_/_, min};
 ghost use lib.ListN.{length};
-ghost use Rattle.linetable.specs.Answer.{firstLine, located, answer, recordsOf};
+ghost use Rattle.linetable.specs.Answer.{firstLine, located, answer, recordsOf, locationsOf};
 ghost use Rattle.sillgarland.specs.Locations.{locatedStruct};
 
 // A table's answer: its refusal and place, or how many instructions came from entries, and whether the table was whole.
@@ -30,7 +31,24 @@ pub extern "C" fn sill_locate(
     located_numbers(answer)
 }
 
-fn located_numbers(answer: Located) -> SillLocated
+// `linetable_to_locations`, one struct an instruction, with a store of four numbers an instruction beside it.
+#[no_mangle]
+pub extern "C" fn sill_locations(
+    table: &[u8],
+    first_line: i32,
+    count: u32,
+    flat: &mut [u32],
+    out: &mut [Location],
+) -> SillLocated
+    ensures { λ r. ⌜ (r ≡ locatedStruct (answer (located (now (table .entry)) (firstLine «first_line») count (min (length (now (flat .entry)) / 4) (length (now (out .entry)))))))
+        × (now (flat .exit) ≡ recordsOf (length (now (flat .entry))) (located (now (table .entry)) (firstLine «first_line») count (min (length (now (flat .entry)) / 4) (length (now (out .entry))))))
+        × (now (out .exit) ≡ locationsOf (length (now (out .entry))) (located (now (table .entry)) (firstLine «first_line») count (min (length (now (flat .entry)) / 4) (length (now (out .entry)))))) ⌝ }
+{
+    let answer = linetable::linetable_to_locations(table, first_line, count, flat, out);
+    located_numbers(answer)
+}
+
+pub fn located_numbers(answer: Located) -> SillLocated
     ensures { λ r. ⌜ r ≡ locatedStruct answer ⌝ }
 {
     match answer {

@@ -1,7 +1,6 @@
 -- `linetable::records_within` meets its contract: 14, then 17 at the smaller capacity, then the walk.
 -- Assumes nothing.
 use mathlib.Core.Path.{_≡_, _∙_, ap}
-use Prim.Native.Nat.{min}
 use native.Mathlib.Omega.{arith}
 use mir.Syntax.{w32}
 use mir.Val.{ofZ}

@@ -1,0 +1,393 @@
+// What stands behind a header and is read without looking at any child: numbers, classes of letters, and the fields of each class.
+// The reader asks it of a header that it has read, and the record test of a node that claims to have been read.
+ghost use mathlib.Core.Path.{_≡_};
+ghost use Prim.Native.Nat.{_+_, _*_, _≤_, _<_};
+ghost use lib.ListN.{length};
+ghost use Rattle.refusals.specs.Limits.{mostBytes};
+ghost use Rattle.grammar.specs.Letters.{classOf, keeps, contains, codes, fixed, double, long, bytes, text, short, sequence, few};
+ghost use Rattle.grammar.specs.Fields;
+ghost use Rattle.fields.specs.Classes.{classAt, keptClasses};
+ghost use Rattle.fields.specs.Behind.{Reads, Judges};
+
+// The children to come: so many values, pairs up to the null in a key's place, or the parts of a code.
+pub enum Kids {
+    Items(u32),
+    Pairs,
+    Parts,
+}
+
+// What the fields say: place, size and children; or a refusal with its place.
+pub enum Behind {
+    Span(u32, u32, Kids),
+    Refused(u32, u32),
+}
+
+// A test in front of the rest.
+pub enum Judged {
+    Fine,
+    Refused(u32, u32),
+}
+
+// The number of each class, as `specs/Classes` counts them. From REFUSED on, a class is its refusal's number above REFUSED.
+pub const SINGLE: u32 = 0;
+
+pub const FIXED4: u32 = 1;
+
+pub const FIXED8: u32 = 2;
+
+pub const DOUBLE: u32 = 3;
+
+pub const LONG: u32 = 4;
+
+pub const SEQUENCE: u32 = 5;
+
+pub const FEW: u32 = 6;
+
+pub const SLICE: u32 = 7;
+
+pub const DICT: u32 = 8;
+
+pub const BYTES: u32 = 9;
+
+pub const TEXT: u32 = 10;
+
+pub const SHORT: u32 = 11;
+
+pub const CODE: u32 = 12;
+
+pub const REFERENCE: u32 = 13;
+
+pub const REFUSED: u32 = 14;
+
+fn wide(byte: u8) -> u64
+    ensures { λ r. ⌜ (r ≡ byte) × (r < 256) ⌝ }
+{
+    byte as u64
+}
+
+fn word(byte: u8) -> u32
+    ensures { λ r. ⌜ (r ≡ byte) × (r < 256) ⌝ }
+{
+    byte as u32
+}
+
+// Little-endian numbers of two, four and eight bytes.
+pub fn le16(s: &[u8], at: usize) -> u32
+    requires { ⌜ at + 2 ≤ length (now s) ⌝ }
+    ensures { λ r. ⌜ (r ≡ Fields.le16 (now (s .entry)) at) × (r < 65536) ⌝ }
+{
+    word(s[at]) + word(s[at + 1]) * 256
+}
+
+pub fn le32(s: &[u8], at: usize) -> u32
+    requires { ⌜ at + 4 ≤ length (now s) ⌝ }
+    ensures { λ r. ⌜ r ≡ Fields.le32 (now (s .entry)) at ⌝ }
+{
+    let b0 = word(s[at]);
+    let b1 = word(s[at + 1]);
+    let b2 = word(s[at + 2]);
+    let b3 = word(s[at + 3]);
+    b0 + b1 * 256 + b2 * 65536 + b3 * 16777216
+}
+
+pub fn le64(s: &[u8], at: usize) -> u64
+    requires { ⌜ at + 8 ≤ length (now s) ⌝ }
+    ensures { λ r. ⌜ r ≡ Fields.le64 (now (s .entry)) at ⌝ }
+{
+    let b0 = wide(s[at]);
+    let b1 = wide(s[at + 1]);
+    let b2 = wide(s[at + 2]);
+    let b3 = wide(s[at + 3]);
+    let b4 = wide(s[at + 4]);
+    let b5 = wide(s[at + 5]);
+    let b6 = wide(s[at + 6]);
+    let b7 = wide(s[at + 7]);
+    b0
+        + b1 * 256
+        + b2 * 65536
+        + b3 * 16777216
+        + b4 * 4294967296
+        + b5 * 1099511627776
+        + b6 * 281474976710656
+        + b7 * 72057594037927936
+}
+
+// The class of a letter.
+pub fn class_of(letter: u32) -> u32
+    ensures { λ r. ⌜ classAt r ≡ classOf letter ⌝ }
+{
+    match letter {
+        0x4E => SINGLE,
+        0x46 => SINGLE,
+        0x54 => SINGLE,
+        0x53 => SINGLE,
+        0x2E => SINGLE,
+        0x69 => FIXED4,
+        0x49 => FIXED8,
+        0x67 => FIXED8,
+        0x79 => DOUBLE,
+        0x6C => LONG,
+        0x73 => BYTES,
+        0x75 => TEXT,
+        0x74 => TEXT,
+        0x61 => TEXT,
+        0x41 => TEXT,
+        0x7A => SHORT,
+        0x5A => SHORT,
+        0x28 => SEQUENCE,
+        0x5B => SEQUENCE,
+        0x3C => SEQUENCE,
+        0x3E => SEQUENCE,
+        0x29 => FEW,
+        0x3A => SLICE,
+        0x7B => DICT,
+        0x63 => CODE,
+        0x72 => REFERENCE,
+        0x30 => REFUSED + refusals::NULL_OBJECT,
+        0x66 => REFUSED + refusals::NOT_CARRIED,
+        0x78 => REFUSED + refusals::NOT_CARRIED,
+        _ => REFUSED + refusals::UNKNOWN_TYPE,
+    }
+}
+
+// A field of a fixed size, and no children.
+fn read_fixed(s: &[u8], at: u32, size: u32) -> Behind
+    requires { ⌜ (at ≤ length (now s)) × (length (now s) ≤ mostBytes) × (size ≤ mostBytes) ⌝ }
+    ensures { λ r. ⌜ Reads (now (s .entry)) (keeps (fixed size)) at r ⌝ }
+{
+    if s.len() < at as usize + size as usize {
+        return Behind::Refused(refusals::DATA_TOO_SHORT, at);
+    }
+    Behind::Span(at, size, Kids::Items(0))
+}
+
+// Two fields of eight bytes: a cut second one is refused at its own start.
+fn read_double(s: &[u8], at: u32) -> Behind
+    requires { ⌜ (at ≤ length (now s)) × (length (now s) ≤ mostBytes) ⌝ }
+    ensures { λ r. ⌜ Reads (now (s .entry)) (keeps double) at r ⌝ }
+{
+    let p = at as usize;
+    if s.len() < p + 8 {
+        return Behind::Refused(refusals::DATA_TOO_SHORT, at);
+    }
+    if s.len() < p + 8 + 8 {
+        return Behind::Refused(refusals::DATA_TOO_SHORT, at + 8);
+    }
+    Behind::Span(at, 16, Kids::Items(0))
+}
+
+// A signed 32-bit length that is there and is not negative.
+fn read_len(s: &[u8], at: u32) -> Judged
+    requires { ⌜ (at ≤ length (now s)) × (length (now s) ≤ mostBytes) ⌝ }
+    ensures { λ r. ⌜ Judges (now (s .entry)) (at + 4) (Fields.size32 (now (s .entry)) at) r ⌝ }
+{
+    let p = at as usize;
+    if s.len() < p + 4 {
+        return Judged::Refused(refusals::DATA_TOO_SHORT, at);
+    }
+    if 0x8000_0000 <= le32(s, p) {
+        return Judged::Refused(refusals::BAD_SIZE, at);
+    }
+    Judged::Fine
+}
+
+// A length, and so many values.
+fn read_sequence(s: &[u8], at: u32) -> Behind
+    requires { ⌜ (at ≤ length (now s)) × (length (now s) ≤ mostBytes) ⌝ }
+    ensures { λ r. ⌜ Reads (now (s .entry)) (keeps sequence) at r ⌝ }
+{
+    match read_len(s, at) {
+        Judged::Refused(number, place) => Behind::Refused(number, place),
+        Judged::Fine => Behind::Span(at, 4, Kids::Items(le32(s, at as usize))),
+    }
+}
+
+// A one-byte length, and so many values.
+fn read_few(s: &[u8], at: u32) -> Behind
+    requires { ⌜ (at ≤ length (now s)) × (length (now s) ≤ mostBytes) ⌝ }
+    ensures { λ r. ⌜ Reads (now (s .entry)) (keeps few) at r ⌝ }
+{
+    let p = at as usize;
+    if s.len() < p + 1 {
+        return Behind::Refused(refusals::DATA_TOO_SHORT, at);
+    }
+    Behind::Span(at, 1, Kids::Items(word(s[p])))
+}
+
+// A length, and so many bytes.
+fn read_bytes(s: &[u8], at: u32) -> Behind
+    requires { ⌜ (at ≤ length (now s)) × (length (now s) ≤ mostBytes) ⌝ }
+    ensures { λ r. ⌜ Reads (now (s .entry)) (contains bytes) at r ⌝ }
+{
+    match read_len(s, at) {
+        Judged::Refused(number, place) => Behind::Refused(number, place),
+        Judged::Fine => {
+            let p = at as usize;
+            let size = le32(s, p);
+            if s.len() < p + 4 + size as usize {
+                return Behind::Refused(refusals::DATA_TOO_SHORT, at + 4);
+            }
+            Behind::Span(at + 4, size, Kids::Items(0))
+        }
+    }
+}
+
+// So many bytes that are UTF-8 with surrogates allowed.
+fn read_wtf8(s: &[u8], at: u32, size: u32) -> Judged
+    requires { ⌜ (at ≤ length (now s)) × (length (now s) ≤ mostBytes) ⌝ }
+    ensures { λ r. ⌜ Judges (now (s .entry)) (at + size) (Fields.string (now (s .entry)) at size) r ⌝ }
+{
+    let from = at as usize;
+    let count = size as usize;
+    if s.len() < from + count {
+        return Judged::Refused(refusals::DATA_TOO_SHORT, at);
+    }
+    if !wtf8::is_wtf8(&s[from..from + count]) {
+        return Judged::Refused(refusals::INVALID_UTF8, at);
+    }
+    Judged::Fine
+}
+
+// A length, and a string of so many bytes.
+fn read_text(s: &[u8], at: u32) -> Behind
+    requires { ⌜ (at ≤ length (now s)) × (length (now s) ≤ mostBytes) ⌝ }
+    ensures { λ r. ⌜ Reads (now (s .entry)) (contains text) at r ⌝ }
+{
+    match read_len(s, at) {
+        Judged::Refused(number, place) => Behind::Refused(number, place),
+        Judged::Fine => {
+            let size = le32(s, at as usize);
+            match read_wtf8(s, at + 4, size) {
+                Judged::Refused(number, place) => Behind::Refused(number, place),
+                Judged::Fine => Behind::Span(at + 4, size, Kids::Items(0)),
+            }
+        }
+    }
+}
+
+// A one-byte length, and a string of so many bytes.
+fn read_short(s: &[u8], at: u32) -> Behind
+    requires { ⌜ (at ≤ length (now s)) × (length (now s) ≤ mostBytes) ⌝ }
+    ensures { λ r. ⌜ Reads (now (s .entry)) (contains short) at r ⌝ }
+{
+    let p = at as usize;
+    if s.len() < p + 1 {
+        return Behind::Refused(refusals::DATA_TOO_SHORT, at);
+    }
+    let size = word(s[p]);
+    match read_wtf8(s, at + 1, size) {
+        Judged::Refused(number, place) => Behind::Refused(number, place),
+        Judged::Fine => Behind::Span(at + 1, size, Kids::Items(0)),
+    }
+}
+
+// How many digits a signed count stands for: its sign is the number's.
+pub fn digit_count(count: u32) -> u32
+    ensures { λ r. ⌜ (r ≡ Fields.digitCount count) × (r ≤ 2147483648) ⌝ }
+{
+    if count < 0x8000_0000 {
+        count
+    } else {
+        0xFFFF_FFFF - count + 1
+    }
+}
+
+// So many digits, each judged as it is read.
+fn read_digits(s: &[u8], count: u32, at: u32) -> Judged
+    requires { ⌜ (at ≤ length (now s)) × (length (now s) ≤ mostBytes) ⌝ }
+    ensures { λ r. ⌜ Judges (now (s .entry)) (at + 2 * count) (Fields.digits (now (s .entry)) count at) r ⌝ }
+{
+    let mut place = at;
+    let mut left = count;
+    while 0 < left {
+        let p = place as usize;
+        if s.len() < p + 2 {
+            return Judged::Refused(refusals::DATA_TOO_SHORT, place);
+        }
+        if 0x8000 <= le16(s, p) {
+            return Judged::Refused(refusals::INVALID_BYTECODE, place);
+        }
+        place += 2;
+        left -= 1;
+    }
+    Judged::Fine
+}
+
+// The last of so many digits is not zero.
+fn last_digit(s: &[u8], count: u32, at: u32) -> Judged
+    requires { ⌜ (at + 2 * count ≤ length (now s)) × (length (now s) ≤ mostBytes) ⌝ }
+    ensures { λ r. ⌜ Judges (now (s .entry)) 0 (Fields.lastDigit (now (s .entry)) count at) r ⌝ }
+{
+    if count == 0 {
+        return Judged::Fine;
+    }
+    let place = at + 2 * (count - 1);
+    if le16(s, place as usize) == 0 {
+        return Judged::Refused(refusals::INVALID_BYTECODE, place);
+    }
+    Judged::Fine
+}
+
+// A signed count of digits, and the digits.
+fn read_pylong(s: &[u8], at: u32) -> Behind
+    requires { ⌜ (at ≤ length (now s)) × (length (now s) ≤ mostBytes) ⌝ }
+    ensures { λ r. ⌜ Reads (now (s .entry)) (keeps long) at r ⌝ }
+{
+    let p = at as usize;
+    if s.len() < p + 4 {
+        return Behind::Refused(refusals::DATA_TOO_SHORT, at);
+    }
+    let count = digit_count(le32(s, p));
+    match read_digits(s, count, at + 4) {
+        Judged::Refused(number, place) => Behind::Refused(number, place),
+        Judged::Fine => match last_digit(s, count, at + 4) {
+            Judged::Refused(number, place) => Behind::Refused(number, place),
+            Judged::Fine => Behind::Span(at, 4 + 2 * count, Kids::Items(0)),
+        },
+    }
+}
+
+// Five numbers of 32 bits, each a field of its own.
+fn read_numbers(s: &[u8], at: u32) -> Behind
+    requires { ⌜ (at ≤ length (now s)) × (length (now s) ≤ mostBytes) ⌝ }
+    ensures { λ r. ⌜ Reads (now (s .entry)) codes at r ⌝ }
+{
+    let whole = (s.len() - at as usize) / 4;
+    if whole < 5 {
+        return Behind::Refused(refusals::DATA_TOO_SHORT, at + 4 * whole as u32);
+    }
+    Behind::Span(at, 20, Kids::Parts)
+}
+
+// The argument sum of the code whose numbers stand at a place.
+pub fn argument_sum(s: &[u8], place: usize) -> u64
+    requires { ⌜ place + 20 ≤ length (now s) ⌝ }
+    ensures { λ r. ⌜ r ≡ Fields.sumAt (now (s .entry)) place ⌝ }
+{
+    let arguments = le32(s, place) as u64;
+    let keyword_only = le32(s, place + 8) as u64;
+    let flags = le32(s, place + 16) as u64;
+    arguments + keyword_only + flags / 4 % 2 + flags / 8 % 2
+}
+
+// The fields behind the header of a node, from the byte after it on.
+pub fn read_fields(s: &[u8], class: u32, at: u32) -> Behind
+    requires { ⌜ (class < keptClasses) × (at ≤ length (now s)) × (length (now s) ≤ mostBytes) ⌝ }
+    ensures { λ r. ⌜ Reads (now (s .entry)) (classAt class) at r ⌝ }
+{
+    match class {
+        SINGLE => Behind::Span(at, 0, Kids::Items(0)),
+        FIXED4 => read_fixed(s, at, 4),
+        FIXED8 => read_fixed(s, at, 8),
+        DOUBLE => read_double(s, at),
+        LONG => read_pylong(s, at),
+        SEQUENCE => read_sequence(s, at),
+        FEW => read_few(s, at),
+        SLICE => Behind::Span(at, 0, Kids::Items(3)),
+        DICT => Behind::Span(at, 0, Kids::Pairs),
+        BYTES => read_bytes(s, at),
+        TEXT => read_text(s, at),
+        SHORT => read_short(s, at),
+        _ => read_numbers(s, at),
+    }
+}

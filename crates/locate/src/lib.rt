@@ -1,0 +1,38 @@
+// The line table of a code object by its node: the slice at a bytes node's place and size is handed on to the location reader.
+ghost use mathlib.Core.Path.{_≡_};
+ghost use Prim.Native.Nat.{_/_};
+ghost use lib.ListN.{length};
+ghost use Rattle.linetable.specs.Answer.{firstLine, answer, recordsOf};
+ghost use Rattle.locate.specs.Part.{locatedAt};
+use linetable::Located;
+
+// The letter of bytes.
+const BYTES: u32 = 0x73;
+
+// Four numbers for each instruction, as `linetable_to_records` gives them for the node's bytes.
+pub fn locate_node(
+    input: &[u8],
+    nodes: &[u32],
+    used: u32,
+    node: u32,
+    first_line: i32,
+    count: u32,
+    records: &mut [u32],
+) -> Located
+    ensures { λ r. ⌜ (r ≡ answer (locatedAt (now (input .entry)) (now (nodes .entry)) used node (firstLine «first_line») count (length (now (records .entry)) / 4)))
+        × (now (records .exit) ≡ recordsOf (length (now (records .entry))) (locatedAt (now (input .entry)) (now (nodes .entry)) used node (firstLine «first_line») count (length (now (records .entry)) / 4))) ⌝ }
+{
+    if (refusals::MOST_BYTES as usize) < input.len() {
+        return linetable::refuse(records, refusals::INPUT_TOO_LONG, 0);
+    }
+    if !records::sound_at(input, nodes, used, node) {
+        return linetable::refuse(records, refusals::BAD_TABLE, node);
+    }
+    let found = records::node_at(nodes, node);
+    if found.letter != BYTES {
+        return linetable::refuse(records, refusals::BAD_TABLE, node);
+    }
+    let start = found.place as usize;
+    let end = start + found.size as usize;
+    linetable::linetable_to_records(&input[start..end], first_line, count, records)
+}

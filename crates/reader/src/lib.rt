@@ -1,0 +1,351 @@
+// The reader: `deserialize_value`, and below it a reader of values and readers of containers and of code that call one another.
+// The nesting allowance falls where a node hands its children on: by one in a container, and once more in a code's body.
+ghost use mathlib.Core.Path.{_≡_};
+ghost use Prim.Native.Nat.{ℕ, _+_, _*_, _≤_, _<_, min};
+ghost use lib.ListN.{length, getD};
+ghost use Rattle.grammar.specs.Fields.{parts, codeNumbers};
+ghost use Rattle.grammar.specs.Answer.{readOf};
+ghost use Rattle.fields.specs.Behind.{childrenOf};
+ghost use Rattle.steps.specs.Held.{Safe, LineIn};
+ghost use Rattle.reader.specs.Readings.{ReadsValue, ReadsMembers, ReadsPairs, aChild, soMany, aCode, aNode};
+ghost use Rattle.reader.specs.Delivered.{Delivers};
+
+// A value, the Rust's deserialize_value_depth: what stands before its children, then these, then its record and its slot, which are
+// written when it is complete.
+fn value(
+    s: &[u8],
+    nodes: &mut [u32],
+    entries: &mut [u32],
+    slots: &mut [u32],
+    room: steps::Room,
+    allowance: u32,
+    w: steps::Walk,
+) -> steps::Step
+    requires { ⌜ Safe (now s) room w (now nodes) (now entries) (now slots) ⌝ }
+    ensures { λ r. ⌜ ReadsValue (now (s .entry)) room allowance w (now (nodes .entry)) (now (entries .entry)) (now (slots .entry)) r (now (nodes .exit)) (now (entries .exit)) (now (slots .exit)) ⌝ }
+{
+    let o = steps::front(s, slots, room, allowance, w);
+    match o {
+        steps::Opened::Refused(number, place) => steps::Step::Refused(number, place),
+        steps::Opened::Known(v, at) => steps::Step::Value(
+            v,
+            steps::Walk {
+                at,
+                nodes: w.nodes,
+                entries: w.entries,
+                slots: w.slots,
+            },
+        ),
+        steps::Opened::Node(h, kids) => {
+            let node = w.nodes;
+            let slot = w.slots;
+            let inside = steps::Walk {
+                at: h.place + h.size,
+                nodes: node + 1,
+                entries: w.entries,
+                slots: slot + h.flag,
+            };
+            let line = steps::Line {
+                first: refusals::NOTHING,
+                last: refusals::NOTHING,
+                count: 0,
+                line: 0,
+                code: 0,
+                locals: 0,
+                kinds: 0,
+                walk: inside,
+            };
+            let k = typed(s, nodes, entries, slots, room, allowance, line, kids, w.at);
+            match k {
+                steps::Linked::Refused(number, place) => steps::Step::Refused(number, place),
+                steps::Linked::Line(l) => {
+                    let size = steps::node_size(kids, h.place, h.size, l.line);
+                    stores::write_node(nodes, node, h.letter, h.place, size, l.first, l.count);
+                    stores::fill_slot(slots, h.flag, slot, node);
+                    let after = l.walk;
+                    steps::Step::Value(node, after)
+                }
+            }
+        }
+    }
+}
+
+// What a node holds, by the kind of its children, the Rust's deserialize_value_typed: each gets the allowance less one.
+fn typed(
+    s: &[u8],
+    nodes: &mut [u32],
+    entries: &mut [u32],
+    slots: &mut [u32],
+    room: steps::Room,
+    allowance: u32,
+    line: steps::Line,
+    kids: fields::Kids,
+    header: u32,
+) -> steps::Linked
+    requires { ⌜ Safe (now s) room (line .walk) (now nodes) (now entries) (now slots) × LineIn line × (0 < allowance) × (childrenOf kids ≡ parts → (2 ≤ allowance) × (header + 1 + codeNumbers ≤ length (now s))) ⌝ }
+    ensures { λ r. ⌜ ReadsMembers (aNode header kids) 0 (now (s .entry)) room allowance line (now (nodes .entry)) (now (entries .entry)) (now (slots .entry)) r (now (nodes .exit)) (now (entries .exit)) (now (slots .exit)) ⌝ }
+{
+    match kids {
+        fields::Kids::Items(count) => items(
+            s,
+            nodes,
+            entries,
+            slots,
+            room,
+            allowance - 1,
+            line,
+            count,
+        ),
+        fields::Kids::Pairs => pairs(s, nodes, entries, slots, room, allowance - 1, line),
+        fields::Kids::Parts => code(s, nodes, entries, slots, room, allowance - 1, line, header),
+    }
+}
+
+// One child: a value, held to a rule, which gets its entry once it is complete.
+fn child(
+    s: &[u8],
+    nodes: &mut [u32],
+    entries: &mut [u32],
+    slots: &mut [u32],
+    room: steps::Room,
+    allowance: u32,
+    line: steps::Line,
+    rule: u32,
+) -> steps::Linked
+    requires { ⌜ Safe (now s) room (line .walk) (now nodes) (now entries) (now slots) × LineIn line ⌝ }
+    ensures { λ r. ⌜ ReadsMembers (aChild rule) 1 (now (s .entry)) room allowance line (now (nodes .entry)) (now (entries .entry)) (now (slots .entry)) r (now (nodes .exit)) (now (entries .exit)) (now (slots .exit)) ⌝ }
+{
+    let from = line.walk;
+    let c = value(s, nodes, entries, slots, room, allowance, from);
+    match c {
+        steps::Step::Refused(number, place) => steps::Linked::Refused(number, place),
+        steps::Step::Value(v, after) => {
+            if !steps::suits(rule, nodes, entries, v) {
+                return steps::Linked::Refused(refusals::BAD_TYPE, from.at);
+            }
+            steps::attach(entries, room.entries, line, from.at, v, after)
+        }
+    }
+}
+
+// So many children, one after another.
+fn items(
+    s: &[u8],
+    nodes: &mut [u32],
+    entries: &mut [u32],
+    slots: &mut [u32],
+    room: steps::Room,
+    allowance: u32,
+    line: steps::Line,
+    count: u32,
+) -> steps::Linked
+    requires { ⌜ Safe (now s) room (line .walk) (now nodes) (now entries) (now slots) × LineIn line ⌝ }
+    ensures { λ r. ⌜ ReadsMembers (soMany count) 0 (now (s .entry)) room allowance line (now (nodes .entry)) (now (entries .entry)) (now (slots .entry)) r (now (nodes .exit)) (now (entries .exit)) (now (slots .exit)) ⌝ }
+{
+    let mut l = line;
+    let mut i = 0u32;
+    while i < count {
+        let r = child(
+            s,
+            nodes,
+            entries,
+            slots,
+            room,
+            allowance,
+            l,
+            steps::WHATEVER,
+        );
+        match r {
+            steps::Linked::Refused(number, place) => {
+                return steps::Linked::Refused(number, place);
+            }
+            steps::Linked::Line(m) => {
+                l = m;
+            }
+        }
+        i += 1;
+    }
+    steps::Linked::Line(l)
+}
+
+// A dict's keys and values, up to the null in a key's place: that byte is looked at before the key's allowance is tested.
+fn pairs(
+    s: &[u8],
+    nodes: &mut [u32],
+    entries: &mut [u32],
+    slots: &mut [u32],
+    room: steps::Room,
+    allowance: u32,
+    line: steps::Line,
+) -> steps::Linked
+    requires { ⌜ Safe (now s) room (line .walk) (now nodes) (now entries) (now slots) × LineIn line ⌝ }
+    ensures { λ r. ⌜ ReadsPairs (now (s .entry)) room allowance line (now (nodes .entry)) (now (entries .entry)) (now (slots .entry)) r (now (nodes .exit)) (now (entries .exit)) (now (slots .exit)) ⌝ }
+{
+    let mut l = line;
+    loop {
+        let w = l.walk;
+        let at = w.at as usize;
+        if s.len() <= at {
+            return steps::Linked::Refused(refusals::EOF_OBJECT, w.at);
+        }
+        if s[at] % 128 == 0x30 {
+            return steps::Linked::Line(steps::Line {
+                first: l.first,
+                last: l.last,
+                count: l.count,
+                line: l.line,
+                code: l.code,
+                locals: l.locals,
+                kinds: l.kinds,
+                walk: steps::Walk {
+                    at: w.at + 1,
+                    nodes: w.nodes,
+                    entries: w.entries,
+                    slots: w.slots,
+                },
+            });
+        }
+        let r = child(
+            s,
+            nodes,
+            entries,
+            slots,
+            room,
+            allowance,
+            l,
+            steps::WHATEVER,
+        );
+        match r {
+            steps::Linked::Refused(number, place) => {
+                return steps::Linked::Refused(number, place);
+            }
+            steps::Linked::Line(key) => {
+                let q = child(
+                    s,
+                    nodes,
+                    entries,
+                    slots,
+                    room,
+                    allowance,
+                    key,
+                    steps::WHATEVER,
+                );
+                match q {
+                    steps::Linked::Refused(number, place) => {
+                        return steps::Linked::Refused(number, place);
+                    }
+                    steps::Linked::Line(m) => {
+                        l = m;
+                    }
+                }
+            }
+        }
+    }
+}
+
+// A code's body, the Rust's deserialize_code_value_inner: its ten parts get its own allowance less one, the first line stands before the
+// ninth, and the checks at the end are refused at the code's header.
+fn code(
+    s: &[u8],
+    nodes: &mut [u32],
+    entries: &mut [u32],
+    slots: &mut [u32],
+    room: steps::Room,
+    allowance: u32,
+    line: steps::Line,
+    header: u32,
+) -> steps::Linked
+    requires { ⌜ Safe (now s) room (line .walk) (now nodes) (now entries) (now slots) × LineIn line × (0 < allowance) × (header + 1 + codeNumbers ≤ length (now s)) ⌝ }
+    ensures { λ r. ⌜ ReadsMembers (aCode header) 0 (now (s .entry)) room allowance line (now (nodes .entry)) (now (entries .entry)) (now (slots .entry)) r (now (nodes .exit)) (now (entries .exit)) (now (slots .exit)) ⌝ }
+{
+    let mut l = line;
+    let mut i = 0u32;
+    while i < 10 {
+        let g = steps::first_line(s, i, l);
+        match g {
+            steps::Linked::Refused(number, place) => {
+                return steps::Linked::Refused(number, place);
+            }
+            steps::Linked::Line(part) => {
+                let rule = steps::rule_at(i);
+                let r = child(s, nodes, entries, slots, room, allowance - 1, part, rule);
+                match r {
+                    steps::Linked::Refused(number, place) => {
+                        return steps::Linked::Refused(number, place);
+                    }
+                    steps::Linked::Line(m) => {
+                        l = m;
+                    }
+                }
+            }
+        }
+        i += 1;
+    }
+    let fault = steps::code_fault(s, nodes, header + 1, l);
+    if fault != refusals::ACCEPTED {
+        return steps::Linked::Refused(fault, header);
+    }
+    steps::Linked::Line(l)
+}
+
+// The answer: bytes consumed and the counts of nodes, entries and slots; or a refusal's number and place.
+pub enum Outcome {
+    Read {
+        consumed: u32,
+        nodes: u32,
+        entries: u32,
+        slots: u32,
+    },
+    Refused(u32, u32),
+}
+
+fn at_most(n: usize, most: u32) -> u32
+    ensures { λ r. ⌜ r ≡ min n most ⌝ }
+{
+    if n < most as usize { n as u32 } else { most }
+}
+
+// One value from the start of the input. The stores are cleared first; refused, they are all zero, and read, all past what is used is.
+pub fn deserialize_value(
+    input: &[u8],
+    nodes: &mut [u32],
+    entries: &mut [u32],
+    slots: &mut [u32],
+    nesting: u32,
+) -> Outcome
+    ensures { λ r. ⌜ Delivers (readOf (now (input .entry)) (length (now (nodes .entry))) (length (now (entries .entry))) (length (now (slots .entry))) nesting) r (now (nodes .exit)) (now (entries .exit)) (now (slots .exit)) ⌝ }
+{
+    lent::clear_words(nodes);
+    lent::clear_words(entries);
+    lent::clear_words(slots);
+    if (refusals::MOST_BYTES as usize) < input.len() {
+        return Outcome::Refused(refusals::INPUT_TOO_LONG, 0);
+    }
+    let room = steps::Room {
+        nodes: at_most(nodes.len() / stores::NODE_WIDTH, refusals::MOST_RECORDS),
+        entries: at_most(entries.len() / stores::ENTRY_WIDTH, refusals::MOST_RECORDS),
+        slots: at_most(slots.len(), refusals::MOST_RECORDS),
+    };
+    let allowance = at_most(nesting as usize, refusals::MOST_NESTING);
+    let start = steps::Walk {
+        at: 0,
+        nodes: 0,
+        entries: 0,
+        slots: 0,
+    };
+    let r = value(input, nodes, entries, slots, room, allowance, start);
+    match r {
+        steps::Step::Value(_, w) => Outcome::Read {
+            consumed: w.at,
+            nodes: w.nodes,
+            entries: w.entries,
+            slots: w.slots,
+        },
+        steps::Step::Refused(number, place) => {
+            lent::clear_words(nodes);
+            lent::clear_words(entries);
+            lent::clear_words(slots);
+            Outcome::Refused(number, place)
+        }
+    }
+}

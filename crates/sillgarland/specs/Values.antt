@@ -1,0 +1,27 @@
+-- The struct that the reader's export returns: 01's numbers of each answer.
+use mathlib.Core.Path.{_≡_}
+use mathlib.Core.List.{List}
+use Prim.Native.Nat.{ℕ}
+use Rattle.refusals.specs.Numbers.{accepted}
+use Rattle.grammar.specs.Reading.{Answer, gives, stops}
+use Rattle.grammar.specs.Answer.{Counts, Outcome}
+use Rattle.sillgarland.specs.declared.values.SillRead.{SillRead}
+
+abbrev pub readStruct : Answer Counts → SillRead
+readStruct (gives counts) =
+    record {
+      refusal = accepted;
+      place = 0;
+      consumed = counts .consumed;
+      nodes = counts .nodes;
+      entries = counts .entries;
+      slots = counts .slots;
+    }
+readStruct (stops number place) = record { refusal = number; place = place; consumed = 0; nodes = 0; entries = 0; slots = 0 }
+
+-- The contract: r gives the answer's numbers, and the three stores hold what the outcome says.
+pub record ReadAs (o : Outcome) (r : SillRead) (nodes entries slots : List ℕ) : Type 0 where
+  pub numbers : r ≡ readStruct (o .answer)
+  pub holds-nodes : nodes ≡ o .nodes
+  pub holds-entries : entries ≡ o .entries
+  pub holds-slots : slots ≡ o .slots

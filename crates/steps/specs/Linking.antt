@@ -1,0 +1,113 @@
+-- What the code makes of a line when a child is complete, of a part by its rule, of the first line, and of a code's end.
+use mathlib.Core.Path.{_≡_}
+use Prim.Native.Nat.{ℕ, zero, suc, _+_, _<_}
+use mathlib.Core.Bool.{Bool, true, false, cond, _&&_}
+use mathlib.Core.List.{List}
+use lib.ListN.{length}
+use lib.Dec.{leb, ltb, eqb}
+use Rattle.refusals.specs.Numbers.{dataTooShort, noEntry}
+use Rattle.refusals.specs.Limits.{nothing}
+use Rattle.grammar.specs.Letters.{isBytes, isTuple, isString}
+use Rattle.grammar.specs.Fields.{sumAt, codeFault}
+use Rattle.grammar.specs.State.{nodeAt, entryAt}
+use Rattle.grammar.specs.Steps.{Rule, whatever, asBytes, asTuple, asNames, asString, codePart, localsPart, kindsPart, linePart}
+use Rattle.stores.specs.Written.{entryWritten, entryLinked}
+use Rattle.steps.specs.declared.Walk.{Walk}
+use Rattle.steps.specs.declared.Line.{Line}
+use Rattle.steps.specs.declared.Linked.{Linked}
+use Rattle.steps.specs.declared.Linked.the-variants as linked
+
+-- A child with its entry.
+
+-- the node of one part of a code, once there are so many children before it
+abbrev pub kept : (part count child before : ℕ) → ℕ
+kept part count child before = cond (eqb count part) child before
+
+-- `last` is the last entry before, and the child was read up to `a`
+abbrev pub lineNext : Line → ℕ → Walk → Line
+lineNext l v a =
+    record {
+      first = cond (eqb (l .last) nothing) (a .entries) (l .first);
+      last = a .entries;
+      count = l .count + 1;
+      line = l .line;
+      code = kept codePart (l .count) v (l .code);
+      locals = kept localsPart (l .count) v (l .locals);
+      kinds = kept kindsPart (l .count) v (l .kinds);
+      walk = record { at = a .at; nodes = a .nodes; entries = a .entries + 1; slots = a .slots };
+    }
+
+abbrev pub entriesNext : List ℕ → Line → ℕ → Walk → List ℕ
+entriesNext es l v a =
+    cond (eqb (l .last) nothing)
+    (entryWritten es (a .entries) (record { child = v; next = nothing }))
+    (entryLinked (entryWritten es (a .entries) (record { child = v; next = nothing })) (l .last) (a .entries))
+
+abbrev pub attached : (room : ℕ) → Line → (place child : ℕ) → Walk → Linked
+attached room l place v a = cond (ltb (a .entries) room) (linked.Line (lineNext l v a)) (linked.Refused noEntry place)
+
+pub record Attaches (room : ℕ) (l : Line) (place v : ℕ) (a : Walk) (es : List ℕ) (r : Linked) (es′ : List ℕ) : Type 0 where
+  pub answer : r ≡ attached room l place v a
+  pub entries : a .entries < room → es′ ≡ entriesNext es l v a
+
+-- A part and its rule.
+
+-- the rules by number
+abbrev pub ruleOf : ℕ → Rule
+ruleOf zero = whatever
+ruleOf (suc zero) = asBytes
+ruleOf (suc (suc zero)) = asTuple
+ruleOf (suc (suc (suc zero))) = asNames
+ruleOf (suc (suc (suc (suc n)))) = asString
+
+-- `strings` and `suits` of the definitions, over the stores
+unfoldable pub stringsIn : (ns es : List ℕ) → (more e : ℕ) → Bool
+stringsIn ns es zero e = true
+stringsIn ns es (suc more) e = isString (nodeAt ns (entryAt es e .child) .letter) && stringsIn ns es more (entryAt es e .next)
+
+abbrev pub suitsIn : Rule → (ns es : List ℕ) → ℕ → Bool
+suitsIn whatever ns es v = true
+suitsIn asBytes ns es v = isBytes (nodeAt ns v .letter)
+suitsIn asTuple ns es v = isTuple (nodeAt ns v .letter)
+suitsIn asNames ns es v = isTuple (nodeAt ns v .letter) && stringsIn ns es (nodeAt ns v .count) (nodeAt ns v .first)
+suitsIn asString ns es v = isString (nodeAt ns v .letter)
+
+-- The first line and the end of a code.
+
+-- bytes passed
+abbrev pub lineOn : ℕ → Line → Line
+lineOn size l =
+    record {
+      first = l .first;
+      last = l .last;
+      count = l .count;
+      line = l .line;
+      code = l .code;
+      locals = l .locals;
+      kinds = l .kinds;
+      walk = record { at = l .walk .at + size; nodes = l .walk .nodes; entries = l .walk .entries; slots = l .walk .slots };
+    }
+
+abbrev pub lineLined : Line → Line
+lineLined l =
+    record {
+      first = l .first;
+      last = l .last;
+      count = l .count;
+      line = l .walk .at;
+      code = l .code;
+      locals = l .locals;
+      kinds = l .kinds;
+      walk = record { at = l .walk .at + 4; nodes = l .walk .nodes; entries = l .walk .entries; slots = l .walk .slots };
+    }
+
+abbrev pub firstLined : List ℕ → ℕ → Line → Linked
+firstLined s i l =
+    cond (eqb i linePart)
+    (cond (leb (l .walk .at + 4) (length s)) (linked.Line (lineLined l)) (linked.Refused dataTooShort (l .walk .at)))
+    (linked.Line l)
+
+-- the refusal's number at the end of a code whose numbers stand at a place, or none
+abbrev pub faultIn : List ℕ → List ℕ → ℕ → Line → ℕ
+faultIn s ns place l =
+    codeFault (sumAt s place) (nodeAt ns (l .code) .size) (nodeAt ns (l .locals) .count) (nodeAt ns (l .kinds) .size)

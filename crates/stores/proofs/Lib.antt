@@ -1,0 +1,3 @@
+pub mod Padded
+pub mod Records
+pub mod Lookups
