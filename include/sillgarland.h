@@ -103,7 +103,7 @@ sill_split_t sill_split(const uint8_t *kinds, size_t kinds_len, uint32_t names, 
 /* ---- Values: reading one from the start of the input, and what its leaves are. */
 
 typedef struct {
-    uint32_t refusal; /* 1 to 15, with the place that document 01's table gives */
+    uint32_t refusal; /* 1 to 15 and 18, with the place that document 01's table gives */
     uint32_t place;
     uint32_t consumed; /* how many bytes the value took; what follows them is not looked at */
     uint32_t nodes;    /* how many of each record were used */

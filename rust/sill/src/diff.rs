@@ -63,19 +63,14 @@ fn compare(mut sides: [Side; 2], out: &mut dyn Write) -> io::Result<Outcome> {
 fn tell_end(sides: &[Side; 2], values: usize, out: &mut dyn Write) -> io::Result<Outcome> {
     let [one, other] = sides.each_ref().map(|side| text::path(side.path));
     let longer = sides.iter().find(|side| side.has_more());
-    let held = text::count(values, "value");
     match longer {
         None => {
-            writeln!(out, "the same: {one} and {other}, {held}")?;
+            writeln!(out, "the same: {one} and {other}, {}", text::count(values, "value"))?;
             Ok(Outcome::Good)
         }
         Some(side) => {
-            writeln!(
-                out,
-                "different: the first {held} are the same, and {} goes on at byte {}",
-                text::path(side.path),
-                side.at
-            )?;
+            let longer = text::path(side.path);
+            writeln!(out, "different: alike up to value {values}, and {longer} goes on at byte {}", side.at)?;
             Ok(Outcome::Bad)
         }
     }

@@ -1,6 +1,7 @@
 //! The words of a command line, by the options that a command's page of help lists.
 use crate::help::{Known, Page};
 use std::ffi::{OsStr, OsString};
+use std::os::unix::ffi::OsStrExt;
 
 /// What a command was called with.
 #[derive(Debug, Default)]
@@ -31,14 +32,13 @@ pub fn parse(words: &[OsString], page: &Page) -> Result<Arguments, String> {
     let mut arguments = Arguments::default();
     let mut words = words.iter();
     while let Some(word) = words.next() {
-        let shown = word.to_string_lossy();
-        if shown == "--" {
+        if word == "--" {
             arguments.operands.extend(words.by_ref().cloned());
-        } else if shown.len() < 2 || !shown.starts_with('-') {
+        } else if word.len() < 2 || !word.as_bytes().starts_with(b"-") {
             arguments.operands.push(word.clone());
         } else {
-            let (name, joined) = shown.split_once('=').map_or((&*shown, None), |(name, word)| (name, Some(word)));
-            let known = page.option(name).ok_or_else(|| format!("unknown option '{shown}'"))?;
+            let (name, joined) = split(word);
+            let known = page.option(&name).ok_or_else(|| format!("unknown option '{name}'"))?;
             let following = word_for(known, joined, || words.next().cloned())?;
             arguments.given.push((known.long, following));
         }
@@ -46,9 +46,16 @@ pub fn parse(words: &[OsString], page: &Page) -> Result<Arguments, String> {
     Ok(arguments)
 }
 
+/// An option's name, and the word after its `=`.
+fn split(word: &OsStr) -> (String, Option<&OsStr>) {
+    let mut halves = word.as_bytes().splitn(2, |byte| *byte == b'=').map(OsStr::from_bytes);
+    let name = halves.next().map_or(String::new(), |name| name.to_string_lossy().into_owned());
+    (name, halves.next())
+}
+
 fn word_for(
     known: &Known,
-    joined: Option<&str>,
+    joined: Option<&OsStr>,
     next: impl FnOnce() -> Option<OsString>,
 ) -> Result<Option<OsString>, String> {
     let long = known.long;
