@@ -21,15 +21,22 @@ pub fn run(arguments: &Arguments, out: &mut dyn Write) -> io::Result<Outcome> {
     Ok(report.totals.outcome().max(if found.trouble { Outcome::Trouble } else { Outcome::Good }))
 }
 
+/// The deepest nesting is read on less than half of this.
+const WORKERS_STACK: usize = 4 << 20;
+
 /// Checks files in parallel, and hands on what each came to in the order of the files.
 fn check_all(files: &[PathBuf], mut act: impl FnMut(&Path, io::Result<Findings>) -> io::Result<()>) -> io::Result<()> {
     let next = AtomicUsize::new(0);
     let workers = thread::available_parallelism().map_or(1, usize::from).min(files.len());
     thread::scope(|scope| {
         let (sender, receiver) = mpsc::channel();
-        for _ in 0..workers {
+        let start = |_: &usize| {
             let (sender, next) = (sender.clone(), &next);
-            scope.spawn(move || check_each(files, next, &sender));
+            let worker = thread::Builder::new().stack_size(WORKERS_STACK);
+            worker.spawn_scoped(scope, move || check_each(files, next, &sender)).is_ok()
+        };
+        if (0..workers).take_while(start).count() == 0 {
+            check_each(files, &next, &sender); // no threads to be had
         }
         drop(sender);
         let (mut waiting, mut done, mut progress) = (BTreeMap::new(), 0, Progress::new());

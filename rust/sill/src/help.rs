@@ -72,8 +72,8 @@ the value it belongs to. Long texts and bytes are cut in the tree, never in JSON
 stands; later lines name that place.
 
 JSON is one list: an object for each value of the file, and one with the refusal where reading ended early. Each node has
-letter, place, size and type, and value or children; a float has its bits beside it, bytes are hexadecimal, and a whole number
-outside 64 bits is a string. A shared value is \"same_as\": the place where it is written out.",
+letter, place, size and type, and value or children; a float has its bits beside it, a text with surrogates its bytes; bytes are
+hexadecimal, and a whole number outside 64 bits is a string. A shared value is \"same_as\": the place where it is written out.",
     options: &[
         Known { short: Some('d'), long: "depth", word: Some("N"), text: "show no more than N levels below each value" },
         Known { short: None, long: "json", word: None, text: "as JSON, for machines" },

@@ -67,7 +67,7 @@ mod checking {
         let folder = folder("permission");
         let closed = file(&folder, "closed.golden", b"N");
         file(&folder, "open.golden", b"N");
-        fs::set_permissions(&closed, fs::Permissions::from_mode(0)).unwrap();
+        fs::set_permissions(&closed, fs::Permissions::from_mode(0o000)).unwrap();
         if fs::read(&closed).is_ok() {
             return; // whoever runs this may read everything
         }
@@ -165,6 +165,9 @@ mod showing {
                      \"value\":\"\\\"\\u000a\"},{\"letter\":\"{\",\"step\":\"[1]\",\"place\":7,\"size\":0,\
                      \"type\":\"dict\",\"children\":[]}]}}\n]\n";
         assert_eq!(ended(&["show", "--json", &path]), (0, shown.to_string(), String::new()));
+        let path = file(&folder("json"), "json.golden", b"z\x06\xED\xA0\xB4\xED\xB4\xA0");
+        let (_, shown, _) = ended(&["show", "--json", &path]);
+        assert!(shown.contains("\"value\":\"\\ud834\\udd20\",\"bytes\":\"eda0b4edb4a0\""), "{shown}");
     }
 
     #[test]

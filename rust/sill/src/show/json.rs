@@ -69,7 +69,7 @@ fn holds(content: Content) -> (&'static str, String) {
         Content::Float(number) => ("float", float("", number)),
         Content::Complex(real, imaginary) => ("complex", float("real_", real) + &float("imaginary_", imaginary)),
         Content::Bytes(bytes) => ("bytes", format!(",\"value\":\"{}\"", hex(bytes))),
-        Content::Text(text) => ("text", format!(",\"value\":{}", string_of(text))),
+        Content::Text(text) => ("text", text_fields(text)),
         Content::Tuple(_) => ("tuple", String::new()),
         Content::List(_) => ("list", String::new()),
         Content::Set(_) => ("set", String::new()),
@@ -78,6 +78,12 @@ fn holds(content: Content) -> (&'static str, String) {
         Content::Dict(_) => ("dict", String::new()),
         Content::Code(code) => ("code", numbers(&code)),
     }
+}
+
+/// JSON cannot tell two surrogates from the one character they would make together: the bytes beside it can.
+fn text_fields(text: Text) -> String {
+    let bytes = if text.as_str().is_some() { String::new() } else { format!(",\"bytes\":\"{}\"", hex(text.bytes())) };
+    format!(",\"value\":{}{bytes}", quoted(text.code_points()))
 }
 
 fn numbers(code: &Code) -> String {
@@ -111,10 +117,6 @@ fn refusal(refused: &Refused) -> String {
 
 fn string(text: &str) -> String {
     quoted(text.chars().map(u32::from))
-}
-
-fn string_of(text: Text) -> String {
-    quoted(text.code_points())
 }
 
 /// Surrogates are written as JSON escapes, which is how Python's json reads them back.
