@@ -16,10 +16,8 @@ fn main() {
     if !archive.is_file() {
         make_archive(&root);
     }
-    if archive.is_file() {
-        println!("cargo::rustc-link-search=native={}", native.display());
-        println!("cargo::rustc-link-lib=static=sillgarland");
-    }
+    println!("cargo::rustc-link-search=native={}", native.display());
+    println!("cargo::rustc-link-lib=static=sillgarland");
 }
 
 fn make_archive(root: &Path) {
@@ -29,7 +27,7 @@ fn make_archive(root: &Path) {
     let made = Command::new("tools/staticlib").current_dir(root).spawn().and_then(wait);
     match made {
         Ok(status) if status.success() => tell("tools/staticlib is done"),
-        Ok(status) => complain(&format!("tools/staticlib failed ({status}); run it by itself to see why")),
+        Ok(status) => complain(&format!("tools/staticlib failed ({status})")),
         Err(error) => complain(&format!("tools/staticlib could not be run: {error}")),
     }
 }
@@ -56,6 +54,8 @@ fn tell(message: &str) {
     }
 }
 
+/// Cargo shows all that was said, by tools/staticlib too, once the script ends badly.
 fn complain(message: &str) {
-    println!("cargo::error={message}");
+    eprintln!("{message}");
+    std::process::exit(1);
 }
