@@ -3,7 +3,7 @@ use crate::files::{self, Ended};
 use crate::options::Arguments;
 use crate::terminal::{Colour, Colours, Progress};
 use crate::{Outcome, complaints, text};
-use sillgarland::{Code, Golden, Lines, Locations, Reader, Records};
+use sillgarland::{Code, Golden, Lines, Location, Locations, Reader, Records};
 use std::collections::BTreeMap;
 use std::io::{self, Write};
 use std::path::{Path, PathBuf};
@@ -183,17 +183,13 @@ fn named(code: &Code) -> String {
 }
 
 fn not_whole(code: &Code, locations: Locations) -> String {
-    let name = named(code);
-    let (from_entries, all) = (locations.from_entries(), text::count(locations.len(), "instruction"));
+    let all = text::count(locations.len(), "instruction");
+    let placed = format!("{}: the line table places {} of {all}", named(code), locations.from_entries());
     match locations.first_left_over() {
-        Some((at, shown)) => format!(
-            "{name}: the line table places {from_entries} of {all}; instruction {at} is the first whose line is not from the \
-             table: it would show line {}",
-            shown.line
-        ),
-        None => {
-            format!("{name}: the line table places {from_entries} of {all}, but bytes of it are missing or left over")
+        Some((at, Location { line, .. })) => {
+            format!("{placed}; instruction {at} is the first whose line ({line}) is not from the table")
         }
+        None => format!("{placed}, but bytes of it are missing or left over"),
     }
 }
 

@@ -49,7 +49,7 @@ are not followed. One line a file, in order:
   refused    with number, name and place, and what is expected there. Places count bytes from the file's start. Bytes after
              the last whole value are a refusal, with the place where they begin;
   NOT WHOLE  with the first code object whose line table is cut or damaged, how many of its instructions have their line from
-             the table, how many there are, and the first (from 0) whose line is not, and what it would show instead.
+             the table, how many there are, and the first (from 0) whose line is not, with the line that it would show.
 
 A line also says where local names are out of order (Local, then Cell, then Free): such code may not read back once written.
 That alone is no fault of a file. The last line has the totals; the exit status is 0 only if every file is accepted.

@@ -38,6 +38,8 @@ mod checking {
     #[test]
     fn the_sample_goldens_as_readme_shows_them() {
         let shown = fs::read_to_string(root().join("tests/sill/check-goldens.txt")).unwrap();
+        let readme = fs::read_to_string(root().join("README.md")).unwrap();
+        assert!(readme.contains(&shown) || !readme.contains("check goldens"), "README.md shows another output");
         assert_eq!(ended(&["check", "goldens"]), (1, shown, String::new()));
     }
 
