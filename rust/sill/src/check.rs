@@ -13,8 +13,14 @@ use std::thread;
 
 pub fn run(arguments: &Arguments, out: &mut dyn Write) -> io::Result<Outcome> {
     let found = files::find(arguments.operands());
-    let mut report = Report { quiet: arguments.has("quiet"), colours: Colours::of_stdout(), totals: Totals::default() };
+    let mut report = Report {
+        quiet: arguments.has("quiet"),
+        colours: Colours::of_stdout(),
+        progress: Progress::new(found.files.len()),
+        totals: Totals::default(),
+    };
     check_all(&found.files, |path, checked| report.add(out, path, checked))?;
+    report.progress.clear();
     if !found.files.is_empty() {
         writeln!(out, "{}", report.totals)?;
     }
@@ -39,17 +45,14 @@ fn check_all(files: &[PathBuf], mut act: impl FnMut(&Path, io::Result<Findings>)
             check_each(files, &next, &sender); // no threads to be had
         }
         drop(sender);
-        let (mut waiting, mut done, mut progress) = (BTreeMap::new(), 0, Progress::new());
+        let (mut waiting, mut done) = (BTreeMap::new(), 0);
         for (at, checked) in receiver {
             waiting.insert(at, checked);
             while let Some(checked) = waiting.remove(&done) {
-                progress.clear();
                 act(&files[done], checked)?;
                 done += 1;
             }
-            progress.show(done, files.len());
         }
-        progress.clear();
         Ok(())
     })
 }
@@ -219,6 +222,7 @@ impl Verdict {
 struct Report {
     quiet: bool,
     colours: Colours,
+    progress: Progress,
     totals: Totals,
 }
 
@@ -226,6 +230,7 @@ impl Report {
     fn add(&mut self, out: &mut dyn Write, path: &Path, checked: io::Result<Findings>) -> io::Result<()> {
         match checked {
             Err(error) => {
+                self.progress.clear();
                 complaints::about(path, &error);
                 self.totals.unreadable += 1;
             }
@@ -233,11 +238,13 @@ impl Report {
                 let verdict = findings.verdict();
                 self.totals.add(verdict);
                 if verdict != Verdict::Accepted || !self.quiet || findings.name_order.count > 0 {
+                    self.progress.make_way();
                     writeln!(out, "{}  {}: {}", verdict.shown(self.colours), text::path(path), findings.told())?;
                     out.flush()?;
                 }
             }
         }
+        self.progress.show(self.totals.files());
         Ok(())
     }
 }
@@ -251,6 +258,10 @@ struct Totals {
 }
 
 impl Totals {
+    fn files(&self) -> usize {
+        self.accepted + self.not_whole + self.refused + self.unreadable
+    }
+
     fn add(&mut self, verdict: Verdict) {
         match verdict {
             Verdict::Accepted => self.accepted += 1,
@@ -271,7 +282,7 @@ impl Totals {
 impl std::fmt::Display for Totals {
     fn fmt(&self, f: &mut std::fmt::Formatter) -> std::fmt::Result {
         let Self { accepted, not_whole, refused, unreadable } = self;
-        let files = text::count(accepted + not_whole + refused + unreadable, "file");
+        let files = text::count(self.files(), "file");
         write!(f, "{files}: {accepted} accepted, {not_whole} not whole, {refused} refused")?;
         if *unreadable > 0 { write!(f, ", {unreadable} unreadable") } else { Ok(()) }
     }

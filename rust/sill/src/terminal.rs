@@ -27,7 +27,9 @@ impl Colours {
 
 /// A line on standard error that says how far long work has come; nothing unless that is a terminal.
 pub struct Progress {
+    all: usize,
     watched: bool,
+    shared: bool,
     shown: bool,
     next: Instant,
 }
@@ -35,25 +37,32 @@ pub struct Progress {
 const PACE: Duration = Duration::from_millis(200);
 
 impl Progress {
-    pub fn new() -> Self {
-        Self { watched: io::stderr().is_terminal(), shown: false, next: Instant::now() + PACE }
+    pub fn new(all: usize) -> Self {
+        let (watched, shared) = (io::stderr().is_terminal(), io::stdout().is_terminal());
+        Self { all, watched, shared, shown: false, next: Instant::now() + PACE }
     }
 
-    pub fn show(&mut self, done: usize, all: usize) {
+    /// Says how many files are done, from time to time.
+    pub fn show(&mut self, done: usize) {
         let now = Instant::now();
         if self.watched && now >= self.next {
             self.next = now + PACE;
             self.shown = true;
-            eprint!("\r\x1b[Kchecked {done} of {all} files");
-            let _ = io::stderr().flush();
+            let _ = write!(io::stderr(), "\r\x1b[Kchecked {done} of {} files", self.all);
         }
     }
 
-    /// Takes the line away, so that another may stand there.
+    /// Takes the line away if standard output is about to stand in its place.
+    pub fn make_way(&mut self) {
+        if self.shared {
+            self.clear();
+        }
+    }
+
+    /// Takes the line away.
     pub fn clear(&mut self) {
-        if self.shown {
-            eprint!("\r\x1b[K");
-            self.shown = false;
+        if std::mem::take(&mut self.shown) {
+            let _ = write!(io::stderr(), "\r\x1b[K");
         }
     }
 }

@@ -153,6 +153,8 @@ mod showing {
         assert_eq!(ended(&["show", &path]), (0, shown.to_string(), String::new()));
         let shown = "value 1, bytes 0 to 16\n        1  )  tuple of 3 …\n";
         assert_eq!(ended(&["show", "--depth", "0", &path]).1, shown);
+        let (_, shown, _) = ended(&["show", "--depth", "1", &path]);
+        assert_eq!(shown.matches("tuple of 1 …").count(), 2, "{shown}");
     }
 
     #[test]

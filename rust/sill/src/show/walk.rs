@@ -60,14 +60,15 @@ pub fn walk<'a>(golden: Golden<'a>, depth: usize, mut act: impl FnMut(Met<'a>) -
 }
 
 fn parted(value: Value, deep_enough: bool, seen: &mut [bool]) -> Parted {
-    let before = std::mem::replace(&mut seen[value.node() as usize], true);
     let (container, has_children) = ("()[<>:{c".contains(value.letter()), value.children().len() > 0);
-    match before && (has_children || value.size() > SHORT) {
-        true => Parted::Again,
-        false if !container => Parted::Leaf,
-        false if has_children && deep_enough => Parted::Cut,
-        false => Parted::Whole,
+    if seen[value.node() as usize] && (has_children || value.size() > SHORT) {
+        return Parted::Again;
     }
+    if has_children && deep_enough {
+        return Parted::Cut;
+    }
+    seen[value.node() as usize] = true;
+    if container { Parted::Whole } else { Parted::Leaf }
 }
 
 /// The next child of what is open; whatever has none left is left on the way.
