@@ -103,7 +103,7 @@ sill_split_t sill_split(const uint8_t *kinds, size_t kinds_len, uint32_t names, 
 /* ---- Values: reading one from the start of the input, and what its leaves are. */
 
 typedef struct {
-    uint32_t refusal; /* 1 to 15, with the place that document 01's table gives */
+    uint32_t refusal; /* 1 to 15 and 18, with the place that document 01's table gives */
     uint32_t place;
     uint32_t consumed; /* how many bytes the value took; what follows them is not looked at */
     uint32_t nodes;    /* how many of each record were used */
@@ -123,7 +123,7 @@ typedef struct {
 /* The input has at most 16,777,216 bytes (14). nodes holds five numbers a node: letter, place, size, first entry, count;
  * entries two an entry: node, next entry; slots one a slot: 0 while open, else node + 1. No entry is 4,294,967,295. Each
  * capacity counts as at most 1,048,576 records, nesting as at most 2,000. The root is node 0. A nesting of 2,000 needs
- * less than 1 MiB of stack. */
+ * less than 1.5 MiB of stack. */
 sill_read_t sill_read(const uint8_t *input, size_t input_len, uint32_t *nodes, size_t nodes_len, uint32_t *entries,
                       size_t entries_len, uint32_t *slots, size_t slots_len, uint32_t nesting);
 

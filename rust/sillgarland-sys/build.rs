@@ -1,14 +1,61 @@
-//! Links the proved static library, which `tools/staticlib` leaves in target/native of the repository.
+//! Links the proved static library of target/native. Where there is none yet, `tools/staticlib` proves the port and builds it,
+//! which takes a while; so this says on the terminal what is going on.
+use std::fs::OpenOptions;
+use std::io::{self, Write};
 use std::path::Path;
+use std::process::{Child, Command, ExitStatus};
+use std::time::{Duration, Instant};
+
+const PACE: Duration = Duration::from_secs(30);
 
 fn main() {
-    let native = Path::new(env!("CARGO_MANIFEST_DIR")).join("../../target/native");
+    let root = Path::new(env!("CARGO_MANIFEST_DIR")).join("../..");
+    let native = root.join("target/native");
     let archive = native.join("libsillgarland.a");
     println!("cargo::rerun-if-changed={}", archive.display());
     if !archive.is_file() {
-        println!("cargo::error=target/native/libsillgarland.a is missing: run tools/staticlib first");
-        return;
+        make_archive(&root);
     }
     println!("cargo::rustc-link-search=native={}", native.display());
     println!("cargo::rustc-link-lib=static=sillgarland");
+}
+
+fn make_archive(root: &Path) {
+    tell(
+        "target/native/libsillgarland.a is not there yet: tools/staticlib proves the port and builds it (some minutes)",
+    );
+    let made = Command::new("tools/staticlib").current_dir(root).spawn().and_then(wait);
+    match made {
+        Ok(status) if status.success() => tell("tools/staticlib is done"),
+        Ok(status) => complain(&format!("tools/staticlib failed ({status})")),
+        Err(error) => complain(&format!("tools/staticlib could not be run: {error}")),
+    }
+}
+
+fn wait(mut child: Child) -> io::Result<ExitStatus> {
+    let begun = Instant::now();
+    let mut next = PACE;
+    loop {
+        if let Some(status) = child.try_wait()? {
+            return Ok(status);
+        }
+        if begun.elapsed() >= next {
+            tell(&format!("tools/staticlib is still at work, for {} s now", begun.elapsed().as_secs()));
+            next += PACE;
+        }
+        std::thread::sleep(Duration::from_millis(200));
+    }
+}
+
+/// Cargo shows nothing of a build script before it ends, so this goes to the terminal itself, if there is one.
+fn tell(message: &str) {
+    if let Ok(mut terminal) = OpenOptions::new().write(true).open("/dev/tty") {
+        let _ = write!(terminal, "\r\x1b[Ksillgarland: {message}\r\n");
+    }
+}
+
+/// Cargo shows all that was said, by tools/staticlib too, once the script ends badly.
+fn complain(message: &str) {
+    eprintln!("{message}");
+    std::process::exit(1);
 }

@@ -137,7 +137,8 @@ impl Refused {
 /// Number, name, place and meaning, on one line.
 impl fmt::Display for Refused {
     fn fmt(&self, f: &mut fmt::Formatter) -> fmt::Result {
-        write!(f, "{} at {}: {}", self.refusal, self.place, self.refusal.meaning())
+        let before = if matches!(self.place, Place::Room(_)) { "with" } else { "at" };
+        write!(f, "{} {before} {}: {}", self.refusal, self.place, self.refusal.meaning())
     }
 }
 
@@ -166,6 +167,20 @@ mod tests {
         assert_eq!(Refusal::InvalidUtf8.number(), refusals::INVALID_UTF8);
         assert_eq!(Refusal::NoSlot.number(), refusals::NO_SLOT);
         assert_eq!(Refusal::NumberRange.number(), refusals::NUMBER_RANGE);
+    }
+
+    #[test]
+    fn one_line_for_people() {
+        let told = |refusal, place| Refused { refusal, place }.to_string();
+        assert_eq!(
+            told(Refusal::BadSize, Place::Byte(1)),
+            "6 BadSize at byte 1: a length is expected here, and this one is negative"
+        );
+        assert_eq!(
+            told(Refusal::BadTable, Place::Node(3)),
+            "16 BadTable at node 3: the stores hold no sound record of this node"
+        );
+        assert_eq!(told(Refusal::NoRoom, Place::Room(9)), "17 NoRoom with room for 9: what is written does not fit");
     }
 
     #[test]

@@ -51,7 +51,7 @@ impl Step {
     pub fn to_child(parent: Value, at: usize) -> Self {
         match parent.letter() {
             'c' => Step::Part(at),
-            '{' if at % 2 == 0 => Step::Key(at / 2),
+            '{' if at.is_multiple_of(2) => Step::Key(at / 2),
             '{' => Step::ValueOf(at / 2),
             _ => Step::Member(at),
         }

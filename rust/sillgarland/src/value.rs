@@ -190,8 +190,8 @@ impl<'a> Text<'a> {
             let (&lead, rest) = left.split_first()?;
             let (more, bits) = match lead {
                 0..=0x7F => (0, lead),
-                ..=0xDF => (1, lead & 0x1F),
-                ..=0xEF => (2, lead & 0x0F),
+                0x80..=0xDF => (1, lead & 0x1F),
+                0xE0..=0xEF => (2, lead & 0x0F),
                 _ => (3, lead & 0x07),
             };
             let (tail, rest) = rest.split_at(more);

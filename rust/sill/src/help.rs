@@ -1,0 +1,231 @@
+//! The pages of help. `--help` shows them as they are, `sill manual` as Markdown, which is docs/sill.md; and the options they
+//! list are the options there are.
+use std::fmt::Write;
+
+/// A command's page.
+pub struct Page {
+    pub name: &'static str,
+    /// What follows the command's name and options.
+    pub operands: &'static str,
+    /// How few and how many operands it takes.
+    pub takes: std::ops::RangeInclusive<usize>,
+    /// In half a line.
+    pub summary: &'static str,
+    /// Paragraphs.
+    pub text: &'static str,
+    pub options: &'static [Known],
+}
+
+/// An option.
+pub struct Known {
+    pub short: Option<char>,
+    pub long: &'static str,
+    /// The word that follows it, as help names it.
+    pub word: Option<&'static str>,
+    pub text: &'static str,
+}
+
+const HELP: Known = Known { short: Some('h'), long: "help", word: None, text: "show this page" };
+
+const INTRODUCTION: &str = "\
+sill reads golden files: marshalled Python values, a code object and the result expected of it, back to back (the old form),
+or single values. Every answer comes from the proved port: a damaged file is refused with a number, a name and a place, and a
+line table that is cut is called NOT WHOLE instead of naming the wrong row.";
+
+const EXIT_STATUS: &str = "\
+Exit status: 0 all is well; 1 a file is refused, not whole or different; 2 called wrongly, or a file that cannot be read or
+written (one line on standard error each; the other files are still done).";
+
+pub const CHECK: Page = Page {
+    name: "check",
+    operands: "PATH..",
+    takes: 1..=usize::MAX,
+    summary: "say of each golden file whether it is sound and its line tables are whole",
+    text: "\
+PATH is a file, or a folder: then every file in it and below is checked, but for names that begin with a dot; links to folders
+are not followed. One line a file, in order:
+
+  accepted   with how many values, code objects and instructions it holds;
+  refused    with number, name and place, and what is expected there. Places count bytes from the file's start. Bytes after
+             the last whole value are a refusal, with the place where they begin;
+  NOT WHOLE  with the first code object whose line table is cut or damaged, how many of its instructions have their line from
+             the table, how many there are, and the first (from 0) whose line is not, with the line that it would show.
+
+A line also says where local names are out of order (Local, then Cell, then Free): such code may not read back once written.
+That alone is no fault of a file. The last line has the totals; the exit status is 0 only if every file is accepted.
+
+Files are read in parallel. Each reader holds one file at a time, its stores and the locations of one code object.",
+    options: &[
+        Known { short: Some('q'), long: "quiet", word: None, text: "leave out the lines of accepted files" },
+        HELP,
+    ],
+};
+
+pub const SHOW: Page = Page {
+    name: "show",
+    operands: "FILE",
+    takes: 1..=1,
+    summary: "show the values of a file as a tree",
+    text: "\
+A line for each value: its place (the byte at which its contents begin), its type letter, and what it holds, indented below
+the value it belongs to. Long texts and bytes are cut in the tree, never in JSON. A value that is shared is shown where it first
+stands; later lines name that place.
+
+JSON is one list: an object for each value of the file, and one with the refusal where reading ended early. Each node has
+letter, place, size and type, and value or children; a float has its bits beside it, a text with surrogates its bytes; bytes are
+hexadecimal, and a whole number outside 64 bits is a string. A shared value is \"same_as\": the place where it is written out.",
+    options: &[
+        Known { short: Some('d'), long: "depth", word: Some("N"), text: "show no more than N levels below each value" },
+        Known { short: None, long: "json", word: None, text: "as JSON, for machines" },
+        HELP,
+    ],
+};
+
+pub const LINES: Page = Page {
+    name: "lines",
+    operands: "FILE",
+    takes: 1..=1,
+    summary: "show where each instruction of each code object comes from",
+    text: "\
+For each code object its name, file and first line, and whether its line table is whole. Then a line for each instruction: its
+number (from 0), its two bytes, and line:column to line:column (from 1). Instructions that no entry of the line table placed
+are marked '! not from the table': the line they show is the code object's first line, whatever their own was.",
+    options: &[HELP],
+};
+
+pub const WRITE: Page = Page {
+    name: "write",
+    operands: "FILE",
+    takes: 1..=1,
+    summary: "write the values of a file in their canonical form",
+    text: "\
+Integers in the fewest bytes, strings as u (in code objects z where ASCII and short), tuples as (, and neither references nor
+flags. What was written is read back and compared with FILE before OUT is put in place; where it is not the same value (local
+names out of order, or more than 16 MiB once sharing is written out), there is no OUT, and the reason is told. OUT is written
+under another name beside its place and then renamed, so it is there as a whole or not at all; an older OUT is replaced, but
+never FILE itself.",
+    options: &[Known { short: Some('o'), long: "output", word: Some("OUT"), text: "where to write; must be given" }, HELP],
+};
+
+pub const DIFF: Page = Page {
+    name: "diff",
+    operands: "A B",
+    takes: 2..=2,
+    summary: "say whether two files hold the same values",
+    text: "\
+The same means: the same numbers, float bits, bytes and strings, the same kinds and sequences of children, and code objects
+alike in all parts. How values are shared and which of several letters an integer, string or tuple has does not count. If they
+differ, the first difference is shown: the path that leads to it, and the place and value on both sides.",
+    options: &[HELP],
+};
+
+const PAGES: [&Page; 5] = [&CHECK, &SHOW, &LINES, &WRITE, &DIFF];
+
+impl Page {
+    /// The option that goes by this name, dashes included.
+    pub fn option(&self, name: &str) -> Option<&'static Known> {
+        self.options.iter().find(|known| known.names().any(|known| known == name))
+    }
+
+    /// What is wrong with so many operands.
+    pub fn complaint_about(&self, operands: usize) -> Option<String> {
+        let wrong = if operands < *self.takes.start() { "too few" } else { "too many" };
+        (!self.takes.contains(&operands)).then(|| format!("{wrong} names: wants {}", self.operands))
+    }
+
+    /// The page as `--help` shows it.
+    pub fn plain(&self) -> String {
+        format!("{}\n\n{}\n\n{}\n\n{}\n{EXIT_STATUS}", self.usage(), self.summary(), self.text, self.listed())
+    }
+
+    fn markdown(&self) -> String {
+        let mut page = format!("## sill {}\n\n```\n{}\n```\n\n{}\n", self.name, self.usage(), self.summary());
+        for paragraph in self.text.split("\n\n") {
+            let fence = if paragraph.starts_with(' ') { "```\n" } else { "" };
+            let closing = if paragraph.starts_with(' ') { "\n```" } else { "" };
+            let _ = writeln!(page, "\n{fence}{paragraph}{closing}");
+        }
+        let _ = write!(page, "\n```\n{}```\n", self.listed());
+        page
+    }
+
+    fn usage(&self) -> String {
+        let options = self.options.iter().filter(|known| known.long != "help");
+        let shown: String = options.map(|known| format!(" {}", known.in_usage())).collect();
+        format!("usage: sill {}{shown} {}", self.name, self.operands)
+    }
+
+    fn summary(&self) -> String {
+        let mut letters = self.summary.chars();
+        let first = letters.next().map(|letter| letter.to_ascii_uppercase());
+        first.into_iter().chain(letters).chain(['.']).collect()
+    }
+
+    fn listed(&self) -> String {
+        self.options.iter().map(|known| format!("  {:<20} {}\n", known.label(), known.text)).collect()
+    }
+}
+
+impl Known {
+    fn names(&self) -> impl Iterator<Item = String> {
+        self.short.map(|short| format!("-{short}")).into_iter().chain([format!("--{}", self.long)])
+    }
+
+    fn label(&self) -> String {
+        let names: Vec<String> = self.names().collect();
+        format!("{}{}", names.join(", "), self.word.map_or(String::new(), |word| format!(" {word}")))
+    }
+
+    fn in_usage(&self) -> String {
+        match (self.long, self.word) {
+            ("output", Some(word)) => format!("-o {word}"),
+            (long, Some(word)) => format!("[--{long} {word}]"),
+            (long, None) => format!("[--{long}]"),
+        }
+    }
+}
+
+/// What `sill --help` shows.
+pub fn overview() -> String {
+    let commands: String = PAGES.iter().map(|page| format!("  sill {:<6} {}\n", page.name, page.summary)).collect();
+    format!(
+        "{INTRODUCTION}\n\n{commands}  sill manual print all pages of help as Markdown\n\n\
+         sill COMMAND --help says more of each. sill --version shows the version.\n\n{EXIT_STATUS}"
+    )
+}
+
+/// docs/sill.md.
+pub fn manual() -> String {
+    let mut manual = format!(
+        "# sill\n\n{INTRODUCTION}\n\nThis page is what `sill manual` prints, from the same text as `--help`.\n\n{EXIT_STATUS}\n"
+    );
+    for page in PAGES {
+        let _ = write!(manual, "\n{}", page.markdown());
+    }
+    manual
+}
+
+#[cfg(test)]
+mod tests {
+    use super::*;
+
+    #[test]
+    fn lines_fit_a_page() {
+        for line in overview().lines().chain(manual().lines()) {
+            assert!(line.chars().count() <= 128, "{line}");
+        }
+    }
+
+    #[test]
+    fn usage_names_the_options() {
+        assert_eq!(SHOW.usage(), "usage: sill show [--depth N] [--json] FILE");
+        assert_eq!(WRITE.usage(), "usage: sill write -o OUT FILE");
+    }
+
+    #[test]
+    fn operands_are_counted() {
+        assert_eq!(CHECK.complaint_about(0).as_deref(), Some("too few names: wants PATH.."));
+        assert_eq!(CHECK.complaint_about(10_000), None);
+        assert_eq!(DIFF.complaint_about(3).as_deref(), Some("too many names: wants A B"));
+    }
+}

@@ -1,0 +1,44 @@
+//! The tree for people: place, letter, and what the value holds, indented.
+use super::walk::{Entered, Met, Parted, walk};
+use crate::text;
+use sillgarland::{NUMBERS, Value};
+use std::io::{self, Write};
+
+/// Shows a file's values, and says whether reading was refused.
+pub fn show(input: &[u8], depth: usize, out: &mut dyn Write) -> io::Result<bool> {
+    let mut values = 0;
+    let refused = super::each_value(input, |start, golden| {
+        values += 1;
+        writeln!(out, "value {values}, bytes {start} to {}", start + golden.consumed() - 1)?;
+        walk(golden, depth, |met| match met {
+            Met::Entered(entered) => show_line(&entered, start, out),
+            Met::Left { .. } => Ok(()),
+        })
+    })?;
+    if let Some(refused) = refused {
+        writeln!(out, "refused: {refused}")?;
+    }
+    Ok(refused.is_some())
+}
+
+fn show_line(entered: &Entered, start: usize, out: &mut dyn Write) -> io::Result<()> {
+    let Entered { value, depth, step, parted } = entered;
+    let place = start + value.place();
+    write!(out, "{place:>9}  {}  {:indent$}", value.letter(), "", indent = 2 * depth)?;
+    if let Some(step) = step {
+        write!(out, "{step}: ")?;
+    }
+    match parted {
+        Parted::Again => writeln!(out, "the same as at byte {place}: {}", text::holds(*value)),
+        Parted::Cut => writeln!(out, "{} …", holds(*value)),
+        Parted::Leaf | Parted::Whole => writeln!(out, "{}", holds(*value)),
+    }
+}
+
+/// What it holds; of a code object also its numbers.
+fn holds(value: Value) -> String {
+    let numbers = value.as_code().map(|code| {
+        NUMBERS.iter().zip(code.numbers()).map(|(name, number)| format!(", {name} {number}")).collect::<String>()
+    });
+    text::holds(value) + &numbers.unwrap_or_default()
+}

@@ -1,0 +1,407 @@
+//! The command as people call it: what it prints, where, and how it ends.
+use std::fs;
+use std::os::unix::fs::PermissionsExt;
+use std::path::{Path, PathBuf};
+use std::process::{Command, Output};
+
+fn root() -> PathBuf {
+    Path::new(env!("CARGO_MANIFEST_DIR")).join("../..")
+}
+
+fn sill(words: &[&str]) -> Output {
+    Command::new(env!("CARGO_BIN_EXE_sill")).args(words).current_dir(root()).output().unwrap()
+}
+
+/// Exit status, standard output and standard error.
+fn ended(words: &[&str]) -> (i32, String, String) {
+    let Output { status, stdout, stderr } = sill(words);
+    (status.code().unwrap(), String::from_utf8(stdout).unwrap(), String::from_utf8(stderr).unwrap())
+}
+
+/// A folder of a test's own, empty.
+fn folder(name: &str) -> PathBuf {
+    let folder = Path::new(env!("CARGO_TARGET_TMPDIR")).join(name);
+    let _ = fs::remove_dir_all(&folder);
+    fs::create_dir_all(&folder).unwrap();
+    folder
+}
+
+fn file(folder: &Path, name: &str, bytes: &[u8]) -> String {
+    let path = folder.join(name);
+    fs::write(&path, bytes).unwrap();
+    path.to_str().unwrap().to_string()
+}
+
+mod checking {
+    use super::*;
+
+    #[test]
+    fn the_sample_goldens_as_readme_shows_them() {
+        let shown = fs::read_to_string(root().join("tests/sill/check-goldens.txt")).unwrap();
+        let readme = fs::read_to_string(root().join("README.md")).unwrap();
+        assert!(readme.contains(&shown) || !readme.contains("check goldens"), "README.md shows another output");
+        assert_eq!(ended(&["check", "goldens"]), (1, shown, String::new()));
+    }
+
+    #[test]
+    fn whole_files_only_end_well() {
+        let (status, shown, complaints) = ended(&["check", "goldens/rates.golden", "goldens/deep.golden"]);
+        assert_eq!((status, complaints.as_str()), (0, ""));
+        assert!(shown.ends_with("\n2 files: 2 accepted, 0 not whole, 0 refused\n"), "{shown}");
+    }
+
+    #[test]
+    fn quiet_leaves_out_what_is_accepted() {
+        let (status, shown, _) = ended(&["check", "--quiet", "goldens"]);
+        assert_eq!((status, shown.lines().count()), (1, 3));
+        assert!(!shown.contains("accepted   "), "{shown}");
+    }
+
+    #[test]
+    fn one_bad_path_does_not_stop_the_others() {
+        let (status, shown, complaints) = ended(&["check", "nowhere", "goldens/rates.golden"]);
+        assert_eq!((status, complaints.as_str()), (2, "sill: nowhere: No such file or directory\n"));
+        assert!(shown.starts_with("accepted   goldens/rates.golden: "), "{shown}");
+    }
+
+    #[test]
+    fn a_file_without_permission_is_told() {
+        let folder = folder("permission");
+        let closed = file(&folder, "closed.golden", b"N");
+        file(&folder, "open.golden", b"N");
+        fs::set_permissions(&closed, fs::Permissions::from_mode(0o000)).unwrap();
+        if fs::read(&closed).is_ok() {
+            return; // whoever runs this may read everything
+        }
+        let (status, shown, complaints) = ended(&["check", folder.to_str().unwrap()]);
+        assert_eq!((status, complaints), (2, format!("sill: {closed}: Permission denied\n")));
+        assert!(shown.ends_with("2 files: 1 accepted, 0 not whole, 0 refused, 1 unreadable\n"), "{shown}");
+    }
+
+    #[test]
+    fn an_empty_file_and_an_empty_folder() {
+        let folder = folder("empty");
+        let path = folder.to_str().unwrap();
+        assert_eq!(ended(&["check", path]), (2, String::new(), format!("sill: {path}: no files in this folder\n")));
+        let empty = file(&folder, "empty.golden", b"");
+        let told = "1 EofObject at byte 0: a value is expected here, and the input ends";
+        let shown = format!("refused    {empty}: {told}\n1 file: 0 accepted, 0 not whole, 1 refused\n");
+        assert_eq!(ended(&["check", path]), (1, shown, String::new()));
+    }
+
+    #[test]
+    fn bytes_after_the_last_whole_value() {
+        let left = file(&folder("left"), "left.golden", b")\x01NT\n");
+        let (status, shown, _) = ended(&["check", &left]);
+        assert_eq!(status, 1);
+        assert!(shown.contains(": 3 UnknownType at byte 4: "), "{shown}");
+        assert!(shown.contains("; the last whole value ends at byte 4, with 1 byte after it\n"), "{shown}");
+    }
+
+    #[test]
+    fn sixteen_mebibytes_and_one_byte_more() {
+        let folder = folder("large");
+        let mut bytes = vec![0; 16 << 20];
+        bytes[..5].copy_from_slice(b"s\xFB\xFF\xFF\0");
+        let most = file(&folder, "most.golden", &bytes);
+        assert_eq!(ended(&["check", &most]).0, 0);
+        bytes.push(0);
+        let (status, shown, _) = ended(&["check", &file(&folder, "more.golden", &bytes)]);
+        assert_eq!(status, 1);
+        assert!(shown.contains(": 14 InputTooLong at byte 0: the input is longer than 16,777,216 bytes\n"), "{shown}");
+    }
+
+    #[test]
+    fn many_files_in_order_of_their_names() {
+        let folder = folder("many");
+        for at in 0..400 {
+            file(&folder, &format!("{at:03}.golden"), if at % 10 == 3 { b"?" } else { b"N" });
+        }
+        let (status, shown, _) = ended(&["check", folder.to_str().unwrap()]);
+        let lines: Vec<&str> = shown.lines().collect();
+        assert_eq!((status, lines.len(), lines[400]), (1, 401, "400 files: 360 accepted, 0 not whole, 40 refused"));
+        for (at, line) in lines[..400].iter().enumerate() {
+            assert!(line.contains(&format!("/{at:03}.golden: ")), "{line}");
+        }
+    }
+
+    #[test]
+    fn folders_below_and_links() {
+        let folder = folder("below");
+        fs::create_dir_all(folder.join("b/c")).unwrap();
+        file(&folder, "b/c/one.golden", b"N");
+        file(&folder, "b/.hidden", b"?");
+        std::os::unix::fs::symlink(&folder, folder.join("b/round")).unwrap();
+        std::os::unix::fs::symlink("c/one.golden", folder.join("b/two.golden")).unwrap();
+        let (status, shown, complaints) = ended(&["check", folder.to_str().unwrap()]);
+        assert_eq!((status, complaints.as_str()), (0, ""));
+        assert!(shown.ends_with("\n2 files: 2 accepted, 0 not whole, 0 refused\n"), "{shown}");
+        std::os::unix::fs::symlink("nowhere", folder.join("b/three.golden")).unwrap();
+        assert_eq!(ended(&["check", folder.to_str().unwrap()]).0, 2);
+    }
+}
+
+mod showing {
+    use super::*;
+
+    #[test]
+    fn a_tree_with_places() {
+        let path = file(&folder("tree"), "tree.golden", b")\x03\xA9\x01i\x05\0\0\0r\0\0\0\0z\x01a");
+        let shown = "value 1, bytes 0 to 16\n        1  )  tuple of 3\n        3  )    [0]: tuple of 1\n        \
+                     5  i      [0]: 5\n        3  )    [1]: the same as at byte 3: tuple of 1\n       \
+                     16  z    [2]: \"a\"\n";
+        assert_eq!(ended(&["show", &path]), (0, shown.to_string(), String::new()));
+        let shown = "value 1, bytes 0 to 16\n        1  )  tuple of 3 …\n";
+        assert_eq!(ended(&["show", "--depth", "0", &path]).1, shown);
+        let (_, shown, _) = ended(&["show", "--depth", "1", &path]);
+        assert_eq!(shown.matches("tuple of 1 …").count(), 2, "{shown}");
+    }
+
+    #[test]
+    fn json() {
+        let path = file(&folder("json"), "json.golden", b")\x02z\x03\"\n\xC3\0".get(..7).unwrap());
+        let (status, shown, _) = ended(&["show", "--json", &path]);
+        assert_eq!(status, 1);
+        assert!(shown.starts_with("[\n{\"refused\":{\"number\":9,\"name\":\"InvalidUtf8\",\"place\":4,"), "{shown}");
+        let path = file(&folder("json"), "json.golden", b")\x02z\x02\"\n{0");
+        let shown = "[\n{\"from\":0,\"to\":8,\"root\":{\"letter\":\")\",\"place\":1,\"size\":1,\"type\":\"tuple\",\
+                     \"children\":[{\"letter\":\"z\",\"step\":\"[0]\",\"place\":4,\"size\":2,\"type\":\"text\",\
+                     \"value\":\"\\\"\\u000a\"},{\"letter\":\"{\",\"step\":\"[1]\",\"place\":7,\"size\":0,\
+                     \"type\":\"dict\",\"children\":[]}]}}\n]\n";
+        assert_eq!(ended(&["show", "--json", &path]), (0, shown.to_string(), String::new()));
+        let path = file(&folder("json"), "json.golden", b"z\x06\xED\xA0\xB4\xED\xB4\xA0");
+        let (_, shown, _) = ended(&["show", "--json", &path]);
+        assert!(shown.contains("\"value\":\"\\ud834\\udd20\",\"bytes\":\"eda0b4edb4a0\""), "{shown}");
+    }
+
+    #[test]
+    fn every_sample_is_shown_in_both_ways() {
+        for entry in fs::read_dir(root().join("goldens")).unwrap() {
+            let path = entry.unwrap().path();
+            let status = if path.ends_with("damaged-text.golden") { 1 } else { 0 };
+            assert_eq!(ended(&["show", path.to_str().unwrap()]).0, status, "{path:?}");
+            assert_eq!(ended(&["show", "--json", path.to_str().unwrap()]).0, status, "{path:?}");
+        }
+    }
+
+    #[test]
+    fn lines_of_a_cut_table_are_marked() {
+        let (status, shown, _) = ended(&["lines", "goldens/cut-line-table.golden"]);
+        let lines: Vec<&str> = shown.lines().collect();
+        assert_eq!((status, lines.len()), (1, 46));
+        assert!(lines[0].ends_with("45 instructions, NOT WHOLE: the line table places 33 of them"), "{}", lines[0]);
+        assert_eq!(lines[33], "      32  5a 05  57:1 to 57:4");
+        assert_eq!(lines[34], "      33  65 05  1:1 to 1:1  ! not from the table");
+    }
+
+    #[test]
+    fn lines_of_a_whole_table_are_not() {
+        let (status, shown, _) = ended(&["lines", "goldens/rates.golden"]);
+        assert_eq!(status, 0);
+        assert!(shown.contains("      40  7a 0b  212:8 to 212:17\n"), "{shown}");
+        assert!(!shown.contains('!'), "{shown}");
+    }
+
+    #[test]
+    fn a_reader_who_leaves_is_no_fault_to_tell() {
+        let mut child = Command::new(env!("CARGO_BIN_EXE_sill"))
+            .args(["show", "goldens/deep.golden"])
+            .current_dir(root())
+            .stdout(std::process::Stdio::piped())
+            .stderr(std::process::Stdio::piped())
+            .spawn()
+            .unwrap();
+        drop(child.stdout.take());
+        assert_eq!(child.wait_with_output().unwrap().stderr, b"");
+    }
+}
+
+mod comparing {
+    use super::*;
+
+    #[test]
+    fn the_same_value_in_other_letters() {
+        let folder = folder("same");
+        let one = file(&folder, "one.golden", b")\x02\xE9\x05\0\0\0r\0\0\0\0N");
+        let other = file(&folder, "other.golden", b"(\x02\0\0\0i\x05\0\0\0i\x05\0\0\0N");
+        assert_eq!(
+            ended(&["diff", &one, &other]),
+            (0, format!("the same: {one} and {other}, 2 values\n"), String::new())
+        );
+    }
+
+    #[test]
+    fn the_first_difference_by_path_and_place() {
+        let folder = folder("different");
+        let one = file(&folder, "one.golden", b"N)\x02T)\x01z\x01a");
+        let other = file(&folder, "other.golden", b"N)\x02T)\x01u\x01\0\0\0b");
+        let shown = format!(
+            "different in value 2, at [1][0]\n  {one} at byte 8: \"a\"\n  {other} at byte 11: \"b\"\n  \
+             their contents differ from their byte 0 on\n"
+        );
+        assert_eq!(ended(&["diff", &one, &other]), (1, shown, String::new()));
+    }
+
+    #[test]
+    fn one_file_goes_on() {
+        let folder = folder("longer");
+        let (one, other) = (file(&folder, "one.golden", b"N"), file(&folder, "other.golden", b"NN"));
+        let shown = format!("different: alike up to value 1, and {other} goes on at byte 1\n");
+        assert_eq!(ended(&["diff", &one, &other]), (1, shown, String::new()));
+    }
+
+    #[test]
+    fn a_cut_line_table_is_a_difference() {
+        let (status, shown, _) = ended(&["diff", "goldens/rates.golden", "goldens/cut-line-table.golden"]);
+        assert_eq!(status, 1);
+        assert!(shown.starts_with("different in value 1, at .line_table\n"), "{shown}");
+    }
+
+    #[test]
+    fn refused_files_are_told() {
+        let folder = folder("refused");
+        let (one, other) = (file(&folder, "one.golden", b""), file(&folder, "other.golden", b"0"));
+        let (status, shown, _) = ended(&["diff", &one, &other]);
+        assert_eq!((status, shown.lines().count()), (1, 2));
+        assert_eq!(ended(&["diff", &one, "nowhere"]).0, 2);
+    }
+}
+
+mod calling {
+    use super::*;
+
+    #[test]
+    fn docs_are_what_the_command_prints() {
+        let page = fs::read_to_string(root().join("docs/sill.md")).unwrap();
+        assert_eq!(ended(&["manual"]), (0, page, String::new()));
+    }
+
+    #[test]
+    fn every_command_has_help() {
+        for command in ["check", "show", "lines", "write", "diff"] {
+            let (status, shown, complaints) = ended(&[command, "--help"]);
+            assert_eq!((status, complaints.as_str()), (0, ""));
+            assert!(shown.starts_with(&format!("usage: sill {command} ")), "{shown}");
+        }
+        let (status, shown, _) = ended(&["--help"]);
+        assert_eq!(status, 0);
+        assert!(shown.contains("\n  sill check "), "{shown}");
+        assert_eq!(ended(&["--version"]).1, format!("sill {}\n", env!("CARGO_PKG_VERSION")));
+    }
+
+    #[test]
+    fn called_wrongly() {
+        let complaint = |words: &[&str]| {
+            let (status, shown, complaints) = ended(words);
+            assert_eq!((status, shown.as_str()), (2, ""));
+            complaints
+        };
+        assert_eq!(complaint(&[]), "sill: a command is wanted; sill --help says how to call it\n");
+        assert_eq!(complaint(&["chek"]), "sill: there is no command 'chek'; sill --help says how to call it\n");
+        assert_eq!(complaint(&["check"]), "sill: too few names: wants PATH..; sill check --help says how to call it\n");
+        assert_eq!(complaint(&["show", "-x"]), "sill: unknown option '-x'; sill show --help says how to call it\n");
+        assert_eq!(
+            complaint(&["show", "--depth", "deep", "goldens/rates.golden"]),
+            "sill: show: --depth wants a whole number; sill show --help says how to call it\n"
+        );
+        assert_eq!(complaint(&["show", "goldens"]), "sill: goldens: Is a directory\n");
+    }
+}
+
+#[cfg(not(feature = "write"))]
+mod writing {
+    use super::*;
+
+    #[test]
+    fn not_in_this_build() {
+        let told = "sill: write: not available in this build\n".to_string();
+        assert_eq!(ended(&["write", "goldens/rates.golden", "-o", "nowhere/out"]), (2, String::new(), told));
+    }
+}
+
+#[cfg(feature = "write")]
+mod writing {
+    use super::*;
+
+    #[test]
+    fn the_canonical_form_holds_the_same_value() {
+        let folder = folder("written");
+        for name in ["rates", "fees", "result", "shared", "deep", "cut-line-table"] {
+            let (from, to) = (format!("goldens/{name}.golden"), folder.join(name).to_str().unwrap().to_string());
+            assert_eq!(ended(&["write", &from, "-o", &to]).0, 0, "{name}");
+            assert_eq!(ended(&["diff", &from, &to]).0, 0, "{name}");
+            let again = format!("{to}.again");
+            assert_eq!(ended(&["write", "-o", &again, &to]).0, 0, "{name}");
+            assert_eq!(fs::read(&to).unwrap(), fs::read(&again).unwrap());
+        }
+        assert_eq!(fs::read_dir(&folder).unwrap().count(), 12);
+    }
+
+    #[test]
+    fn the_file_that_is_read_is_never_replaced() {
+        let folder = folder("itself");
+        let path = file(&folder, "one.golden", b")\x01N");
+        let link = folder.join("link.golden");
+        fs::hard_link(&path, &link).unwrap();
+        for target in [path.as_str(), link.to_str().unwrap()] {
+            let (status, shown, complaints) = ended(&["write", &path, "-o", target]);
+            assert_eq!((status, shown.as_str()), (2, ""));
+            assert!(complaints.contains("is the file that is read"), "{complaints}");
+        }
+        assert_eq!(fs::read(&path).unwrap(), b")\x01N");
+    }
+
+    #[test]
+    fn an_older_file_is_replaced_and_a_folder_is_not() {
+        let folder = folder("older");
+        let path = file(&folder, "one.golden", b")\x01N");
+        let older = file(&folder, "older", b"older");
+        let shown = format!("written  {older}: 6 bytes (was 3)\n");
+        assert_eq!(ended(&["write", &path, "-o", &older]), (0, shown, String::new()));
+        assert_eq!(fs::read(&older).unwrap(), b"(\x01\0\0\0N");
+        let told = format!("sill: {}: is there, and is no file\n", folder.to_str().unwrap());
+        assert_eq!(ended(&["write", &path, "-o", folder.to_str().unwrap()]), (2, String::new(), told));
+    }
+
+    #[test]
+    fn what_cannot_be_read_is_not_written() {
+        let folder = folder("unwritten");
+        let to = folder.join("out").to_str().unwrap().to_string();
+        let (status, shown, _) = ended(&["write", "goldens/damaged-text.golden", "-o", &to]);
+        assert_eq!(status, 1);
+        assert!(shown.ends_with("; nothing is written\n"), "{shown}");
+        assert_eq!(ended(&["write", "nowhere", "-o", &to]).0, 2);
+        assert_eq!(ended(&["write", "goldens/rates.golden"]).0, 2);
+        assert_eq!(fs::read_dir(&folder).unwrap().count(), 0);
+    }
+
+    /// A Cell that has a Local's name is not written, and then there are more kinds than names.
+    #[test]
+    fn names_out_of_order_may_not_read_back() {
+        let folder = folder("order");
+        let code = b"c\0\0\0\0\0\0\0\0\0\0\0\0\0\0\0\0\0\0\0\0s\0\0\0\0)\0)\0)\x02z\x01az\x01as\x02\0\0\0\x20\x40\
+                     z\0z\0z\x01f\x01\0\0\0s\0\0\0\0s\0\0\0\0";
+        let path = file(&folder, "order.golden", code);
+        let (status, shown, _) = ended(&["check", &path]);
+        assert_eq!(status, 0);
+        assert!(shown.contains("; code object f: name order is not kept from local name 1 (a) on\n"), "{shown}");
+        let (status, shown, _) = ended(&["write", &path, "-o", folder.join("out").to_str().unwrap()]);
+        assert_eq!(status, 1);
+        assert!(shown.contains("the local names of code object f are out of order"), "{shown}");
+        assert_eq!(fs::read_dir(&folder).unwrap().count(), 1);
+    }
+
+    /// A limit on the size of files stands in for a full disk: writing fails half way.
+    #[test]
+    fn a_full_disk_loses_nothing() {
+        let folder = folder("full");
+        let older = file(&folder, "older", b"older");
+        let call = format!("trap '' XFSZ; ulimit -f 0; exec \"$0\" write goldens/rates.golden -o '{older}'");
+        let output =
+            Command::new("sh").args(["-c", &call, env!("CARGO_BIN_EXE_sill")]).current_dir(root()).output().unwrap();
+        assert_eq!(output.status.code(), Some(2));
+        assert_eq!(String::from_utf8(output.stderr).unwrap(), format!("sill: {older}: File too large\n"));
+        assert_eq!(fs::read(&older).unwrap(), b"older");
+        assert_eq!(fs::read_dir(&folder).unwrap().count(), 1);
+    }
+}

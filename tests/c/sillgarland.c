@@ -1,0 +1,220 @@
+/* The header and the archive as a C or C++ program meets them: document 01's sheets, a line table, and the deepest nesting on a
+ * small stack. Compiled as C11 and as C++17 by tools/c-test; the last line says how many tests passed. */
+#include "sillgarland.h"
+
+#include <pthread.h>
+#include <stdio.h>
+#include <string.h>
+
+#define LENGTH(array) (sizeof(array) / sizeof((array)[0]))
+#define NONE UINT32_MAX
+
+static int passed, failed;
+
+static void expect(int held, const char *what)
+{
+    if (held) {
+        passed++;
+    } else {
+        failed++;
+        printf("failed: %s\n", what);
+    }
+}
+
+static int all_zero(const uint32_t *store, size_t length)
+{
+    for (size_t at = 0; at < length; at++) {
+        if (store[at] != 0) {
+            return 0;
+        }
+    }
+    return 1;
+}
+
+/* ---- varints */
+
+static void test_varints(void)
+{
+    uint8_t out[4] = {9, 9, 9, 9};
+    sill_written_t written = sill_write_varint(out, LENGTH(out), 64);
+    expect(written.refusal == 0 && written.written == 2, "64 takes two bytes");
+    expect(memcmp(out, "\x40\x01\0\0", 4) == 0, "64 is 40 01 little-endian, and zeros follow");
+
+    written = sill_write_varint_with_start(out, LENGTH(out), 64);
+    expect(memcmp(out, "\xC1\0\0\0", 4) == 0, "64 is C1 00 big-endian with the marker");
+    sill_found_t found = sill_read_varint_with_start(out, written.written, 0);
+    expect(found.found && found.value == 64 && found.whole && found.next == 2, "and reads back");
+
+    written = sill_write_varint(NULL, 0, 1);
+    expect(written.refusal == 17 && written.place == 0, "no room in an empty slice");
+}
+
+/* ---- values */
+
+static sill_read_t read_with(const void *input, size_t length, uint32_t nodes[15], uint32_t nesting)
+{
+    uint32_t entries[4], slots[1];
+    return sill_read((const uint8_t *)input, length, nodes, 15, entries, LENGTH(entries), slots, LENGTH(slots), nesting);
+}
+
+static void expect_refused(const char *input, size_t length, uint32_t nesting, uint32_t refusal, uint32_t place)
+{
+    uint32_t nodes[15];
+    memset(nodes, 7, sizeof nodes);
+    sill_read_t read = read_with(input, length, nodes, nesting);
+    expect(read.refusal == refusal && read.place == place, "refused with its number and place");
+    expect(read.consumed == 0 && read.nodes == 0 && all_zero(nodes, 15), "and nothing is left behind");
+}
+
+/* P1 to P12 of document 01. */
+static void test_sheets(void)
+{
+    uint32_t nodes[15], entries[4], slots[1];
+    sill_read_t read = read_with("N", 1, nodes, 2000);
+    expect(read.refusal == 0 && read.consumed == 1 && read.nodes == 1, "P1");
+
+    read = read_with(")\x02i\x01\0\0\0T", 8, nodes, 2000);
+    expect(read.refusal == 0 && read.consumed == 8 && read.nodes == 3 && read.entries == 2, "P4");
+    expect(nodes[0] == ')' && nodes[4] == 2 && nodes[5] == 'i' && nodes[6] == 3 && nodes[7] == 4, "P4's nodes");
+
+    read = sill_read((const uint8_t *)")\x02\xE9\x05\0\0\0r\0\0\0\0", 12, nodes, 15, entries, 4, slots, 1, 2000);
+    expect(read.refusal == 0 && read.nodes == 2 && read.slots == 1, "P6");
+    expect(entries[0] == 1 && entries[1] == 1 && entries[2] == 1 && entries[3] == NONE, "P6: both entries name node 1");
+
+    read = read_with("{\xB0", 2, nodes, 2000);
+    expect(read.refusal == 0 && read.consumed == 2 && read.slots == 0, "P7");
+
+    expect_refused("", 0, 2000, 1, 0);
+    expect_refused("0", 1, 2000, 4, 0);
+    expect_refused("\xA9\x01r\0\0\0\0", 7, 2000, 5, 3);
+    expect_refused("l\x01\0\0\0\0\x80", 7, 2000, 8, 5);
+    expect_refused("(\xFF\xFF\xFF\xFF", 5, 2000, 6, 1);
+    expect_refused(")\x01N", 3, 1, 10, 2);
+    expect_refused("{NN0", 4, 1, 10, 1);
+    expect_refused("c", 1, 1, 10, 1);
+}
+
+static void test_leaves(void)
+{
+    static const uint8_t input[] = ")\x02i\xFE\xFF\xFF\xFFT";
+    uint32_t nodes[15];
+    sill_read_t read = read_with(input, 8, nodes, 2000);
+    sill_leaf_t leaf = sill_leaf(input, 8, nodes, LENGTH(nodes), read.nodes, 1);
+    expect(leaf.refusal == 0 && leaf.kind == 5 && (int64_t)leaf.first == -2 && leaf.pad == 0, "a whole number");
+    leaf = sill_leaf(input, 8, nodes, LENGTH(nodes), read.nodes, 2);
+    expect(leaf.kind == 2 && leaf.first == 1 && leaf.second == 0, "a truth");
+    leaf = sill_leaf(input, 8, nodes, LENGTH(nodes), read.nodes, 0);
+    expect(leaf.refusal == 0 && leaf.kind == 0, "a tuple is not a leaf");
+    leaf = sill_leaf(input, 8, nodes, LENGTH(nodes), read.nodes, 3);
+    expect(leaf.refusal == 16 && leaf.place == 3, "a number beyond the used ones");
+}
+
+/* ---- line tables */
+
+static void test_lines(void)
+{
+    static const uint8_t input[] = "s\x02\0\0\0\xE9\x02";
+    uint32_t nodes[5], records[13], flat[12];
+    sill_location_t locations[3];
+    sill_read_t read = sill_read(input, 7, nodes, 5, NULL, 0, NULL, 0, 1);
+    sill_located_t located = sill_locate_node(input, 7, nodes, 5, read.nodes, 0, 10, 3, records, LENGTH(records));
+    expect(located.refusal == 0 && located.from_entries == 2 && located.whole == 0, "two of three, and not whole");
+    expect(records[0] == 11 && records[4] == 11 && records[8] == 10 && records[12] == 0, "11, 11 and then the first line");
+
+    located = sill_locate(input + 5, 2, 10, 2, records, LENGTH(records));
+    expect(located.refusal == 0 && located.whole == 1, "whole for two instructions");
+
+    located = sill_locations(input + 5, 2, 10, 3, flat, LENGTH(flat), locations, LENGTH(locations));
+    expect(located.refusal == 0 && locations[1].line == 11 && locations[2].line == 10, "the same as structs");
+
+    located = sill_locate(input + 5, 2, 10, 4, records, LENGTH(records));
+    expect(located.refusal == 17 && located.place == 3 && all_zero(records, LENGTH(records)), "no room for four");
+
+    located = sill_locate_node(input, 7, nodes, 5, read.nodes, 1, 10, 3, records, LENGTH(records));
+    expect(located.refusal == 16 && located.place == 1, "no such node");
+}
+
+/* ---- local names */
+
+static void test_split(void)
+{
+    static const uint8_t kinds[] = {0x60, 0x20, 0x80};
+    uint32_t locals[3], cells[3], frees[3], map[3], cell_args[3];
+    sill_split_t split = sill_split(kinds, 3, 3, 1, 0, 0, locals, 3, cells, 3, frees, 3, map, 3, cell_args, 3);
+    expect(split.refusal == 0 && split.locals == 2 && split.cells == 1 && split.frees == 1, "two, one and one");
+    expect(split.present && cell_args[0] == 0, "the cell is the first argument");
+    expect(map[0] == 0 && map[1] == NONE && map[2] == 1, "cell 0, neither, and the free name after the cells");
+}
+
+/* ---- the deepest nesting: tuples and code objects' constants, as deep as allowed, on the stack that the header names */
+
+enum { DEEPEST = 2000, MOST_BYTES = 1 << 20, MOST_NODES = 1 << 14, STACK = 3 << 19 };
+
+static uint8_t deep_input[MOST_BYTES];
+static uint32_t deep_nodes[5 * MOST_NODES], deep_entries[2 * MOST_NODES], deep_slots[1];
+
+static size_t deep_tuples(void)
+{
+    for (size_t level = 0; level + 1 < DEEPEST; level++) {
+        memcpy(deep_input + 2 * level, ")\x01", 2);
+    }
+    deep_input[2 * (DEEPEST - 1)] = 'N';
+    return 2 * (DEEPEST - 1) + 1;
+}
+
+/* A code object takes two levels and its tuple of constants one: 666 of them, and the innermost tuple is empty. */
+static size_t deep_code(void)
+{
+    static const char front[] = "c\0\0\0\0\0\0\0\0\0\0\0\0\0\0\0\0\0\0\0\0s\0\0\0\0)\x01";
+    static const char back[] = ")\0)\0s\0\0\0\0z\0z\0z\0\x01\0\0\0s\0\0\0\0s\0\0\0\0";
+    size_t length = 0;
+    for (int level = 0; level < 666; level++) {
+        memcpy(deep_input + length, front, sizeof front - 1);
+        length += sizeof front - 1;
+    }
+    deep_input[length - 1] = 0;
+    for (int level = 0; level < 666; level++) {
+        memcpy(deep_input + length, back, sizeof back - 1);
+        length += sizeof back - 1;
+    }
+    return length;
+}
+
+static sill_read_t read_deep(size_t length, uint32_t nesting)
+{
+    return sill_read(deep_input, length, deep_nodes, LENGTH(deep_nodes), deep_entries, LENGTH(deep_entries), deep_slots,
+                     LENGTH(deep_slots), nesting);
+}
+
+static void *test_nesting(void *unused)
+{
+    size_t length = deep_tuples();
+    expect(read_deep(length, DEEPEST).consumed == length, "tuples 2,000 deep");
+    expect(read_deep(length, DEEPEST - 1).refusal == 10, "and no deeper than allowed");
+    length = deep_code();
+    expect(read_deep(length, DEEPEST).consumed == length, "code objects 2,000 deep");
+    return unused;
+}
+
+static void test_small_stack(void)
+{
+    pthread_t thread;
+    pthread_attr_t attributes;
+    pthread_attr_init(&attributes);
+    pthread_attr_setstacksize(&attributes, STACK);
+    int begun = pthread_create(&thread, &attributes, test_nesting, NULL) == 0;
+    expect(begun && pthread_join(thread, NULL) == 0, "a thread of 1.5 MiB");
+    pthread_attr_destroy(&attributes);
+}
+
+int main(void)
+{
+    test_varints();
+    test_sheets();
+    test_leaves();
+    test_lines();
+    test_split();
+    test_small_stack();
+    printf("%d passed, %d failed\n", passed, failed);
+    return failed > 0;
+}
