@@ -1,1 +1,17 @@
+pub mod Fitting
+pub mod Exactness
+pub mod Unrolling
+pub mod Extension
+pub mod Appended
+pub mod Following
+pub mod Links
+pub mod Standing
+pub mod Fielding
+pub mod Keeping
+pub mod Bounded
+pub mod Contents
+pub mod ReadBack
+pub mod Root
 pub mod Sheets
+pub mod Substance
+pub mod Vectors

@@ -48,16 +48,16 @@ answered (stops number place) = stops number place
 
 -- "every store lent for writing is all zero. On acceptance, all past what was written is zero."
 abbrev pub nodesHeld : ℕ → Answer (ℕ × State) → List ℕ
-nodesHeld length (gives r) = padded length (nodeCells (r .1 .nodes))
-nodesHeld length (stops number place) = zeros length
+nodesHeld cells (gives r) = padded cells (nodeCells (r .1 .nodes))
+nodesHeld cells (stops number place) = zeros cells
 
 abbrev pub entriesHeld : ℕ → Answer (ℕ × State) → List ℕ
-entriesHeld length (gives r) = padded length (entryCells (r .1 .entries))
-entriesHeld length (stops number place) = zeros length
+entriesHeld cells (gives r) = padded cells (entryCells (r .1 .entries))
+entriesHeld cells (stops number place) = zeros cells
 
 abbrev pub slotsHeld : ℕ → Answer (ℕ × State) → List ℕ
-slotsHeld length (gives r) = padded length (r .1 .slots)
-slotsHeld length (stops number place) = zeros length
+slotsHeld cells (gives r) = padded cells (r .1 .slots)
+slotsHeld cells (stops number place) = zeros cells
 
 -- answer and contents as one value
 pub record Outcome : Type 0 where

@@ -1,7 +1,7 @@
 -- The fields that stand behind a header and are read without looking at any child: each with its refusal and place.
 -- 01, 'Reading a value': "All numbers are little-endian." marshal.c: r_short, r_long, r_long64, r_float_bin, r_PyLong, r_string.
 use Prim.Native.Nat.{ℕ, zero, suc, _+_, _-_, _*_, _%_}
-use mathlib.Core.Bool.{Bool, true, false, cond}
+use mathlib.Core.Bool.{Bool, cond}
 use mathlib.Core.List.{List}
 use lib.Dec.{leb, ltb, eqb}
 use lib.ListN.{length, getD}

@@ -9,7 +9,7 @@ use Rattle.refusals.specs.Numbers.{inputTooLong, badTable}
 use Rattle.refusals.specs.Limits.{mostBytes}
 use Rattle.grammar.specs.Reading.{Answer, gives, stops}
 use Rattle.grammar.specs.Fields.{le16, le32, le64, notNegative, digitCount}
-use Rattle.grammar.specs.State.{Node, nodeAt}
+use Rattle.grammar.specs.State.{nodeAt}
 use Rattle.grammar.specs.Record.{soundAt}
 
 -- A whole number is given by its 64 bits, two's complement, and a float by its stored bits: "Floats carry the stored bits."

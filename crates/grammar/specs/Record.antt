@@ -12,7 +12,7 @@ use Rattle.grammar.specs.Reading.{Answer, gives, stops}
 use Rattle.grammar.specs.Letters as letter
 use Rattle.grammar.specs.Letters.{Sort, Class, refers, keeps, contains, codes, refuses, classOf, isBytes, isTuple, isString}
 use Rattle.grammar.specs.Fields.{Fields, Children, items, pairs, parts, fields, contents, codeNumbers, sumAt, codeFault}
-use Rattle.grammar.specs.State.{Node, Entry, blank, nodeAt, entryAt, nodeCapacity, entryCapacity}
+use Rattle.grammar.specs.State.{Node, nodeAt, entryAt, nodeCapacity, entryCapacity}
 use Rattle.grammar.specs.Steps.{Rule, whatever, asBytes, asTuple, asNames, asString, rules, codeParts, codePart, localsPart, kindsPart}
 
 -- One node's own numbers.

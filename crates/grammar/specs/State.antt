@@ -1,10 +1,9 @@
 -- What a reading has kept: nodes, entries and slots, and the numbers that the three stores hold for them.
 -- 01, 'What is lent and what is kept'.
-use Prim.Native.Nat.{ℕ, zero, suc, _+_, _*_, _/_, min}
-use mathlib.Core.Option.{Option, none, some}
-use mathlib.Core.List.{List, [], _∷_, _++_}
-use lib.ListN.{length, getD, set}
-use Rattle.refusals.specs.Limits.{mostRecords, nothing}
+use Prim.Native.Nat.{ℕ, _+_, _*_, _/_, min}
+use mathlib.Core.List.{List, [], _∷_}
+use lib.ListN.{getD}
+use Rattle.refusals.specs.Limits.{mostRecords}
 
 -- "Node: five numbers: type letter without the flag, place, size, first entry, count. Capacity is length / 5."
 pub record Node : Type 0 where
@@ -70,12 +69,12 @@ nodeAt store n =
 abbrev pub entryAt : List ℕ → ℕ → Entry
 entryAt store e = record { child = getD store (e * entryWidth) 0; next = getD store (e * entryWidth + 1) 0 }
 
--- "Each capacity counts as at most 1,048,576".
+-- How many records a store of so many numbers can hold: "Each capacity counts as at most 1,048,576".
 abbrev pub nodeCapacity : ℕ → ℕ
-nodeCapacity length = min (length / nodeWidth) mostRecords
+nodeCapacity cells = min (cells / nodeWidth) mostRecords
 
 abbrev pub entryCapacity : ℕ → ℕ
-entryCapacity length = min (length / entryWidth) mostRecords
+entryCapacity cells = min (cells / entryWidth) mostRecords
 
 abbrev pub slotCapacity : ℕ → ℕ
-slotCapacity length = min length mostRecords
+slotCapacity cells = min cells mostRecords

@@ -1,14 +1,14 @@
 -- The plain reading of a value, step by step. 01, 'Reading a value': "A reader of values and a reader of containers call one another".
 -- marshal.c: r_object. A reading is given the input, the depth above it (0 for the whole value) and the state so far.
 use Prim.Native.Nat.{ℕ, zero, suc, _+_, _-_}
-use mathlib.Core.Bool.{Bool, true, false, cond, _&&_}
+use mathlib.Core.Bool.{Bool, true, cond, _&&_}
 use mathlib.Core.Option.{Option, none, some}
 use mathlib.Core.List.{List, [], _∷_, _++_}
 use lib.ListN.{length, getD, set}
 use lib.Dec.{ltb, eqb}
 use Rattle.refusals.specs.Numbers.{accepted, eofObject, invalidRef, badType}
 use Rattle.refusals.specs.Limits.{nothing}
-use Rattle.grammar.specs.Reading.{Kind, level, node, entry, slot, Reading, done, refused, claim, bind, reads, Answer, gives, stops}
+use Rattle.grammar.specs.Reading.{level, node, entry, slot, Reading, done, refused, claim, bind, reads, Answer, gives, stops}
 use Rattle.grammar.specs.Letters.{Class, refers, keeps, contains, codes, refuses, flagOf, letterOf, classOf, isBytes, isTuple, isString, endsDict}
 use Rattle.grammar.specs.Fields.{Fields, Children, items, pairs, parts, field, fields, contained, codeFields, le32, sumAt, codeFault}
 use Rattle.grammar.specs.State.{Node, Entry, State, blank, unlinked, movedTo}

@@ -1,0 +1,26 @@
+-- The structs that the varint exports return: 01's numbers of each answer, as `varint` defines them.
+use Prim.Native.Nat.{ℕ}
+use mathlib.Core.List.{List}
+use Rattle.varint.specs.declared.Written.{Written}
+use Rattle.varint.specs.declared.Found.{Found}
+use Rattle.varint.specs.Answers.{writtenNumbers, foundNumbers}
+use Rattle.sillgarland.specs.declared.varints.SillWritten.{SillWritten}
+use Rattle.sillgarland.specs.declared.varints.SillFound.{SillFound}
+
+abbrev pub writtenStruct : Written → SillWritten
+writtenStruct answer =
+    record { refusal = writtenNumbers answer .refusal; place = writtenNumbers answer .place; written = writtenNumbers answer .written }
+
+-- a writer's answer as a struct, and what it leaves in the store
+abbrev pub writtenAs : Written × List ℕ → SillWritten × List ℕ
+writtenAs outcome = (writtenStruct (outcome .0), outcome .1)
+
+abbrev pub foundStruct : ℕ → Found → SillFound
+foundStruct at answer =
+    record {
+      found = foundNumbers at answer .found;
+      value = foundNumbers at answer .value;
+      whole = foundNumbers at answer .whole;
+      pad = 0;
+      next = foundNumbers at answer .next;
+    }
