@@ -359,6 +359,17 @@ fn read_numbers(s: &[u8], at: u32) -> Behind
     Behind::Span(at, 20, Kids::Parts)
 }
 
+// The argument sum of the code whose numbers stand at a place.
+pub fn argument_sum(s: &[u8], place: usize) -> u64
+    requires { ⌜ place + 20 ≤ length (now s) ⌝ }
+    ensures { λ r. ⌜ r ≡ Fields.sumAt (now (s .entry)) place ⌝ }
+{
+    let arguments = le32(s, place) as u64;
+    let keyword_only = le32(s, place + 8) as u64;
+    let flags = le32(s, place + 16) as u64;
+    arguments + keyword_only + flags / 4 % 2 + flags / 8 % 2
+}
+
 // The fields behind the header of a node, from the byte after it on.
 pub fn read_fields(s: &[u8], class: u32, at: u32) -> Behind
     requires { ⌜ (class < keptClasses) × (at ≤ length (now s)) × (length (now s) ≤ mostBytes) ⌝ }

@@ -1,15 +1,16 @@
--- Going through the bytes sequence by sequence: what is left is well-formed just where the whole is.
--- Assumes nothing.
-use mathlib.Core.Path.{_≡_, refl, sym, ap, _∙_}
-use mathlib.Core.Bool.{Bool, true, false, cond}
+-- The two loops over sequences. Going from one to the next, what is left is well-formed just where the whole is;
+-- going over blocks of ASCII, all bytes passed are ASCII. Assumes nothing.
+use mathlib.Core.Path.{_≡_, refl, sym, _∙_}
+use mathlib.Core.Bool.{true, false}
 use mathlib.Core.List.{List}
-use Prim.Native.Nat.{ℕ, _+_, _≤_, _<_}
+use Prim.Native.Nat.{ℕ, _+_, _-_, _≤_, _<_}
 use native.Mathlib.Omega.{arith}
-use lib.Dec.{eqb}
-use lib.ListN.{length, drop, drop-of-length-le}
+use lib.ListN.{length, getD, take, drop, length-take, length-drop, drop-of-length-le}
+use lib.Seq.{getD-take, getD-drop}
 use borrow.Author.Tests.{eq-eqb, ne-eqb}
 use Rattle.wtf8.specs.Forms.{allows, point, wellFormed}
-use Rattle.wtf8.specs.Sequence.{Taken}
+use Rattle.wtf8.specs.Sequence.{Taken, Reached}
+use Rattle.wtf8.proofs.Reached.{lows, joined}
 
 pub record Going (bytes : List ℕ) (at : ℕ) : Type 0 where
   pub inside : at ≤ length bytes
@@ -32,3 +33,27 @@ module _ {bytes : List ℕ} where
   pub ended : {at : ℕ} → Going bytes at → length bytes ≤ at → true ≡ wellFormed bytes
   unfolding allows
   ended {at} g h = rw (drop-of-length-le bytes {i = at} h) at (g .comes)
+
+-- All bytes from `at` to `end` are ASCII.
+pub record Low (bytes : List ℕ) (at end : ℕ) : Type 0 where
+  pub from : at ≤ end
+  pub inside : end ≤ length bytes
+  pub all : Reached bytes at (end - at) point
+
+pub low-none : {bytes : List ℕ} {at : ℕ} → at ≤ length bytes → Low bytes at at
+low-none {bytes} {at} h =
+    let none : at - at ≡ 0 = omega arith in
+    record { from = omega arith; inside = h; all = rw none (lows 0 (omega arith) (λ k l. absurd (omega (arith, l)))) }
+
+-- so many bytes more, looked at as a part
+pub low-more :
+    {bytes : List ℕ} {at end most : ℕ} (n : ℕ) → Low bytes at end → n ≤ length bytes - end
+    → ((k : ℕ) → k < length (take (end + n - end) (drop end bytes)) → getD (take (end + n - end) (drop end bytes)) k 0 ≤ most) → most < 0x80
+    → Low bytes at (end + n)
+low-more {bytes} {at} {end} {most} n w h part l =
+    let size : end + n - end ≡ n = omega arith in
+    let here : at + (end - at) ≡ end = omega arith in
+    let far : end + n - at ≡ end - at + n = omega arith in
+    let each : (k : ℕ) → k < n → getD bytes (end + k) 0 < 0x80 =
+    λ k i. omega (arith, l, rw (size, getD-take n (drop end bytes) k 0 i, getD-drop) at (part k (rw size (simp (length-take, length-drop) (omega (arith, i)))))) in
+    record { from = omega arith; inside = omega arith; all = rw far (joined (w .all) (rw here (lows n (omega arith) each))) }

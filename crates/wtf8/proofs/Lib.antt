@@ -1,5 +1,7 @@
 pub mod Reached
 pub mod Leads
 pub mod Going
-pub mod Points
+pub mod Lengths
+pub mod Exactly
+pub mod Determined
 pub mod Agreement

@@ -1,17 +1,18 @@
 -- Going through a sequence byte by byte: what is expected after its first k bytes, and how that comes to a size or to none.
 -- Every answer on one sequence is a chain of these steps. Assumes nothing.
-use mathlib.Core.Path.{_≡_, refl, sym, ap, _∙_}
+use mathlib.Core.Path.{_≡_, refl, _∙_}
 use mathlib.Core.Bool.{Bool, true, false, not, cond}
 use mathlib.Core.List.{List, [], _∷_}
 use Prim.Native.Nat.{ℕ, zero, suc, _+_, _-_, _≤_, _<_}
 use native.Mathlib.Omega.{arith}
 use native.Mathlib.Numerals.{add-one}
-use lib.Dec.{ltb, leb, eqb}
+use native.Mathlib.Nat.{add-zero}
+use lib.Dec.{leb}
 use lib.ListN.{length, getD, drop, length-drop}
 use lib.Seq.{drop-cons}
 use borrow.Author.Tests.{lt-ltb, ne-eqb, not-true, not-false}
-use Rattle.wtf8.specs.Forms.{Expected, point, trail, wrong, afterLead, afterTrail, after, allows, wellFormed}
-use Rattle.wtf8.specs.Sequence.{Taken, MostOfFour, within}
+use Rattle.wtf8.specs.Forms.{Expected, point, trail, wrong, afterLead, afterTrail, after, allows}
+use Rattle.wtf8.specs.Sequence.{Taken, Reached, within}
 
 -- one byte more
 turn : (s : List ℕ) (i : ℕ) (e : Expected) → i < length s → allows (drop i s) e ≡ allows (drop (suc i) s) (after e (getD s i 0))
@@ -58,11 +59,6 @@ all-ascii {most} (b ∷ bs) all l =
     let low : b ≤ most = all 0 (omega arith) in
     rw (ascii {b = b} (omega arith)) (all-ascii bs (λ k h. all (suc k) (omega (arith, h))) l)
 
--- After the k bytes from `at` on, `e` is expected.
-pub record Reached (s : List ℕ) (at k : ℕ) (e : Expected) : Type 0 where
-  pub inside : at + k ≤ length s
-  pub same : allows (drop at s) point ≡ allows (drop (at + k) s) e
-
 module _ {s : List ℕ} {at : ℕ} where
   -- the first byte
   pub led : {e : Expected} → at < length s → afterLead (getD s at 0) ≡ e → Reached s at 1 e
@@ -96,12 +92,10 @@ module _ {s : List ℕ} {at : ℕ} where
       let end : at + (j + k) ≡ at + j + k = omega arith in
       record { inside = omega (arith, q .inside); same = rw end (r .same ∙ q .same) }
 
-  -- four bytes of ASCII
-  pub low-four : {most : ℕ} → at + 4 ≤ length s → MostOfFour s at most → most < 0x80 → Reached s at 4 point
-  low-four h m l =
-      low
-      (low (low (led (omega arith) (ascii (omega (arith, m .first)))) (omega arith) (omega (arith, m .second))) (omega arith) (omega (arith, m .third)))
-      (omega arith) (omega (arith, m .fourth))
+  -- bytes of ASCII, so many
+  pub lows : (n : ℕ) → at + n ≤ length s → ((k : ℕ) → k < n → getD s (at + k) 0 < 0x80) → Reached s at n point
+  lows zero h all = record { inside = h; same = rw add-zero }
+  lows (suc n) h all = low (lows n (omega arith) (λ k l. all k (omega arith))) (omega arith) (all n (omega arith))
 
   none : {k : ℕ} → Reached s at k wrong → Taken s at 0
   none {k} r = record { inside = omega (arith, r .inside); leaves = r .same ∙ spoilt (drop (at + k) s) }
@@ -124,6 +118,10 @@ module _ {s : List ℕ} {at : ℕ} where
         leaves = r .same ∙ short (drop (at + k) s) low high more (simp length-drop (omega arith));
       }
 
+  -- so many bytes, after which a code point may begin
+  pub taken : {k : ℕ} → Reached s at k point → (k ≡ 0 → ⊥) → Taken s at k
+  taken {k} r n = record { inside = r .inside; leaves = rw (ne-eqb k 0 n) (r .same) }
+
   -- a whole sequence
   pub whole : {k : ℕ} → Reached s at (suc k) point → Taken s at (suc k)
-  whole {k} r = record { inside = r .inside; leaves = rw (ne-eqb (suc k) 0 (λ e. omega (arith, e))) (r .same) }
+  whole r = taken r (λ e. omega (arith, e))

@@ -1,23 +1,21 @@
 -- What the private functions promise of one sequence, in the words of Forms. Nothing outside this crate rests on this page.
 use mathlib.Core.Path.{_≡_}
 use Prim.Native.Nat.{ℕ, _+_, _≤_}
-use mathlib.Core.Bool.{Bool, true, false, cond}
+use mathlib.Core.Bool.{Bool, false, cond}
 use mathlib.Core.List.{List}
 use lib.Dec.{leb, eqb}
-use lib.ListN.{length, getD, drop}
-use Rattle.wtf8.specs.Forms.{allows, point}
+use lib.ListN.{length, drop}
+use Rattle.wtf8.specs.Forms.{Expected, point, allows}
 
 -- The bytes from `at` on are well-formed just where a size was found and those after that many are.
 pub record Taken (bytes : List ℕ) (at size : ℕ) : Type 0 where
   pub inside : at + size ≤ length bytes
   pub leaves : allows (drop at bytes) point ≡ cond (eqb size 0) false (allows (drop (at + size) bytes) point)
 
--- None of the four bytes at `at` exceeds `most`.
-pub record MostOfFour (bytes : List ℕ) (at most : ℕ) : Type 0 where
-  pub first : getD bytes at 0 ≤ most
-  pub second : getD bytes (at + 1) 0 ≤ most
-  pub third : getD bytes (at + 2) 0 ≤ most
-  pub fourth : getD bytes (at + 3) 0 ≤ most
+-- After the k bytes from `at` on, `e` is expected.
+pub record Reached (bytes : List ℕ) (at k : ℕ) (e : Expected) : Type 0 where
+  pub inside : at + k ≤ length bytes
+  pub same : allows (drop at bytes) point ≡ allows (drop (at + k) bytes) e
 
 -- Table 3-7's bounds of the second byte, by a first byte from E0 to F4.
 abbrev pub lowAfter : ℕ → ℕ

@@ -3,8 +3,8 @@
 ghost use mathlib.Core.Path.{_≡_};
 ghost use Prim.Native.Nat.{ℕ, _+_, _≤_, _<_};
 ghost use lib.ListN.{length, getD};
-ghost use Rattle.wtf8.specs.Forms.{wellFormed, afterLead, trail};
-ghost use Rattle.wtf8.specs.Sequence.{Taken, MostOfFour, lowAfter, highAfter, within};
+ghost use Rattle.wtf8.specs.Forms.{wellFormed, afterLead, point, trail};
+ghost use Rattle.wtf8.specs.Sequence.{Taken, Reached, lowAfter, highAfter, within};
 
 // Whether the bytes are the encodings, one after another, of code points up to 10FFFF.
 pub fn is_wtf8(bytes: &[u8]) -> bool
@@ -50,7 +50,7 @@ fn sequences(bytes: &[u8]) -> bool
     true
 }
 
-// How many bytes may be taken at once: a sequence, or eight of ASCII; 0 where no sequence stands.
+// How many bytes may be taken at once: a sequence, or several of ASCII; 0 where no sequence stands.
 fn sequence(bytes: &[u8], at: usize) -> usize
     requires { ⌜ at < length (now bytes) ⌝ }
     ensures { λ r. ⌜ Taken (now (bytes .entry)) at r ⌝ }
@@ -74,31 +74,34 @@ fn sequence(bytes: &[u8], at: usize) -> usize
     0
 }
 
-// Eight bytes of ASCII where they stand, else one.
+// How many bytes of ASCII may be taken at once: one, and blocks of eight where `at` is a multiple of eight.
 fn plain(bytes: &[u8], at: usize) -> usize
     requires { ⌜ (at < length (now bytes)) × (getD (now bytes) at 0 < 0x80) ⌝ }
     ensures { λ r. ⌜ Taken (now (bytes .entry)) at r ⌝ }
 {
-    if bytes.len() - at < 8 {
+    if at % 8 != 0 {
         return 1;
     }
-    let front = most_of_four(bytes, at);
-    let back = most_of_four(bytes, at + 4);
-    if greater(front, back) < 0x80 {
-        return 8;
+    let size = blocks(bytes, at);
+    if size == 0 {
+        return 1;
     }
-    1
+    size
 }
 
-// A byte that none of the four at `at` exceeds.
-fn most_of_four(bytes: &[u8], at: usize) -> u8
-    requires { ⌜ at + 4 ≤ length (now bytes) ⌝ }
-    ensures { λ r. ⌜ MostOfFour (now (bytes .entry)) at r ⌝ }
+// How many bytes of ASCII stand at `at` in blocks of eight.
+fn blocks(bytes: &[u8], at: usize) -> usize
+    requires { ⌜ at ≤ length (now bytes) ⌝ }
+    ensures { λ r. ⌜ Reached (now (bytes .entry)) at r point ⌝ }
 {
-    greater(
-        greater(bytes[at], bytes[at + 1]),
-        greater(bytes[at + 2], bytes[at + 3]),
-    )
+    let mut end = at;
+    while 8 <= bytes.len() - end {
+        if 0x80 <= greatest(&bytes[end..end + 8]) {
+            return end - at;
+        }
+        end += 8;
+    }
+    end - at
 }
 
 // A sequence of two bytes.

@@ -26,10 +26,12 @@ le16-requires : tie.Need-le16-requires
 le16-requires c κs = search needs
 
 returns-2 : tie.Need-returns-2
-returns-2 c = record { within = tt; exact = λ rest. rw (last _ _ _ rest (c .before .before .if1 .left), ← c .before .le16 .ensures .0, eq-eqb _ _ (c .if2 .taken)) }
+returns-2 c =
+    record { within = tt; exact = λ rest. rw (last _ _ _ rest (c .before .before .if1 .left), ← c .before .le16 .ensures .0, eq-eqb _ _ (c .if2 .taken)) }
 
 returns-3 : tie.Need-returns-3
-returns-3 c = record { within = search needs; exact = λ rest. rw (last _ _ _ rest (c .before .before .if1 .left), ← c .before .le16 .ensures .0, ne-eqb _ _ (c .if2 .left)) }
+returns-3 c =
+    record { within = search needs; exact = λ rest. rw (last _ _ _ rest (c .before .before .if1 .left), ← c .before .le16 .ensures .0, ne-eqb _ _ (c .if2 .left)) }
 
 pub last-digit-spec : {M : Type 1} → statement M
 last-digit-spec =

@@ -33,7 +33,9 @@ add-t14 : tie.Need-add-t14
 add-t14 c = search needs
 
 returns : tie.Need-returns
-returns c = bytes-cut (passed (c .before .before .before .before .read-len .ensures) (c .before .before .enum-told .given .1)) (c .before .le32 .ensures) (c .if1 .taken)
+returns c =
+    bytes-cut (passed (c .before .before .before .before .read-len .ensures) (c .before .before .enum-told .given .1))
+    (c .before .le32 .ensures) (c .if1 .taken)
 
 add-t15 : tie.Need-add-t15
 add-t15 c = search needs
@@ -43,7 +45,9 @@ unfolding fieldsOf contained
 returns-2 c = record { ahead = tt; exact = failed (c .before .before .before .read-len .ensures) (c .before .number .given .1) _ }
 
 returns-3 : tie.Need-returns-3
-returns-3 c = bytes-in (passed (c .before .before .before .before .read-len .ensures) (c .before .before .enum-told .given .1)) (c .before .le32 .ensures) (c .if1 .left)
+returns-3 c =
+    bytes-in (passed (c .before .before .before .before .read-len .ensures) (c .before .before .enum-told .given .1))
+    (c .before .le32 .ensures) (c .if1 .left)
 
 pub read-bytes-spec : {M : Type 1} → statement M
 read-bytes-spec =

@@ -29,7 +29,9 @@ le16-requires : tie.Need-le16-requires Inv-loop μ-loop
 le16-requires c κs = search needs
 
 returns-2 : tie.Need-returns-2 Inv-loop μ-loop
-returns-2 c = digit-bad (c .before .before .before .before .loop .inv) (c .before .before .before .loop-test .taken) (c .before .before .if1 .left) (c .before .le16 .ensures .0) (c .if2 .taken)
+returns-2 c =
+    digit-bad (c .before .before .before .before .loop .inv) (c .before .before .before .loop-test .taken) (c .before .before .if1 .left)
+    (c .before .le16 .ensures .0) (c .if2 .taken)
 
 add-place : tie.Need-add-place Inv-loop μ-loop
 add-place c = search needs
@@ -41,7 +43,9 @@ loop-less : tie.Need-loop-less Inv-loop μ-loop
 loop-less c = search needs
 
 loop-again : tie.Need-loop-again Inv-loop μ-loop
-loop-again c = digit-fine (c .before .before .before .before .loop .inv) (c .before .before .before .loop-test .taken) (c .before .before .if1 .left) (c .before .le16 .ensures .0) (c .if2 .left)
+loop-again c =
+    digit-fine (c .before .before .before .before .loop .inv) (c .before .before .before .loop-test .taken) (c .before .before .if1 .left)
+    (c .before .le16 .ensures .0) (c .if2 .left)
 
 returns-3 : tie.Need-returns-3 Inv-loop μ-loop
 returns-3 c = all-judged (c .before .loop .inv) (c .loop-test .left)

@@ -91,7 +91,11 @@ returns-12 c = of-class (ap classAt (c .before .match .keys12)) (c .read-short .
 
 returns-13 : tie.Need-returns-13
 unfolding classes classAt
-returns-13 c = let class = c .before .before .before .args .class in let over : 12 ≤ class = avoids class 12 (c .before .match .rest) in let last : class ≡ 12 = omega (arith, over, c .before .before .before .pre .0) in of-class (ap classAt last) (c .read-numbers .ensures)
+returns-13 c =
+    let class = c .before .before .before .args .class in
+    let over : 12 ≤ class = avoids class 12 (c .before .match .rest) in
+    let last : class ≡ 12 = omega (arith, over, c .before .before .before .pre .0) in
+    of-class (ap classAt last) (c .read-numbers .ensures)
 
 pub read-fields-spec : {M : Type 1} → statement M
 read-fields-spec =

@@ -15,10 +15,12 @@ le32-requires : tie.Need-le32-requires
 le32-requires c κs = search needs
 
 returns-2 : tie.Need-returns-2
-returns-2 c = record { within = tt; exact = λ rest. rw (le-leb _ _ (c .before .before .if1 .left), ← c .before .le32 .ensures, le-ltb _ _ (c .if2 .taken)) }
+returns-2 c =
+    record { within = tt; exact = λ rest. rw (le-leb _ _ (c .before .before .if1 .left), ← c .before .le32 .ensures, le-ltb _ _ (c .if2 .taken)) }
 
 returns-3 : tie.Need-returns-3
-returns-3 c = record { within = search needs; exact = λ rest. rw (le-leb _ _ (c .before .before .if1 .left), ← c .before .le32 .ensures, lt-ltb _ _ (c .if2 .left)) }
+returns-3 c =
+    record { within = search needs; exact = λ rest. rw (le-leb _ _ (c .before .before .if1 .left), ← c .before .le32 .ensures, lt-ltb _ _ (c .if2 .left)) }
 
 pub read-len-spec : {M : Type 1} → statement M
 read-len-spec = tie.close (tie.spec add-if1 returns le32-requires returns-2 returns-3)

@@ -26,7 +26,8 @@ returns c = record { ahead = tt; exact = numbers-cut (c .before .args .s .now) 5
 
 returns-2 : tie.Need-returns-2
 unfolding fieldsOf codeFields
-returns-2 c = record { ahead = (search needs, search needs); exact = numbers-in (c .before .args .s .now) 5 (c .before .args .at) _ (omega arith) }
+returns-2 c =
+    record { ahead = (search needs, search needs); exact = numbers-in (c .before .args .s .now) 5 (c .before .args .at) _ (omega arith) }
 
 pub read-numbers-spec : {M : Type 1} → statement M
 read-numbers-spec = tie.close (tie.spec sub-whole cast-t8 mul-t9 add-t10 returns returns-2)

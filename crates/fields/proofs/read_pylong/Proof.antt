@@ -39,7 +39,9 @@ add-last-digit : tie.Need-add-last-digit
 add-last-digit c = search needs
 
 last-digit-requires : tie.Need-last-digit-requires
-last-digit-requires c κs = let fine = (passed (c .before .before .read-digits .ensures) (c .enum-told .given .1)) in omega (arith, fine .within)
+last-digit-requires c κs =
+    let fine = (passed (c .before .before .read-digits .ensures) (c .enum-told .given .1)) in
+    omega (arith, fine .within)
 
 enum-known-number-2 : tie.Need-enum-known-number-2
 enum-known-number-2 c = search needs
@@ -48,19 +50,34 @@ enum-told-2 : tie.Need-enum-told-2
 enum-told-2 c = search needs
 
 mul-t18 : tie.Need-mul-t18
-mul-t18 c = let fine = (passed (c .before .before .before .before .before .read-digits .ensures) (c .before .before .before .enum-told .given .1)) in omega (arith, fine .within)
+mul-t18 c =
+    let fine = (passed (c .before .before .before .before .before .read-digits .ensures) (c .before .before .before .enum-told .given .1)) in
+    omega (arith, fine .within)
 
 add-t19 : tie.Need-add-t19
-add-t19 c = let fine = (passed (c .before .before .before .before .before .read-digits .ensures) (c .before .before .before .enum-told .given .1)) in omega (arith, fine .within)
+add-t19 c =
+    let fine = (passed (c .before .before .before .before .before .read-digits .ensures) (c .before .before .before .enum-told .given .1)) in
+    omega (arith, fine .within)
 
 returns-2 : tie.Need-returns-2
-returns-2 c = long-digits (c .before .before .before .before .before .before .if1 .left) (c .before .before .before .before .digit-count .ensures .0 ∙ ap digitCount (c .before .before .before .before .before .le32 .ensures)) (failed (c .before .before .before .read-digits .ensures) (c .before .number .given .1))
+returns-2 c =
+    long-digits (c .before .before .before .before .before .before .if1 .left)
+    (c .before .before .before .before .digit-count .ensures .0 ∙ ap digitCount (c .before .before .before .before .before .le32 .ensures))
+    (failed (c .before .before .before .read-digits .ensures) (c .before .number .given .1))
 
 returns-3 : tie.Need-returns-3
-returns-3 c = long-last (c .before .before .before .before .before .before .before .before .before .if1 .left) (c .before .before .before .before .before .before .before .digit-count .ensures .0 ∙ ap digitCount (c .before .before .before .before .before .before .before .before .le32 .ensures)) (passed (c .before .before .before .before .before .before .read-digits .ensures) (c .before .before .before .before .enum-told .given .1)) (failed (c .before .before .before .last-digit .ensures) (c .before .number2 .given .1))
+returns-3 c =
+    long-last (c .before .before .before .before .before .before .before .before .before .if1 .left)
+    (c .before .before .before .before .before .before .before .digit-count .ensures .0 ∙ ap digitCount (c .before .before .before .before .before .before .before .before .le32 .ensures))
+    (passed (c .before .before .before .before .before .before .read-digits .ensures) (c .before .before .before .before .enum-told .given .1))
+    (failed (c .before .before .before .last-digit .ensures) (c .before .number2 .given .1))
 
 returns-4 : tie.Need-returns-4
-returns-4 c = long-in (c .before .before .before .before .before .before .before .before .if1 .left) (c .before .before .before .before .before .before .digit-count .ensures .0 ∙ ap digitCount (c .before .before .before .before .before .before .before .le32 .ensures)) (passed (c .before .before .before .before .before .read-digits .ensures) (c .before .before .before .enum-told .given .1)) (passed (c .before .before .last-digit .ensures) (c .enum-told2 .given .1))
+returns-4 c =
+    long-in (c .before .before .before .before .before .before .before .before .if1 .left)
+    (c .before .before .before .before .before .before .digit-count .ensures .0 ∙ ap digitCount (c .before .before .before .before .before .before .before .le32 .ensures))
+    (passed (c .before .before .before .before .before .read-digits .ensures) (c .before .before .before .enum-told .given .1))
+    (passed (c .before .before .last-digit .ensures) (c .enum-told2 .given .1))
 
 pub read-pylong-spec : {M : Type 1} → statement M
 read-pylong-spec =

@@ -27,7 +27,9 @@ returns c = record { ahead = tt; exact = failed (c .before .before .before .read
 
 returns-2 : tie.Need-returns-2
 unfolding fieldsOf fields
-returns-2 c = let fine = passed (c .before .before .before .read-len .ensures) (c .before .enum-told .given .1) in record { ahead = (search needs, fine .within); exact = rw (c .le32 .ensures) (fine .exact _) }
+returns-2 c =
+    let fine = passed (c .before .before .before .read-len .ensures) (c .before .enum-told .given .1) in
+    record { ahead = (search needs, fine .within); exact = rw (c .le32 .ensures) (fine .exact _) }
 
 pub read-sequence-spec : {M : Type 1} → statement M
 read-sequence-spec =

@@ -37,10 +37,14 @@ add-t15 : tie.Need-add-t15
 add-t15 c = search needs
 
 returns-2 : tie.Need-returns-2
-returns-2 c = short-bad (c .before .before .before .before .before .before .if1 .left) (c .before .before .before .before .word .ensures .0) (failed (c .before .before .before .read-wtf8 .ensures) (c .before .number .given .1))
+returns-2 c =
+    short-bad (c .before .before .before .before .before .before .if1 .left) (c .before .before .before .before .word .ensures .0)
+    (failed (c .before .before .before .read-wtf8 .ensures) (c .before .number .given .1))
 
 returns-3 : tie.Need-returns-3
-returns-3 c = short-in (c .before .before .before .before .before .if1 .left) (c .before .before .before .word .ensures .0) (passed (c .before .before .read-wtf8 .ensures) (c .enum-told .given .1))
+returns-3 c =
+    short-in (c .before .before .before .before .before .if1 .left) (c .before .before .before .word .ensures .0)
+    (passed (c .before .before .read-wtf8 .ensures) (c .enum-told .given .1))
 
 pub read-short-spec : {M : Type 1} → statement M
 read-short-spec =

@@ -28,10 +28,16 @@ is-wtf8-requires : tie.Need-is-wtf8-requires
 is-wtf8-requires c κs = search needs
 
 returns-2 : tie.Need-returns-2
-returns-2 c = let a = c .before .before .before .before .before .args in string-bad (a .s .now) (a .at) (a .size) (c .before .before .before .if1 .left) (c .before .is-wtf8 .ensures) (not-true _ (c .if2 .taken))
+returns-2 c =
+    let a = c .before .before .before .before .before .args in
+    string-bad (a .s .now) (a .at) (a .size) (c .before .before .before .if1 .left) (c .before .is-wtf8 .ensures)
+    (not-true _ (c .if2 .taken))
 
 returns-3 : tie.Need-returns-3
-returns-3 c = let a = c .before .before .before .before .before .args in string-in (a .s .now) (a .at) (a .size) (c .before .before .before .if1 .left) (c .before .is-wtf8 .ensures) (not-false _ (c .if2 .left))
+returns-3 c =
+    let a = c .before .before .before .before .before .args in
+    string-in (a .s .now) (a .at) (a .size) (c .before .before .before .if1 .left) (c .before .is-wtf8 .ensures)
+    (not-false _ (c .if2 .left))
 
 pub read-wtf8-spec : {M : Type 1} → statement M
 read-wtf8-spec =

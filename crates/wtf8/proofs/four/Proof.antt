@@ -44,7 +44,10 @@ stands-requires-2 c κs = search needs
 returns-3 : tie.Need-returns-3
 returns-3 c =
     let start = c .before .before .before .before .before .before .before .before .before in
-    off (on (led (start .pre .0) (start .pre .1)) (omega arith) (c .before .before .before .stands .ensures) (c .before .before .if2 .left)) (omega arith) (c .before .stands2 .ensures) (c .if3 .taken)
+    off
+    (on (led (start .pre .0) (start .pre .1))
+    (omega arith) (c .before .before .before .stands .ensures) (c .before .before .if2 .left))
+    (omega arith) (c .before .stands2 .ensures) (c .if3 .taken)
 
 stands-requires-3 : tie.Need-stands-requires-3
 stands-requires-3 c κs = search needs
@@ -52,12 +55,20 @@ stands-requires-3 c κs = search needs
 returns-4 : tie.Need-returns-4
 returns-4 c =
     let start = c .before .before .before .before .before .before .before .before .before .before .before in
-    off (on (on (led (start .pre .0) (start .pre .1)) (omega arith) (c .before .before .before .before .before .stands .ensures) (c .before .before .before .before .if2 .left)) (omega arith) (c .before .before .before .stands2 .ensures) (c .before .before .if3 .left)) (omega arith) (c .before .stands3 .ensures) (c .if4 .taken)
+    off
+    (on (on (led (start .pre .0) (start .pre .1))
+    (omega arith) (c .before .before .before .before .before .stands .ensures) (c .before .before .before .before .if2 .left))
+    (omega arith) (c .before .before .before .stands2 .ensures) (c .before .before .if3 .left))
+    (omega arith) (c .before .stands3 .ensures) (c .if4 .taken)
 
 returns-5 : tie.Need-returns-5
 returns-5 c =
     let start = c .before .before .before .before .before .before .before .before .before .before .before in
-    whole (on (on (on (led (start .pre .0) (start .pre .1)) (omega arith) (c .before .before .before .before .before .stands .ensures) (c .before .before .before .before .if2 .left)) (omega arith) (c .before .before .before .stands2 .ensures) (c .before .before .if3 .left)) (omega arith) (c .before .stands3 .ensures) (c .if4 .left))
+    whole
+    (on (on (on (led (start .pre .0) (start .pre .1))
+    (omega arith) (c .before .before .before .before .before .stands .ensures) (c .before .before .before .before .if2 .left))
+    (omega arith) (c .before .before .before .stands2 .ensures) (c .before .before .if3 .left))
+    (omega arith) (c .before .stands3 .ensures) (c .if4 .left))
 
 pub four-spec : {M : Type 1} → statement M
 four-spec =

@@ -1,6 +1,5 @@
 -- `wtf8::sequence` meets its contract: Table 3-7 by ranges of the first byte.
 -- Assumes nothing.
-use native.Mathlib.Omega.{arith}
 use borrow.Author.Needs.{needs}
 use Rattle.wtf8.proofs.Reached.{no-lead}
 use Rattle.wtf8.proofs.Leads.{stray, leads-two, leads-three, leads-four, beyond}

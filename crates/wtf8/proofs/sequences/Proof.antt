@@ -1,6 +1,5 @@
 -- `wtf8::sequences` meets its contract: the laws on going from sequence to sequence.
 -- Assumes nothing.
-use native.Mathlib.Omega.{arith}
 use borrow.Author.Needs.{needs}
 use Prim.Native.Nat.{_-_}
 use lib.ListN.{length}

@@ -38,12 +38,18 @@ stands-requires-2 c κs = search needs
 returns-3 : tie.Need-returns-3
 returns-3 c =
     let start = c .before .before .before .before .before .before .before .before in
-    off (on (led (start .pre .0) (start .pre .1)) (omega arith) (c .before .before .before .stands .ensures) (c .before .before .if2 .left)) (omega arith) (c .before .stands2 .ensures) (c .if3 .taken)
+    off
+    (on (led (start .pre .0) (start .pre .1))
+    (omega arith) (c .before .before .before .stands .ensures) (c .before .before .if2 .left))
+    (omega arith) (c .before .stands2 .ensures) (c .if3 .taken)
 
 returns-4 : tie.Need-returns-4
 returns-4 c =
     let start = c .before .before .before .before .before .before .before .before in
-    whole (on (on (led (start .pre .0) (start .pre .1)) (omega arith) (c .before .before .before .stands .ensures) (c .before .before .if2 .left)) (omega arith) (c .before .stands2 .ensures) (c .if3 .left))
+    whole
+    (on (on (led (start .pre .0) (start .pre .1))
+    (omega arith) (c .before .before .before .stands .ensures) (c .before .before .if2 .left))
+    (omega arith) (c .before .stands2 .ensures) (c .if3 .left))
 
 pub three-spec : {M : Type 1} → statement M
 three-spec =

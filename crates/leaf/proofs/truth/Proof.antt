@@ -1,0 +1,14 @@
+-- `leaf::truth` meets its contract: by the value.
+-- Assumes nothing.
+
+use Rattle.leaf.proofs.truth.Statement.{statement}
+use Rattle.leaf.proofs.truth.Tie as tie
+
+returns : tie.Need-returns
+returns c = rw (c .if1 .taken)
+
+returns-2 : tie.Need-returns-2
+returns-2 c = rw (c .if1 .left)
+
+pub truth-spec : {M : Type 1} → statement M
+truth-spec = tie.close (tie.spec returns returns-2)

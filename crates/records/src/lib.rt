@@ -1,0 +1,168 @@
+// The record test behind refusal 16, for any node store, also one that no reading made: the leaf question and the writer ask it.
+// Only a node's own numbers are tested: chains, and what the parts of a code are, are the writer's.
+ghost use mathlib.Core.Path.{_≡_};
+ghost use Prim.Native.Nat.{_+_, _*_, _≤_, _<_, min};
+ghost use lib.ListN.{length};
+ghost use Rattle.refusals.specs.Limits.{mostBytes};
+ghost use Rattle.grammar.specs.Letters.{codes};
+ghost use Rattle.grammar.specs.State.{nodeAt};
+ghost use Rattle.wtf8.specs.Forms.{wellFormed};
+ghost use Rattle.grammar.specs.Fields;
+ghost use Rattle.grammar.specs.Record;
+ghost use Rattle.fields.specs.Classes.{classAt, formClasses};
+ghost use Rattle.fields.specs.Behind.{childrenOf};
+ghost use Rattle.records.specs.Nodes.{nodeOf};
+
+// Five numbers to a node.
+pub const NODE_WIDTH: usize = 5;
+
+const CODE_NUMBERS: u32 = 20;
+
+const CODE_PARTS: u32 = 10;
+
+pub struct Node {
+    pub letter: u32,
+    pub place: u32,
+    pub size: u32,
+    pub first: u32,
+    pub count: u32,
+}
+
+fn lesser(a: u32, b: u32) -> u32
+    ensures { λ r. ⌜ r ≡ min a b ⌝ }
+{
+    if a < b { a } else { b }
+}
+
+// How many nodes of a store may be named, where so many are said to be used.
+pub fn nodes_in(nodes: &[u32], used: u32) -> u32
+    ensures { λ r. ⌜ r ≡ Record.nodesIn (now (nodes .entry)) used ⌝ }
+{
+    let held = nodes.len() / NODE_WIDTH;
+    let most = lesser(used, refusals::MOST_RECORDS);
+    if held < most as usize {
+        return held as u32;
+    }
+    most
+}
+
+// The node of a number that is in the store.
+pub fn node_at(nodes: &[u32], node: u32) -> Node
+    requires { ⌜ node * 5 + 5 ≤ length (now nodes) ⌝ }
+    ensures { λ r. ⌜ nodeOf r ≡ nodeAt (now (nodes .entry)) node ⌝ }
+{
+    let at = node as usize * NODE_WIDTH;
+    Node {
+        letter: nodes[at],
+        place: nodes[at + 1],
+        size: nodes[at + 2],
+        first: nodes[at + 3],
+        count: nodes[at + 4],
+    }
+}
+
+// Whether a count is what the fields say of the children.
+fn counted(kids: fields::Kids, count: u32) -> bool
+    ensures { λ r. ⌜ r ≡ Record.counted (childrenOf kids) count ⌝ }
+{
+    match kids {
+        fields::Kids::Items(items) => count == items,
+        fields::Kids::Pairs => count % 2 == 0,
+        fields::Kids::Parts => count == CODE_PARTS,
+    }
+}
+
+// A container's or a number's fields, read again from its place, give its size and its count.
+fn read_again(s: &[u8], node: Node, class: u32) -> bool
+    requires { ⌜ (class < formClasses) × (node .place ≤ length (now s)) × (length (now s) ≤ mostBytes) ⌝ }
+    ensures { λ r. ⌜ r ≡ Record.ruled (now (s .entry)) (nodeOf node) (classAt class) ⌝ }
+{
+    match fields::read_fields(s, class, node.place) {
+        fields::Behind::Refused(_, _) => false,
+        fields::Behind::Span(_, size, kids) => {
+            if node.size != size {
+                return false;
+            }
+            counted(kids, node.count)
+        }
+    }
+}
+
+// A string's contents, at its place.
+fn well_formed(s: &[u8], place: u32, size: u32) -> bool
+    requires { ⌜ (place + size ≤ length (now s)) × (length (now s) ≤ mostBytes) ⌝ }
+    ensures { λ r. ⌜ r ≡ wellFormed (Fields.contents (now (s .entry)) place size) ⌝ }
+{
+    let from = place as usize;
+    wtf8::is_wtf8(&s[from..from + size as usize])
+}
+
+// A code's size, first line, count and argument sum.
+fn code_ruled(s: &[u8], node: Node) -> bool
+    requires { ⌜ length (now s) ≤ mostBytes ⌝ }
+    ensures { λ r. ⌜ r ≡ Record.ruled (now (s .entry)) (nodeOf node) codes ⌝ }
+{
+    let place = node.place as usize;
+    if node.size < CODE_NUMBERS {
+        return false;
+    }
+    if s.len() < place + node.size as usize + 4 {
+        return false;
+    }
+    if node.count != CODE_PARTS {
+        return false;
+    }
+    fields::argument_sum(s, place) < 0x1_0000_0000
+}
+
+// The node's letter is kept, and its numbers are what the letter's rules ask.
+fn ruled(s: &[u8], node: Node, class: u32) -> bool
+    requires { ⌜ (node .place + node .size ≤ length (now s)) × (length (now s) ≤ mostBytes) ⌝ }
+    ensures { λ r. ⌜ r ≡ Record.ruled (now (s .entry)) (nodeOf node) (classAt class) ⌝ }
+{
+    if class < fields::BYTES {
+        return read_again(s, node, class);
+    }
+    match class {
+        fields::BYTES => node.count == 0,
+        fields::TEXT => {
+            if node.count != 0 {
+                return false;
+            }
+            well_formed(s, node.place, node.size)
+        }
+        fields::SHORT => {
+            if node.count != 0 {
+                return false;
+            }
+            if 255 < node.size {
+                return false;
+            }
+            well_formed(s, node.place, node.size)
+        }
+        fields::CODE => code_ruled(s, node),
+        _ => false,
+    }
+}
+
+// A node whose span lies in the input and whose numbers are ruled.
+pub fn sound(s: &[u8], node: Node) -> bool
+    requires { ⌜ length (now s) ≤ mostBytes ⌝ }
+    ensures { λ r. ⌜ r ≡ Record.sound (now (s .entry)) (nodeOf node) ⌝ }
+{
+    if s.len() < node.place as usize + node.size as usize {
+        return false;
+    }
+    ruled(s, node, fields::class_of(node.letter))
+}
+
+// Whether the node of a number is in the store and sound.
+pub fn sound_at(s: &[u8], nodes: &[u32], used: u32, node: u32) -> bool
+    requires { ⌜ length (now s) ≤ mostBytes ⌝ }
+    ensures { λ r. ⌜ r ≡ Record.soundAt (now (s .entry)) (now (nodes .entry)) used node ⌝ }
+{
+    if nodes_in(nodes, used) <= node {
+        return false;
+    }
+    sound(s, node_at(nodes, node))
+}
