@@ -26,13 +26,14 @@ use Rattle.steps.specs.Held.{rooms, Safe, Moved, Holds, HoldsChain, LastIn, Lin
 use Rattle.steps.specs.Linking.{ruleOf, suitsIn, lineNext, entriesNext, Attaches}
 use Rattle.steps.proofs.Runs.{bind-gives, bind-stops, claim-fits, claim-fails, run-done}
 use Rattle.steps.proofs.States.{chain-next, suits-held}
-use Rattle.reader.specs.Readings.{ReadsValue, Lists, ReadsMembers, aChild, childOf, Agrees, StepMoved}
+use Rattle.reader.specs.Readings.{ReadsValue, Lists, ReadsChild, Counted, childOf, Agrees, StepMoved}
 
 module _ {s : List ℕ} {room : Room} {allowance : ℕ} {line : Line} {ns es ss ns′ es′ ss′ : List ℕ} {c : Step} (safe : Safe s room (line .walk) ns es ss) (li : LineIn line) (rv : ReadsValue s room allowance (line .walk) ns es ss c ns′ es′ ss′) where
-  pub child-cut : {rule n p : ℕ} → c ≡ step.Refused n p → ReadsMembers (aChild rule) 1 s room allowance line ns es ss (linked.Refused n p) ns′ es′ ss′
+  pub child-cut : {rule n p : ℕ} → c ≡ step.Refused n p → ReadsChild rule s room allowance line ns es ss (linked.Refused n p) ns′ es′ ss′
   unfolding child
   child-cut {rule} {n} {p} is =
       record {
+        counted = tt;
         lists = record {
           moved = tt;
           exact = λ fuel depth x h l.
@@ -98,11 +99,16 @@ module _ {s : List ℕ} {room : Room} {allowance : ℕ} {line : Line} {ns es ss 
                 child-claims u fuel depth x h l ∙ claim-fails (rooms room (depth + allowance)) entry (a .entries + 1) (line .walk .at) _ (omega (arith, ge));
           }
 
+    attach-counted : (b : Bool) → Counted line (cond b (linked.Line (lineNext line v a)) (linked.Refused noEntry (line .walk .at)))
+    attach-counted true = refl
+    attach-counted false = tt
+
     module _ {rule : ℕ} {t : Bool} (test : t ≡ suitsIn (ruleOf rule) ns′ es′ v) where
-      pub child-unfit : not t ≡ true → ReadsMembers (aChild rule) 1 s room allowance line ns es ss (linked.Refused badType (line .walk .at)) ns′ es′ ss′
+      pub child-unfit : not t ≡ true → ReadsChild rule s room allowance line ns es ss (linked.Refused badType (line .walk .at)) ns′ es′ ss′
       unfolding run
       child-unfit u =
           record {
+            counted = tt;
             lists = record {
               moved = tt;
               exact = λ fuel depth x h l.
@@ -112,9 +118,10 @@ module _ {s : List ℕ} {room : Room} {allowance : ℕ} {line : Line} {ns es ss 
           }
 
       pub child-linked : not t ≡ false → {es″ : List ℕ} {r : Linked} → length es′ ≡ length es → Attaches (room .entries) line (line .walk .at) v a es′ r es″
-          → ReadsMembers (aChild rule) 1 s room allowance line ns es ss r ns′ es″ ss′
+          → ReadsChild rule s room allowance line ns es ss r ns′ es″ ss′
       child-linked u {es″} {r} le at =
           record {
+            counted = subst (Counted line) (sym (at .answer)) (attach-counted (ltb (a .entries) (room .entries)));
             lists = subst (λ q. Lists (childOf s (ruleOf rule)) 1 s room allowance line ns es ss q ns′ es″ ss′) (sym (at .answer))
                 (child-attached (ruleOf rule) t test u es″ le (at .entries) (ltb (a .entries) (room .entries)) refl);
           }

@@ -24,7 +24,7 @@ use Rattle.steps.specs.Held.{rooms, Safe, LineIn}
 use Rattle.steps.specs.Linking.{ruleOf, lineLined, firstLined, faultIn}
 use Rattle.steps.proofs.Runs.{bind-assoc}
 use Rattle.steps.proofs.States.{holds-lined, fault-held}
-use Rattle.reader.specs.Readings.{ChainReader, Lists, ReadsMembers, aChild, soMany, aCode, aNode, ReadsPairs, childOf, firstLineOf, partsOf, codeOf, bodyOf}
+use Rattle.reader.specs.Readings.{ChainReader, Lists, childOf, firstLineOf, partsOf, codeOf}
 use Rattle.reader.proofs.Chains.{Stands, Inv, Then, inv-start, inv-as, inv-end, inv-refused, inv-cut, inv-more, lists-inside}
 
 -- `first_line` is the reading of its name
@@ -70,8 +70,8 @@ code-start {s} {room} {allowance} {at} safe li =
 
 -- one level for the body
 code-lists : {s : List ℕ} {room : Room} {allowance : ℕ} (at : ℕ) {line : Line} {ns es ss ns′ es′ ss′ : List ℕ} {r : Linked} → 0 < allowance
-    → Lists (Then (partsOf s codeParts 0) (λ fuel depth. ended s at)) 0 s room (allowance - 1) line ns es ss r ns′ es′ ss′ → ReadsMembers (aCode at) 0 s room allowance line ns es ss r ns′ es′ ss′
-code-lists {s} {room} {allowance} at some f = record { lists = lists-inside allowance 1 f (omega arith) (codeOf s at) (λ fuel depth c. refl) }
+    → Lists (Then (partsOf s codeParts 0) (λ fuel depth. ended s at)) 0 s room (allowance - 1) line ns es ss r ns′ es′ ss′ → Lists (codeOf s at) 0 s room allowance line ns es ss r ns′ es′ ss′
+code-lists {s} {room} {allowance} at some f = lists-inside allowance 1 f (omega arith) (codeOf s at) (λ fuel depth c. refl)
 
 module _ {s : List ℕ} {room : Room} {allowance at : ℕ} {line₀ : Line} {ns₀ es₀ ss₀ ns es ss : List ℕ} {line : Line} {i : ℕ} (some : 0 < allowance) (v : InvCode s room allowance at line₀ ns₀ es₀ ss₀ ns es ss line i) where
   pub code-stands : Stands s room line₀ ns₀ es₀ ss₀ ns es ss line
@@ -85,7 +85,7 @@ module _ {s : List ℕ} {room : Room} {allowance at : ℕ} {line₀ : Line} {ns�
         let e : codeParts - i ≡ 0 = omega arith in
         inv-as (v .inv) (λ fuel depth. ended s at) (λ fuel depth c h. ap (λ n. bind (partsOf s n i fuel depth c) (ended s at)) e)
 
-    pub code-fault : (fault ≡ accepted → ⊥) → ReadsMembers (aCode at) 0 s room allowance line₀ ns₀ es₀ ss₀ (linked.Refused fault at) ns es ss
+    pub code-fault : (fault ≡ accepted → ⊥) → Lists (codeOf s at) 0 s room allowance line₀ ns₀ es₀ ss₀ (linked.Refused fault at) ns es ss
     unfolding ended
     code-fault bad =
         code-lists at some
@@ -94,7 +94,7 @@ module _ {s : List ℕ} {room : Room} {allowance at : ℕ} {line₀ : Line} {ns�
         let q : fault ≡ faultOf s at c = is ∙ fault-held s at h in
         rw (← q, ne-eqb fault accepted bad) refl))
 
-    pub code-end : fault ≡ accepted → ReadsMembers (aCode at) 0 s room allowance line₀ ns₀ es₀ ss₀ (linked.Line line) ns es ss
+    pub code-end : fault ≡ accepted → Lists (codeOf s at) 0 s room allowance line₀ ns₀ es₀ ss₀ (linked.Line line) ns es ss
     unfolding ended
     code-end good =
         code-lists at some
@@ -128,7 +128,7 @@ module _ {s : List ℕ} {room : Room} {allowance at : ℕ} {line₀ : Line} {ns�
       lines : Lists (firstLineOf s i) 0 s room (allowance - 1) line ns es ss g ns es ss
       lines = line-lists (allowance - 1) i (v .inv .stands) f
 
-      pub line-cut : {n p : ℕ} → g ≡ linked.Refused n p → ReadsMembers (aCode at) 0 s room allowance line₀ ns₀ es₀ ss₀ (linked.Refused n p) ns es ss
+      pub line-cut : {n p : ℕ} → g ≡ linked.Refused n p → Lists (codeOf s at) 0 s room allowance line₀ ns₀ es₀ ss₀ (linked.Refused n p) ns es ss
       line-cut is = code-lists at some (inv-cut (firstLineOf s i) (Then part later) open-code lines is)
 
       module _ {m : Line} (is : g ≡ linked.Line m) where
@@ -138,37 +138,12 @@ module _ {s : List ℕ} {room : Room} {allowance at : ℕ} {line₀ : Line} {ns�
         pub line-stands : Stands s room line₀ ns₀ es₀ ss₀ ns es ss m
         line-stands = after-line .stands
 
-        module _ {rule : ℕ} (ruled : ruleOf rule ≡ getD rules i whatever) {r : Linked} {ns′ es′ ss′ : List ℕ} (k : ReadsMembers (aChild rule) 1 s room (allowance - 1) m ns es ss r ns′ es′ ss′) where
+        module _ (rule : ℕ) (ruled : ruleOf rule ≡ getD rules i whatever) {r : Linked} {ns′ es′ ss′ : List ℕ} (k : Lists (childOf s (ruleOf rule)) 1 s room (allowance - 1) m ns es ss r ns′ es′ ss′) where
           part-lists : Lists part 1 s room (allowance - 1) m ns es ss r ns′ es′ ss′
-          part-lists = subst (λ q. Lists (childOf s q) 1 s room (allowance - 1) m ns es ss r ns′ es′ ss′) ruled (k .lists)
+          part-lists = subst (λ q. Lists (childOf s q) 1 s room (allowance - 1) m ns es ss r ns′ es′ ss′) ruled k
 
-          pub part-cut : {n p : ℕ} → r ≡ linked.Refused n p → ReadsMembers (aCode at) 0 s room allowance line₀ ns₀ es₀ ss₀ (linked.Refused n p) ns′ es′ ss′
+          pub part-cut : {n p : ℕ} → r ≡ linked.Refused n p → Lists (codeOf s at) 0 s room allowance line₀ ns₀ es₀ ss₀ (linked.Refused n p) ns′ es′ ss′
           part-cut it = code-lists at some (inv-cut part later after-line part-lists it)
 
           pub code-next : {l : Line} → r ≡ linked.Line l → length ns′ ≡ length ns → length es′ ≡ length es → length ss′ ≡ length ss → InvCode s room allowance at line₀ ns₀ es₀ ss₀ ns′ es′ ss′ l (i + 1)
           code-next it a b c = record { bound = omega arith; inv = inv-more part later after-line part-lists it a b c }
-
--- `typed`: what a node holds
-module _ {s : List ℕ} {room : Room} {allowance at : ℕ} {kids : Kids} {line : Line} {ns es ss ns′ es′ ss′ : List ℕ} {r : Linked} (some : 0 < allowance) where
-  pub body-items : {count : ℕ} → kids ≡ kind.Items count → ReadsMembers (soMany count) 0 s room (allowance - 1) line ns es ss r ns′ es′ ss′
-      → ReadsMembers (aNode at kids) 0 s room allowance line ns es ss r ns′ es′ ss′
-  unfolding body
-  body-items {count} is f =
-      record { lists = lists-inside allowance 1 (f .lists) (omega arith) (bodyOf s at kids) (λ fuel depth c. sym (ap (λ k. body (value fuel s) s fuel depth at (childrenOf k) c) is)) }
-
-  pub body-pairs : kids ≡ kind.Pairs → ReadsPairs s room (allowance - 1) line ns es ss r ns′ es′ ss′ → ReadsMembers (aNode at kids) 0 s room allowance line ns es ss r ns′ es′ ss′
-  unfolding body
-  body-pairs is h =
-      let f : Lists (λ fuel depth c. couples (value fuel s depth) s fuel c) 0 s room (allowance - 1) line ns es ss r ns′ es′ ss′ =
-      record { moved = h .lists (length s) (omega arith) .moved; exact = λ fuel depth c hc len. h .lists fuel len .exact fuel depth c hc len } in
-      record { lists = lists-inside allowance 1 f (omega arith) (bodyOf s at kids) (λ fuel depth c. sym (ap (λ k. body (value fuel s) s fuel depth at (childrenOf k) c) is)) }
-
-  pub body-parts : kids ≡ kind.Parts → ReadsMembers (aCode at) 0 s room (allowance - 1) line ns es ss r ns′ es′ ss′ → ReadsMembers (aNode at kids) 0 s room allowance line ns es ss r ns′ es′ ss′
-  unfolding body
-  body-parts is f =
-      record {
-        lists = lists-inside allowance 1 (f .lists) (omega arith) (bodyOf s at kids)
-            (λ fuel depth c.
-            let e : depth + 1 + 1 ≡ depth + 2 = omega arith in
-            ap (λ d. bind (partsOf s codeParts 0 fuel d c) (ended s at)) e ∙ sym (ap (λ k. body (value fuel s) s fuel depth at (childrenOf k) c) is));
-      }

@@ -18,10 +18,10 @@ use Rattle.steps.specs.declared.Linked.the-variants as linked
 use Rattle.steps.specs.Held.{Safe, LineIn}
 use Rattle.steps.specs.Linking.{lineOn}
 use Rattle.steps.proofs.States.{holds-passed}
-use Rattle.reader.specs.Readings.{ChainReader, ReadsMembers, aChild, soMany, ReadsPairs, LinkedMoved, childOf, kidsOf, couplesOf}
+use Rattle.reader.specs.Readings.{ChainReader, Lists, LinkedMoved, childOf, kidsOf, couplesOf}
 use Rattle.reader.proofs.Chains.{Stands, Inv, Then, inv-start, inv-as, inv-done, inv-end, inv-refused, inv-cut, inv-more}
 
--- `items`
+-- so many children
 pub record InvKids (s : List ℕ) (room : Room) (allowance count : ℕ) (line₀ : Line) (ns₀ es₀ ss₀ ns es ss : List ℕ) (line : Line) (i : ℕ) : Type 0 where
   pub bound : i ≤ count
   pub inv : Inv (kidsOf s count) (kidsOf s (count - i)) s room allowance line₀ ns₀ es₀ ss₀ ns es ss line
@@ -35,9 +35,9 @@ module _ {s : List ℕ} {room : Room} {allowance count : ℕ} {line₀ : Line} {
   pub kids-stands : Stands s room line₀ ns₀ es₀ ss₀ ns es ss line
   kids-stands = v .inv .stands
 
-  pub kids-end : count ≤ i → ReadsMembers (soMany count) 0 s room allowance line₀ ns₀ es₀ ss₀ (linked.Line line) ns es ss
+  pub kids-end : count ≤ i → Lists (kidsOf s count) 0 s room allowance line₀ ns₀ es₀ ss₀ (linked.Line line) ns es ss
   unfolding kids
-  kids-end le = let e : count - i ≡ 0 = omega arith in record { lists = inv-end (v .inv) (λ fuel depth c h. ap (λ n. kidsOf s n fuel depth c) e) }
+  kids-end le = let e : count - i ≡ 0 = omega arith in inv-end (v .inv) (λ fuel depth c h. ap (λ n. kidsOf s n fuel depth c) e)
 
   module _ (lt : i < count) where
     open-kids : Inv (kidsOf s count) (Then (childOf s whatever) (kidsOf s (count - (i + 1)))) s room allowance line₀ ns₀ es₀ ss₀ ns es ss line
@@ -46,14 +46,14 @@ module _ {s : List ℕ} {room : Room} {allowance count : ℕ} {line₀ : Line} {
         let e : count - i ≡ suc (count - (i + 1)) = omega arith in
         inv-as (v .inv) (Then (childOf s whatever) (kidsOf s (count - (i + 1)))) (λ fuel depth c h. ap (λ n. kidsOf s n fuel depth c) e)
 
-    module _ {r : Linked} {ns′ es′ ss′ : List ℕ} (f : ReadsMembers (aChild 0) 1 s room allowance line ns es ss r ns′ es′ ss′) where
-      pub kids-cut : {n p : ℕ} → r ≡ linked.Refused n p → ReadsMembers (soMany count) 0 s room allowance line₀ ns₀ es₀ ss₀ (linked.Refused n p) ns′ es′ ss′
-      kids-cut is = record { lists = inv-cut (childOf s whatever) (kidsOf s (count - (i + 1))) open-kids (f .lists) is }
+    module _ {r : Linked} {ns′ es′ ss′ : List ℕ} (f : Lists (childOf s whatever) 1 s room allowance line ns es ss r ns′ es′ ss′) where
+      pub kids-cut : {n p : ℕ} → r ≡ linked.Refused n p → Lists (kidsOf s count) 0 s room allowance line₀ ns₀ es₀ ss₀ (linked.Refused n p) ns′ es′ ss′
+      kids-cut is = inv-cut (childOf s whatever) (kidsOf s (count - (i + 1))) open-kids f is
 
       pub kids-next : {m : Line} → r ≡ linked.Line m → length ns′ ≡ length ns → length es′ ≡ length es → length ss′ ≡ length ss → InvKids s room allowance count line₀ ns₀ es₀ ss₀ ns′ es′ ss′ m (i + 1)
-      kids-next is a b c = record { bound = omega arith; inv = inv-more (childOf s whatever) (kidsOf s (count - (i + 1))) open-kids (f .lists) is a b c }
+      kids-next is a b c = record { bound = omega arith; inv = inv-more (childOf s whatever) (kidsOf s (count - (i + 1))) open-kids f is a b c }
 
--- `pairs`: for whatever fuel outlasts the bytes from the first line on
+-- a dict's pairs: for whatever fuel outlasts the bytes from the first line on
 pub couples-unroll : (s : List ℕ) (extra : ℕ) → (k : ℕ) × (extra ≤ k + 1)
     × ((f : Reader) (c : Chain) → length s ≤ c .st .at + extra → couples f s extra c ≡ keyOr s c (bind (child whatever f c) (λ d. bind (child whatever f d) (couples f s k))))
 unfolding couples
@@ -64,6 +64,15 @@ pub record InvPairs (s : List ℕ) (room : Room) (allowance : ℕ) (line₀ : Li
   pub stands : Stands s room line₀ ns₀ es₀ ss₀ ns es ss line
   pub inv : (extra₀ : ℕ) → length s ≤ line₀ .walk .at + extra₀
       → (extra : ℕ) × (length s ≤ line .walk .at + extra) × Inv (couplesOf s extra₀) (couplesOf s extra) s room allowance line₀ ns₀ es₀ ss₀ ns es ss line
+
+-- where a key is read and its value is asked for
+pub record InvValue (s : List ℕ) (room : Room) (allowance : ℕ) (line₀ : Line) (ns₀ es₀ ss₀ ns es ss : List ℕ) (line : Line) : Type 0 where
+  pub stands : Stands s room line₀ ns₀ es₀ ss₀ ns es ss line
+  pub inv : (extra₀ : ℕ) → length s ≤ line₀ .walk .at + extra₀
+      → (extra : ℕ) × (length s ≤ line .walk .at + extra) × Inv (couplesOf s extra₀) (Then (childOf s whatever) (couplesOf s extra)) s room allowance line₀ ns₀ es₀ ss₀ ns es ss line
+
+abbrev PairLists : List ℕ → Room → ℕ → Line → (ns es ss : List ℕ) → Linked → (ns′ es′ ss′ : List ℕ) → Type 0
+PairLists s room allowance line ns es ss r ns′ es′ ss′ = (extra : ℕ) → length s ≤ line .walk .at + extra → Lists (couplesOf s extra) 0 s room allowance line ns es ss r ns′ es′ ss′
 
 pub pairs-start : {s : List ℕ} {room : Room} {allowance : ℕ} {line : Line} {ns es ss : List ℕ} → Safe s room (line .walk) ns es ss → LineIn line → InvPairs s room allowance line ns es ss ns es ss line
 pairs-start {s} {room} {allowance} safe li =
@@ -88,31 +97,25 @@ module _ {s : List ℕ} {room : Room} {allowance : ℕ} {line₀ : Line} {ns₀ 
       )
 
   -- no byte is left where a key stands
-  pub pairs-out : length s ≤ line .walk .at → ReadsPairs s room allowance line₀ ns₀ es₀ ss₀ (linked.Refused eofObject (line .walk .at)) ns es ss
-  pairs-out out =
-      record {
-        lists = λ extra₀ h.
-            let x = pairs-turn extra₀ h in
-            inv-refused (x .2) eofObject (line .walk .at) ns es ss
-            (λ fuel depth c hc.
-            let e : length s ≡ line .walk .at = omega (arith, v .stands .moved) in
-            let t : ltb (c .st .at) (length s) ≡ false = le-ltb (c .st .at) (length s) (omega (arith, hc .walk .at)) in
-            ap (λ b. cond b (cond (eqb (getD s (c .st .at) 0 % 128) 0x30) (done (passed 1 c)) (turnOf s (x .0) fuel depth c)) (refused eofObject (length s))) t ∙ ap (λ n. refused eofObject n) e);
-      }
+  pub pairs-out : length s ≤ line .walk .at → PairLists s room allowance line₀ ns₀ es₀ ss₀ (linked.Refused eofObject (line .walk .at)) ns es ss
+  pairs-out out extra₀ h =
+      let x = pairs-turn extra₀ h in
+      inv-refused (x .2) eofObject (line .walk .at) ns es ss
+      (λ fuel depth c hc.
+      let e : length s ≡ line .walk .at = omega (arith, v .stands .moved) in
+      let t : ltb (c .st .at) (length s) ≡ false = le-ltb (c .st .at) (length s) (omega (arith, hc .walk .at)) in
+      ap (λ b. cond b (cond (eqb (getD s (c .st .at) 0 % 128) 0x30) (done (passed 1 c)) (turnOf s (x .0) fuel depth c)) (refused eofObject (length s))) t ∙ ap (λ n. refused eofObject n) e)
 
   module _ (there : line .walk .at < length s) where
     -- the null ends the dict
-    pub pairs-null : getD s (line .walk .at) 0 % 128 ≡ 0x30 → ReadsPairs s room allowance line₀ ns₀ es₀ ss₀ (linked.Line (lineOn 1 line)) ns es ss
-    pairs-null null =
-        record {
-          lists = λ extra₀ h.
-              let x = pairs-turn extra₀ h in
-              inv-done (x .2) (lineOn 1 line) (omega (arith, v .stands .moved)) (record { lastIn = v .stands .lineIn .lastIn; count = v .stands .lineIn .count }) (passed 1)
-              (λ fuel depth c hc.
-              let t : ltb (c .st .at) (length s) ≡ true = lt-ltb (c .st .at) (length s) (omega (arith, hc .walk .at)) in
-              let n : eqb (getD s (c .st .at) 0 % 128) 0x30 ≡ true = eq-eqb _ 0x30 (ap (λ a. getD s a 0 % 128) (sym (hc .walk .at)) ∙ null) in
-              (ap₂ (λ b d. cond b (cond d (done (passed 1 c)) (turnOf s (x .0) fuel depth c)) (refused eofObject (length s))) t n, holds-passed 1 hc));
-        }
+    pub pairs-null : getD s (line .walk .at) 0 % 128 ≡ 0x30 → PairLists s room allowance line₀ ns₀ es₀ ss₀ (linked.Line (lineOn 1 line)) ns es ss
+    pairs-null null extra₀ h =
+        let x = pairs-turn extra₀ h in
+        inv-done (x .2) (lineOn 1 line) (omega (arith, v .stands .moved)) (record { lastIn = v .stands .lineIn .lastIn; count = v .stands .lineIn .count }) (passed 1)
+        (λ fuel depth c hc.
+        let t : ltb (c .st .at) (length s) ≡ true = lt-ltb (c .st .at) (length s) (omega (arith, hc .walk .at)) in
+        let n : eqb (getD s (c .st .at) 0 % 128) 0x30 ≡ true = eq-eqb _ 0x30 (ap (λ a. getD s a 0 % 128) (sym (hc .walk .at)) ∙ null) in
+        (ap₂ (λ b d. cond b (cond d (done (passed 1 c)) (turnOf s (x .0) fuel depth c)) (refused eofObject (length s))) t n, holds-passed 1 hc))
 
     module _ (key : getD s (line .walk .at) 0 % 128 ≡ 0x30 → ⊥) where
       pairs-open : (extra₀ : ℕ) → length s ≤ line₀ .walk .at + extra₀
@@ -128,41 +131,34 @@ module _ {s : List ℕ} {room : Room} {allowance : ℕ} {line₀ : Line} {ns₀ 
                 ap₂ (λ b d. cond b (cond d (done (passed 1 c)) (turnOf s (x .0) fuel depth c)) (refused eofObject (length s))) t n),
           )
 
-      module _ {r : Linked} {ns′ es′ ss′ : List ℕ} (f : ReadsMembers (aChild 0) 1 s room allowance line ns es ss r ns′ es′ ss′) where
-        pub key-cut : {n p : ℕ} → r ≡ linked.Refused n p → ReadsPairs s room allowance line₀ ns₀ es₀ ss₀ (linked.Refused n p) ns′ es′ ss′
-        key-cut is = record { lists = λ extra₀ h. let x = pairs-open extra₀ h in inv-cut (childOf s whatever) (Then (childOf s whatever) (couplesOf s (x .0))) (x .2) (f .lists) is }
+      module _ {r : Linked} {ns′ es′ ss′ : List ℕ} (f : Lists (childOf s whatever) 1 s room allowance line ns es ss r ns′ es′ ss′) where
+        pub key-cut : {n p : ℕ} → r ≡ linked.Refused n p → PairLists s room allowance line₀ ns₀ es₀ ss₀ (linked.Refused n p) ns′ es′ ss′
+        key-cut is extra₀ h = let x = pairs-open extra₀ h in inv-cut (childOf s whatever) (Then (childOf s whatever) (couplesOf s (x .0))) (x .2) f is
 
-        module _ {m : Line} (is : r ≡ linked.Line m) (a : length ns′ ≡ length ns) (b : length es′ ≡ length es) (c : length ss′ ≡ length ss) where
-          key-moved : LinkedMoved 1 s room (line .walk) (linked.Line m)
-          key-moved = subst (LinkedMoved 1 s room (line .walk)) is (f .lists .moved)
+        pub key-next : {m : Line} → r ≡ linked.Line m → length ns′ ≡ length ns → length es′ ≡ length es → length ss′ ≡ length ss → InvValue s room allowance line₀ ns₀ es₀ ss₀ ns′ es′ ss′ m
+        key-next {m} is a b c = record { stands = on (length s) (omega arith) .2 .stands; inv = on }
+          where
+            moved : LinkedMoved 1 s room (line .walk) (linked.Line m)
+            moved = subst (LinkedMoved 1 s room (line .walk)) is (f .moved)
 
-          after-key : (extra₀ : ℕ) → length s ≤ line₀ .walk .at + extra₀
-              → (k : ℕ) × (length s ≤ m .walk .at + k) × Inv (couplesOf s extra₀) (Then (childOf s whatever) (couplesOf s k)) s room allowance line₀ ns₀ es₀ ss₀ ns′ es′ ss′ m
-          after-key extra₀ h =
-              let x = pairs-open extra₀ h in
-              (x .0, omega (arith, x .1, key-moved .0), inv-more (childOf s whatever) (Then (childOf s whatever) (couplesOf s (x .0))) (x .2) (f .lists) is a b c)
+            on : (extra₀ : ℕ) → length s ≤ line₀ .walk .at + extra₀
+                → (k : ℕ) × (length s ≤ m .walk .at + k) × Inv (couplesOf s extra₀) (Then (childOf s whatever) (couplesOf s k)) s room allowance line₀ ns₀ es₀ ss₀ ns′ es′ ss′ m
+            on extra₀ h =
+                let x = pairs-open extra₀ h in
+                (x .0, omega (arith, x .1, moved .0), inv-more (childOf s whatever) (Then (childOf s whatever) (couplesOf s (x .0))) (x .2) f is a b c)
 
-          pub key-stands : Stands s room line₀ ns₀ es₀ ss₀ ns′ es′ ss′ m
-          key-stands = after-key (length s) (omega arith) .2 .stands
+module _ {s : List ℕ} {room : Room} {allowance : ℕ} {line₀ : Line} {ns₀ es₀ ss₀ ns es ss : List ℕ} {line : Line} (v : InvValue s room allowance line₀ ns₀ es₀ ss₀ ns es ss line) {r : Linked} {ns′ es′ ss′ : List ℕ} (f : Lists (childOf s whatever) 1 s room allowance line ns es ss r ns′ es′ ss′) where
+  pub item-cut : {n p : ℕ} → r ≡ linked.Refused n p → PairLists s room allowance line₀ ns₀ es₀ ss₀ (linked.Refused n p) ns′ es′ ss′
+  item-cut is extra₀ h = let x = v .inv extra₀ h in inv-cut (childOf s whatever) (couplesOf s (x .0)) (x .2) f is
 
-          module _ {q : Linked} {ns″ es″ ss″ : List ℕ} (g : ReadsMembers (aChild 0) 1 s room allowance m ns′ es′ ss′ q ns″ es″ ss″) where
-            pub item-cut : {n p : ℕ} → q ≡ linked.Refused n p → ReadsPairs s room allowance line₀ ns₀ es₀ ss₀ (linked.Refused n p) ns″ es″ ss″
-            item-cut it = record { lists = λ extra₀ h. let x = after-key extra₀ h in inv-cut (childOf s whatever) (couplesOf s (x .0)) (x .2) (g .lists) it }
+  pub item-next : {m : Line} → r ≡ linked.Line m → length ns′ ≡ length ns → length es′ ≡ length es → length ss′ ≡ length ss → InvPairs s room allowance line₀ ns₀ es₀ ss₀ ns′ es′ ss′ m
+  item-next {m} is a b c = record { stands = on (length s) (omega arith) .2 .stands; inv = on }
+    where
+      moved : LinkedMoved 1 s room (line .walk) (linked.Line m)
+      moved = subst (LinkedMoved 1 s room (line .walk)) is (f .moved)
 
-            module _ {l : Line} (it : q ≡ linked.Line l) where
-              item-moved : LinkedMoved 1 s room (m .walk) (linked.Line l)
-              item-moved = subst (LinkedMoved 1 s room (m .walk)) it (g .lists .moved)
-
-              pub pairs-next : length ns″ ≡ length ns′ → length es″ ≡ length es′ → length ss″ ≡ length ss′ → InvPairs s room allowance line₀ ns₀ es₀ ss₀ ns″ es″ ss″ l
-              pairs-next a′ b′ c′ =
-                  record { stands = next a′ b′ c′ (length s) (omega arith) .2 .stands; inv = next a′ b′ c′ }
-                where
-                  next : length ns″ ≡ length ns′ → length es″ ≡ length es′ → length ss″ ≡ length ss′ → (extra₀ : ℕ) → length s ≤ line₀ .walk .at + extra₀
-                      → (extra : ℕ) × (length s ≤ l .walk .at + extra) × Inv (couplesOf s extra₀) (couplesOf s extra) s room allowance line₀ ns₀ es₀ ss₀ ns″ es″ ss″ l
-                  next a′ b′ c′ extra₀ h =
-                      let x = after-key extra₀ h in
-                      (x .0, omega (arith, x .1, item-moved .0), inv-more (childOf s whatever) (couplesOf s (x .0)) (x .2) (g .lists) it a′ b′ c′)
-
-              -- the measure falls
-              pub pairs-less : length s - l .walk .at < length s - line .walk .at
-              pairs-less = omega (arith, item-moved .0, key-moved .0)
+      on : (extra₀ : ℕ) → length s ≤ line₀ .walk .at + extra₀
+          → (k : ℕ) × (length s ≤ m .walk .at + k) × Inv (couplesOf s extra₀) (couplesOf s k) s room allowance line₀ ns₀ es₀ ss₀ ns′ es′ ss′ m
+      on extra₀ h =
+          let x = v .inv extra₀ h in
+          (x .0, omega (arith, x .1, moved .0), inv-more (childOf s whatever) (couplesOf s (x .0)) (x .2) f is a b c)

@@ -1,7 +1,7 @@
 -- The answers of `value`, one law for each way out: its front refuses, or knows the value, or opens a node whose children are then read.
 -- Assumes nothing.
 use mathlib.Core.Path.{_≡_, refl, sym, ap, subst, subst₂, _∙_}
-use Prim.Native.Nat.{ℕ, zero, suc, _+_, _≤_}
+use Prim.Native.Nat.{ℕ, zero, suc, _+_, _-_, _≤_}
 use native.Mathlib.Omega.{arith}
 use mathlib.Core.List.{List}
 use lib.ListN.{length}
@@ -27,7 +27,8 @@ use Rattle.steps.specs.Held.{rooms, Safe, Holds, LineIn, noLine}
 use Rattle.steps.specs.Opening.{frontOf, Ahead, HeadIn, Fronts}
 use Rattle.steps.proofs.Runs.{bind-gives, bind-stops}
 use Rattle.steps.proofs.States.{front-slots, holds-known, holds-enter, holds-close}
-use Rattle.reader.specs.Readings.{ReadsValue, ReadsMembers, aNode, AgreesChain, LinkedMoved}
+use Rattle.reader.specs.Readings.{ReadsValue, Lists, ReadsBody, bodyOf, AgreesChain, LinkedMoved}
+use Rattle.reader.proofs.Bodies.{node-lists}
 
 -- with fuel for each byte that is left, a value is always one more step
 pub unroll : (s : List ℕ) (fuel depth : ℕ) (st : State) → length s ≤ st .at + fuel
@@ -92,7 +93,10 @@ module _ {s : List ℕ} {room : Room} {allowance : ℕ} {w : Walk} {ns es ss : L
   pub inside-line : LineIn (inside w hd)
   inside-line = record { lastIn = λ n. absurd (n refl); count = omega arith }
 
-  module _ {r : Linked} {ns′ es′ ss′ : List ℕ} (k : ReadsMembers (aNode (w .at) kids) 0 s room allowance (inside w hd) ns es ss r ns′ es′ ss′) where
+  module _ {r : Linked} {ns′ es′ ss′ : List ℕ} (k : ReadsBody kids (w .at) s room (allowance - 1) (inside w hd) ns es ss r ns′ es′ ss′) where
+    held : Lists (bodyOf s (w .at) kids) 0 s room allowance (inside w hd) ns es ss r ns′ es′ ss′
+    held = node-lists allowance (ahead .level) k
+
     -- where the front is passed, the reading of the node's children is that of the value
     kids-at : (fuel depth : ℕ) (st : State) → Holds w ns es ss st → length s ≤ w .at + fuel
         → (k : ℕ) × (run (rooms room (depth + allowance)) (value fuel s depth st) ≡ run (rooms room (depth + allowance)) (after (value k s) s k depth st (opens (hd .letter) (hd .flag) (said hd kids))))
@@ -104,7 +108,7 @@ module _ {s : List ℕ} {room : Room} {allowance : ℕ} {w : Walk} {ns es ss : L
           ap (run (rooms room (depth + allowance))) (u .1)
               ∙ bind-gives (rooms room (depth + allowance)) _ (after (value (u .0) s) s (u .0) depth st) (opens (hd .letter) (hd .flag) (said hd kids)) (front-at f depth st h ∙ ap frontOf is),
           subst (λ at. AgreesChain r ns′ es′ ss′ (run (rooms room (depth + allowance)) (body (value (u .0) s) s (u .0) depth at (childrenOf kids) (fresh (enter st (hd .place + hd .size) (hd .flag)))))) (h .at)
-              (k .lists .exact (u .0) depth (fresh (enter st (hd .place + hd .size) (hd .flag)))
+              (held .exact (u .0) depth (fresh (enter st (hd .place + hd .size) (hd .flag)))
               (record {
                 walk = holds-enter w ns es ss st h (hd .place + hd .size) (hd .flag) (omega (arith, safe, ahead)) (omega (arith, safe, ahead)) (ahead .flag);
                 first = refl;
@@ -136,7 +140,7 @@ module _ {s : List ℕ} {room : Room} {allowance : ℕ} {w : Walk} {ns es ss : L
         → ReadsValue s room allowance w ns es ss (step.Value (w .nodes) (l .walk)) ns″ es′ ss″
     unfolding after run
     value-whole {l} {size} {ns″} {ss″} q ez en ek =
-        let mv : LinkedMoved 0 s room (inside w hd .walk) (linked.Line l) = subst (LinkedMoved 0 s room (inside w hd .walk)) q (k .lists .moved) in
+        let mv : LinkedMoved 0 s room (inside w hd .walk) (linked.Line l) = subst (LinkedMoved 0 s room (inside w hd .walk)) q (held .moved) in
         record {
           moved = omega (arith, mv .0, ahead);
           exact = λ fuel depth st h len.

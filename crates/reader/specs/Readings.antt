@@ -10,6 +10,7 @@ use Rattle.grammar.specs.State.{State}
 use Rattle.grammar.specs.Steps.{Rule, Chain, child, kids, couples, codeParts, firstLine, partsFrom, ended, body, value}
 use Rattle.fields.specs.Behind.{childrenOf}
 use Rattle.fields.specs.declared.Kids.{Kids}
+use Rattle.fields.specs.declared.Kids.the-variants as kind
 use Rattle.steps.specs.declared.Room.{Room}
 use Rattle.steps.specs.declared.Walk.{Walk}
 use Rattle.steps.specs.declared.Line.{Line}
@@ -79,22 +80,22 @@ codeOf s at fuel depth c = bind (partsOf s codeParts 0 fuel (depth + 1) c) (ende
 abbrev pub bodyOf : List ℕ → ℕ → Kids → ChainReader
 bodyOf s at kids fuel depth = body (value fuel s) s fuel depth at (childrenOf kids)
 
--- What a member reads: one child held to a rule, so many children, a code whose header stands at a place, or what a node holds.
-pub data Members : Type 0 where
-  aChild : (rule : ℕ) → Members
-  soMany : (count : ℕ) → Members
-  aCode : (at : ℕ) → Members
-  aNode : (at : ℕ) → Kids → Members
+-- One child, held to a rule.
+abbrev pub Counted : Line → Linked → Type 0
+Counted line (linked.Line l) = l .count ≡ line .count + 1
+Counted line (linked.Refused n p) = Unit
 
-abbrev pub readingOf : List ℕ → Members → ChainReader
-readingOf s (aChild rule) = childOf s (ruleOf rule)
-readingOf s (soMany count) = kidsOf s count
-readingOf s (aCode at) = codeOf s at
-readingOf s (aNode at kids) = bodyOf s at kids
+pub record ReadsChild (rule : ℕ) (s : List ℕ) (room : Room) (allowance : ℕ) (line : Line) (ns es ss : List ℕ) (r : Linked) (ns′ es′ ss′ : List ℕ) : Type 0 where
+  pub counted : Counted line r
+  pub lists : Lists (childOf s (ruleOf rule)) 1 s room allowance line ns es ss r ns′ es′ ss′
 
-pub record ReadsMembers (m : Members) (least : ℕ) (s : List ℕ) (room : Room) (allowance : ℕ) (line : Line) (ns es ss : List ℕ) (r : Linked) (ns′ es′ ss′ : List ℕ) : Type 0 where
-  pub lists : Lists (readingOf s m) least s room allowance line ns es ss r ns′ es′ ss′
+-- What a container or a code's body holds, the node's header at a place: so many children; a dict's pairs, for every fuel that outlasts
+-- the bytes; the parts of a code.
+abbrev pub BodyLists : Kids → ℕ → List ℕ → Room → ℕ → Line → (ns es ss : List ℕ) → Linked → (ns′ es′ ss′ : List ℕ) → Type 0
+BodyLists (kind.Items count) at s room allowance line ns es ss r ns′ es′ ss′ = Lists (kidsOf s count) 0 s room allowance line ns es ss r ns′ es′ ss′
+BodyLists kind.Pairs at s room allowance line ns es ss r ns′ es′ ss′ =
+    (extra : ℕ) → length s ≤ line .walk .at + extra → Lists (couplesOf s extra) 0 s room allowance line ns es ss r ns′ es′ ss′
+BodyLists kind.Parts at s room allowance line ns es ss r ns′ es′ ss′ = Lists (codeOf s at) 0 s room allowance line ns es ss r ns′ es′ ss′
 
--- a dict's pairs, for every fuel that outlasts the bytes
-pub record ReadsPairs (s : List ℕ) (room : Room) (allowance : ℕ) (line : Line) (ns es ss : List ℕ) (r : Linked) (ns′ es′ ss′ : List ℕ) : Type 0 where
-  pub lists : (extra : ℕ) → length s ≤ line .walk .at + extra → Lists (couplesOf s extra) 0 s room allowance line ns es ss r ns′ es′ ss′
+pub record ReadsBody (kids : Kids) (at : ℕ) (s : List ℕ) (room : Room) (allowance : ℕ) (line : Line) (ns es ss : List ℕ) (r : Linked) (ns′ es′ ss′ : List ℕ) : Type 0 where
+  pub lists : BodyLists kids at s room allowance line ns es ss r ns′ es′ ss′

@@ -1,5 +1,5 @@
-// The reader: `deserialize_value`, and below it a reader of values and readers of containers and of code that call one another.
-// The nesting allowance falls where a node hands its children on: by one in a container, and once more in a code's body.
+// The reader: `deserialize_value`, and below it a reader of values and a reader of containers and of code that call one another.
+// The nesting allowance falls from a value to its container or its code's body, and from a code's body to its parts once more.
 ghost use mathlib.Core.Path.{_≡_};
 ghost use Prim.Native.Nat.{ℕ, _+_, _*_, _≤_, _<_, min};
 ghost use lib.ListN.{length, getD};
@@ -7,7 +7,7 @@ ghost use Rattle.grammar.specs.Fields.{parts, codeNumbers};
 ghost use Rattle.grammar.specs.Answer.{readOf};
 ghost use Rattle.fields.specs.Behind.{childrenOf};
 ghost use Rattle.steps.specs.Held.{Safe, LineIn};
-ghost use Rattle.reader.specs.Readings.{ReadsValue, ReadsMembers, ReadsPairs, aChild, soMany, aCode, aNode};
+ghost use Rattle.reader.specs.Readings.{ReadsValue, ReadsBody, ReadsChild};
 ghost use Rattle.reader.specs.Delivered.{Delivers};
 
 // A value, the Rust's deserialize_value_depth: what stands before its children, then these, then its record and its slot, which are
@@ -55,7 +55,17 @@ fn value(
                 kinds: 0,
                 walk: inside,
             };
-            let k = typed(s, nodes, entries, slots, room, allowance, line, kids, w.at);
+            let k = typed(
+                s,
+                nodes,
+                entries,
+                slots,
+                room,
+                allowance - 1,
+                line,
+                kids,
+                w.at,
+            );
             match k {
                 steps::Linked::Refused(number, place) => steps::Step::Refused(number, place),
                 steps::Linked::Line(l) => {
@@ -70,7 +80,9 @@ fn value(
     }
 }
 
-// What a node holds, by the kind of its children, the Rust's deserialize_value_typed: each gets the allowance less one.
+// The children of a container, or the parts of a code, one after another; the Rust's deserialize_value_typed and
+// deserialize_code_value_inner. It has the value's allowance less one, and hands it on to children; a code's body hands its parts one
+// less again.
 fn typed(
     s: &[u8],
     nodes: &mut [u32],
@@ -82,22 +94,32 @@ fn typed(
     kids: fields::Kids,
     header: u32,
 ) -> steps::Linked
-    requires { ⌜ Safe (now s) room (line .walk) (now nodes) (now entries) (now slots) × LineIn line × (0 < allowance) × (childrenOf kids ≡ parts → (2 ≤ allowance) × (header + 1 + codeNumbers ≤ length (now s))) ⌝ }
-    ensures { λ r. ⌜ ReadsMembers (aNode header kids) 0 (now (s .entry)) room allowance line (now (nodes .entry)) (now (entries .entry)) (now (slots .entry)) r (now (nodes .exit)) (now (entries .exit)) (now (slots .exit)) ⌝ }
+    requires { ⌜ Safe (now s) room (line .walk) (now nodes) (now entries) (now slots) × LineIn line × (line .count ≡ 0) × (childrenOf kids ≡ parts → (0 < allowance) × (header + 1 + codeNumbers ≤ length (now s))) ⌝ }
+    ensures { λ r. ⌜ ReadsBody kids header (now (s .entry)) room allowance line (now (nodes .entry)) (now (entries .entry)) (now (slots .entry)) r (now (nodes .exit)) (now (entries .exit)) (now (slots .exit)) ⌝ }
 {
-    match kids {
-        fields::Kids::Items(count) => items(
-            s,
-            nodes,
-            entries,
-            slots,
-            room,
-            allowance - 1,
-            line,
-            count,
-        ),
-        fields::Kids::Pairs => pairs(s, nodes, entries, slots, room, allowance - 1, line),
-        fields::Kids::Parts => code(s, nodes, entries, slots, room, allowance - 1, line, header),
+    let below = steps::below(kids, allowance);
+    let mut l = line;
+    loop {
+        let n = steps::next_child(s, nodes, kids, header, l);
+        match n {
+            steps::Next::Refused(number, place) => {
+                return steps::Linked::Refused(number, place);
+            }
+            steps::Next::Done(m) => {
+                return steps::Linked::Line(m);
+            }
+            steps::Next::Child(m, rule) => {
+                let r = child(s, nodes, entries, slots, room, below, m, rule);
+                match r {
+                    steps::Linked::Refused(number, place) => {
+                        return steps::Linked::Refused(number, place);
+                    }
+                    steps::Linked::Line(k) => {
+                        l = k;
+                    }
+                }
+            }
+        }
     }
 }
 
@@ -113,7 +135,7 @@ fn child(
     rule: u32,
 ) -> steps::Linked
     requires { ⌜ Safe (now s) room (line .walk) (now nodes) (now entries) (now slots) × LineIn line ⌝ }
-    ensures { λ r. ⌜ ReadsMembers (aChild rule) 1 (now (s .entry)) room allowance line (now (nodes .entry)) (now (entries .entry)) (now (slots .entry)) r (now (nodes .exit)) (now (entries .exit)) (now (slots .exit)) ⌝ }
+    ensures { λ r. ⌜ ReadsChild rule (now (s .entry)) room allowance line (now (nodes .entry)) (now (entries .entry)) (now (slots .entry)) r (now (nodes .exit)) (now (entries .exit)) (now (slots .exit)) ⌝ }
 {
     let from = line.walk;
     let c = value(s, nodes, entries, slots, room, allowance, from);
@@ -126,166 +148,6 @@ fn child(
             steps::attach(entries, room.entries, line, from.at, v, after)
         }
     }
-}
-
-// So many children, one after another.
-fn items(
-    s: &[u8],
-    nodes: &mut [u32],
-    entries: &mut [u32],
-    slots: &mut [u32],
-    room: steps::Room,
-    allowance: u32,
-    line: steps::Line,
-    count: u32,
-) -> steps::Linked
-    requires { ⌜ Safe (now s) room (line .walk) (now nodes) (now entries) (now slots) × LineIn line ⌝ }
-    ensures { λ r. ⌜ ReadsMembers (soMany count) 0 (now (s .entry)) room allowance line (now (nodes .entry)) (now (entries .entry)) (now (slots .entry)) r (now (nodes .exit)) (now (entries .exit)) (now (slots .exit)) ⌝ }
-{
-    let mut l = line;
-    let mut i = 0u32;
-    while i < count {
-        let r = child(
-            s,
-            nodes,
-            entries,
-            slots,
-            room,
-            allowance,
-            l,
-            steps::WHATEVER,
-        );
-        match r {
-            steps::Linked::Refused(number, place) => {
-                return steps::Linked::Refused(number, place);
-            }
-            steps::Linked::Line(m) => {
-                l = m;
-            }
-        }
-        i += 1;
-    }
-    steps::Linked::Line(l)
-}
-
-// A dict's keys and values, up to the null in a key's place: that byte is looked at before the key's allowance is tested.
-fn pairs(
-    s: &[u8],
-    nodes: &mut [u32],
-    entries: &mut [u32],
-    slots: &mut [u32],
-    room: steps::Room,
-    allowance: u32,
-    line: steps::Line,
-) -> steps::Linked
-    requires { ⌜ Safe (now s) room (line .walk) (now nodes) (now entries) (now slots) × LineIn line ⌝ }
-    ensures { λ r. ⌜ ReadsPairs (now (s .entry)) room allowance line (now (nodes .entry)) (now (entries .entry)) (now (slots .entry)) r (now (nodes .exit)) (now (entries .exit)) (now (slots .exit)) ⌝ }
-{
-    let mut l = line;
-    loop {
-        let w = l.walk;
-        let at = w.at as usize;
-        if s.len() <= at {
-            return steps::Linked::Refused(refusals::EOF_OBJECT, w.at);
-        }
-        if s[at] % 128 == 0x30 {
-            return steps::Linked::Line(steps::Line {
-                first: l.first,
-                last: l.last,
-                count: l.count,
-                line: l.line,
-                code: l.code,
-                locals: l.locals,
-                kinds: l.kinds,
-                walk: steps::Walk {
-                    at: w.at + 1,
-                    nodes: w.nodes,
-                    entries: w.entries,
-                    slots: w.slots,
-                },
-            });
-        }
-        let r = child(
-            s,
-            nodes,
-            entries,
-            slots,
-            room,
-            allowance,
-            l,
-            steps::WHATEVER,
-        );
-        match r {
-            steps::Linked::Refused(number, place) => {
-                return steps::Linked::Refused(number, place);
-            }
-            steps::Linked::Line(key) => {
-                let q = child(
-                    s,
-                    nodes,
-                    entries,
-                    slots,
-                    room,
-                    allowance,
-                    key,
-                    steps::WHATEVER,
-                );
-                match q {
-                    steps::Linked::Refused(number, place) => {
-                        return steps::Linked::Refused(number, place);
-                    }
-                    steps::Linked::Line(m) => {
-                        l = m;
-                    }
-                }
-            }
-        }
-    }
-}
-
-// A code's body, the Rust's deserialize_code_value_inner: its ten parts get its own allowance less one, the first line stands before the
-// ninth, and the checks at the end are refused at the code's header.
-fn code(
-    s: &[u8],
-    nodes: &mut [u32],
-    entries: &mut [u32],
-    slots: &mut [u32],
-    room: steps::Room,
-    allowance: u32,
-    line: steps::Line,
-    header: u32,
-) -> steps::Linked
-    requires { ⌜ Safe (now s) room (line .walk) (now nodes) (now entries) (now slots) × LineIn line × (0 < allowance) × (header + 1 + codeNumbers ≤ length (now s)) ⌝ }
-    ensures { λ r. ⌜ ReadsMembers (aCode header) 0 (now (s .entry)) room allowance line (now (nodes .entry)) (now (entries .entry)) (now (slots .entry)) r (now (nodes .exit)) (now (entries .exit)) (now (slots .exit)) ⌝ }
-{
-    let mut l = line;
-    let mut i = 0u32;
-    while i < 10 {
-        let g = steps::first_line(s, i, l);
-        match g {
-            steps::Linked::Refused(number, place) => {
-                return steps::Linked::Refused(number, place);
-            }
-            steps::Linked::Line(part) => {
-                let rule = steps::rule_at(i);
-                let r = child(s, nodes, entries, slots, room, allowance - 1, part, rule);
-                match r {
-                    steps::Linked::Refused(number, place) => {
-                        return steps::Linked::Refused(number, place);
-                    }
-                    steps::Linked::Line(m) => {
-                        l = m;
-                    }
-                }
-            }
-        }
-        i += 1;
-    }
-    let fault = steps::code_fault(s, nodes, header + 1, l);
-    if fault != refusals::ACCEPTED {
-        return steps::Linked::Refused(fault, header);
-    }
-    steps::Linked::Line(l)
 }
 
 // The answer: bytes consumed and the counts of nodes, entries and slots; or a refusal's number and place.

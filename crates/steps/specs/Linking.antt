@@ -1,21 +1,25 @@
 -- What the code makes of a line when a child is complete, of a part by its rule, of the first line, and of a code's end.
 use mathlib.Core.Path.{_≡_}
-use Prim.Native.Nat.{ℕ, zero, suc, _+_, _<_}
+use Prim.Native.Nat.{ℕ, zero, suc, _+_, _-_, _%_, _≤_, _<_}
 use mathlib.Core.Bool.{Bool, true, false, cond, _&&_}
 use mathlib.Core.List.{List}
-use lib.ListN.{length}
+use lib.ListN.{length, getD}
 use lib.Dec.{leb, ltb, eqb}
-use Rattle.refusals.specs.Numbers.{dataTooShort, noEntry}
+use Rattle.refusals.specs.Numbers.{accepted, eofObject, dataTooShort, noEntry}
 use Rattle.refusals.specs.Limits.{nothing}
 use Rattle.grammar.specs.Letters.{isBytes, isTuple, isString}
 use Rattle.grammar.specs.Fields.{sumAt, codeFault}
 use Rattle.grammar.specs.State.{nodeAt, entryAt}
-use Rattle.grammar.specs.Steps.{Rule, whatever, asBytes, asTuple, asNames, asString, codePart, localsPart, kindsPart, linePart}
+use Rattle.grammar.specs.Steps.{Rule, whatever, asBytes, asTuple, asNames, asString, rules, codeParts, codePart, localsPart, kindsPart, linePart}
+use Rattle.fields.specs.declared.Kids.{Kids}
+use Rattle.fields.specs.declared.Kids.the-variants as kind
 use Rattle.stores.specs.Written.{entryWritten, entryLinked}
 use Rattle.steps.specs.declared.Walk.{Walk}
 use Rattle.steps.specs.declared.Line.{Line}
 use Rattle.steps.specs.declared.Linked.{Linked}
 use Rattle.steps.specs.declared.Linked.the-variants as linked
+use Rattle.steps.specs.declared.Next.{Next}
+use Rattle.steps.specs.declared.Next.the-variants as next
 
 -- A child with its entry.
 
@@ -111,3 +115,38 @@ firstLined s i l =
 abbrev pub faultIn : List ℕ → List ℕ → ℕ → Line → ℕ
 faultIn s ns place l =
     codeFault (sumAt s place) (nodeAt ns (l .code) .size) (nodeAt ns (l .locals) .count) (nodeAt ns (l .kinds) .size)
+
+-- What comes next among the children of a node, by the kind of these.
+abbrev pub ItemNext : ℕ → Line → Next → Type 0
+ItemNext count l (next.Child m rule) = (m ≡ l) × (rule ≡ 0) × (l .count < count)
+ItemNext count l (next.Done m) = (m ≡ l) × (count ≤ l .count)
+ItemNext count l (next.Refused n p) = ⊥
+
+-- a key stands where as many keys as values are read
+abbrev pub PairNext : List ℕ → Line → Next → Type 0
+PairNext s l (next.Child m rule) =
+    (m ≡ l) × (rule ≡ 0) × (l .count % 2 ≡ 0 → (l .walk .at < length s) × (getD s (l .walk .at) 0 % 128 ≡ 0x30 → ⊥))
+PairNext s l (next.Done m) = (m ≡ lineOn 1 l) × (l .count % 2 ≡ 0) × (l .walk .at < length s) × (getD s (l .walk .at) 0 % 128 ≡ 0x30)
+PairNext s l (next.Refused n p) = (n ≡ eofObject) × (p ≡ l .walk .at) × (l .count % 2 ≡ 0) × (length s ≤ l .walk .at)
+
+abbrev pub PartNext : (s ns : List ℕ) → ℕ → Line → Next → Type 0
+PartNext s ns at l (next.Child m rule) =
+    (firstLined s (l .count) l ≡ linked.Line m) × (ruleOf rule ≡ getD rules (l .count) whatever) × (l .count < codeParts)
+PartNext s ns at l (next.Done m) = (m ≡ l) × (codeParts ≤ l .count) × (faultIn s ns (at + 1) l ≡ accepted)
+PartNext s ns at l (next.Refused n p) =
+    (l .count < codeParts → firstLined s (l .count) l ≡ linked.Refused n p)
+    × (codeParts ≤ l .count → (p ≡ at) × (n ≡ faultIn s ns (at + 1) l) × (n ≡ accepted → ⊥))
+
+abbrev pub NextOf : (s ns : List ℕ) → Kids → ℕ → Line → Next → Type 0
+NextOf s ns (kind.Items count) at l r = ItemNext count l r
+NextOf s ns kind.Pairs at l r = PairNext s l r
+NextOf s ns kind.Parts at l r = PartNext s ns at l r
+
+pub record Nexts (s ns : List ℕ) (kids : Kids) (at : ℕ) (l : Line) (r : Next) : Type 0 where
+  pub is : NextOf s ns kids at l r
+
+-- the allowance of a node's children, of what the container or the code's body has
+abbrev pub belowOf : Kids → ℕ → ℕ
+belowOf (kind.Items count) allowance = allowance
+belowOf kind.Pairs allowance = allowance
+belowOf kind.Parts allowance = allowance - 1

@@ -7,13 +7,13 @@ ghost use lib.Dec.{eqb};
 ghost use lib.ListN.{length, getD};
 ghost use Rattle.refusals.specs.Limits.{mostBytes, mostRecords, nothing};
 ghost use Rattle.grammar.specs.Letters.{isBytes, isTuple, isString};
-ghost use Rattle.grammar.specs.Fields.{sumAt, codeNumbers};
+ghost use Rattle.grammar.specs.Fields.{parts, sumAt, codeNumbers};
 ghost use Rattle.grammar.specs.State.{entryWidth};
-ghost use Rattle.grammar.specs.Steps.{rules, whatever, sizeOf};
+ghost use Rattle.grammar.specs.Steps.{rules, whatever, codeParts, sizeOf};
 ghost use Rattle.fields.specs.Classes.{keptClasses};
 ghost use Rattle.fields.specs.Behind.{childrenOf};
 ghost use Rattle.steps.specs.Opening.{References, Opens, Fronts};
-ghost use Rattle.steps.specs.Linking.{Attaches, ruleOf, stringsIn, suitsIn, firstLined, faultIn};
+ghost use Rattle.steps.specs.Linking.{Attaches, ItemNext, PairNext, PartNext, Nexts, belowOf, ruleOf, stringsIn, suitsIn, firstLined, faultIn};
 ghost use Rattle.steps.specs.Linking;
 
 // How much of each store may be used.
@@ -67,6 +67,13 @@ pub struct Line {
 
 pub enum Linked {
     Line(Line),
+    Refused(u32, u32),
+}
+
+// What comes next among a node's children: one more, held to a rule; or they are done, and the line stands behind them.
+pub enum Next {
+    Child(Line, u32),
+    Done(Line),
     Refused(u32, u32),
 }
 
@@ -385,5 +392,102 @@ pub fn node_size(kids: fields::Kids, place: u32, size: u32, line: u32) -> u32
             }
             line - place
         }
+    }
+}
+
+// So many children.
+fn next_item(count: u32, line: Line) -> Next
+    ensures { λ r. ⌜ ItemNext count line r ⌝ }
+{
+    if line.count < count {
+        return Next::Child(line, WHATEVER);
+    }
+    Next::Done(line)
+}
+
+// A dict's keys and values, up to the null in a key's place: that byte is looked at before the key's allowance is tested.
+fn next_key(s: &[u8], line: Line) -> Next
+    requires { ⌜ (line .walk .at ≤ length (now s)) × (length (now s) ≤ mostBytes) ⌝ }
+    ensures { λ r. ⌜ PairNext (now (s .entry)) line r ⌝ }
+{
+    if line.count % 2 != 0 {
+        return Next::Child(line, WHATEVER);
+    }
+    let w = line.walk;
+    if s.len() <= w.at as usize {
+        return Next::Refused(refusals::EOF_OBJECT, w.at);
+    }
+    if byte_at(s, w.at) % 128 != 0x30 {
+        return Next::Child(line, WHATEVER);
+    }
+    let walk = Walk {
+        at: w.at + 1,
+        nodes: w.nodes,
+        entries: w.entries,
+        slots: w.slots,
+    };
+    Next::Done(Line {
+        first: line.first,
+        last: line.last,
+        count: line.count,
+        line: line.line,
+        code: line.code,
+        locals: line.locals,
+        kinds: line.kinds,
+        walk,
+    })
+}
+
+// After the last part of a code the checks at its end, which are refused at its header.
+fn code_end(s: &[u8], nodes: &[u32], header: u32, line: Line) -> Next
+    requires { ⌜ (codeParts ≤ line .count) × (header + 1 + codeNumbers ≤ length (now s)) × (length (now s) ≤ mostBytes) ⌝ }
+    ensures { λ r. ⌜ PartNext (now (s .entry)) (now (nodes .entry)) header line r ⌝ }
+{
+    let fault = code_fault(s, nodes, header + 1, line);
+    if fault != refusals::ACCEPTED {
+        return Next::Refused(fault, header);
+    }
+    Next::Done(line)
+}
+
+// A code's ten parts, each held to its rule, the first line before the ninth.
+fn next_part(s: &[u8], nodes: &[u32], header: u32, line: Line) -> Next
+    requires { ⌜ (line .walk .at ≤ length (now s)) × (header + 1 + codeNumbers ≤ length (now s)) × (length (now s) ≤ mostBytes) ⌝ }
+    ensures { λ r. ⌜ PartNext (now (s .entry)) (now (nodes .entry)) header line r ⌝ }
+{
+    if 10 <= line.count {
+        return code_end(s, nodes, header, line);
+    }
+    let g = first_line(s, line.count, line);
+    match g {
+        Linked::Refused(number, place) => Next::Refused(number, place),
+        Linked::Line(part) => {
+            let rule = rule_at(line.count);
+            Next::Child(part, rule)
+        }
+    }
+}
+
+// What comes next among the children of a node of any kind.
+pub fn next_child(s: &[u8], nodes: &[u32], kids: fields::Kids, header: u32, line: Line) -> Next
+    requires { ⌜ (line .walk .at ≤ length (now s)) × (length (now s) ≤ mostBytes) × (childrenOf kids ≡ parts → header + 1 + codeNumbers ≤ length (now s)) ⌝ }
+    ensures { λ r. ⌜ Nexts (now (s .entry)) (now (nodes .entry)) kids header line r ⌝ }
+{
+    match kids {
+        fields::Kids::Items(count) => next_item(count, line),
+        fields::Kids::Pairs => next_key(s, line),
+        fields::Kids::Parts => next_part(s, nodes, header, line),
+    }
+}
+
+// The allowance of a node's children: a container's have what the container has, and a code's body hands its parts one less again.
+pub fn below(kids: fields::Kids, allowance: u32) -> u32
+    requires { ⌜ (childrenOf kids ≡ parts → 0 < allowance) ⌝ }
+    ensures { λ r. ⌜ r ≡ belowOf kids allowance ⌝ }
+{
+    match kids {
+        fields::Kids::Items(_) => allowance,
+        fields::Kids::Pairs => allowance,
+        fields::Kids::Parts => allowance - 1,
     }
 }
