@@ -106,7 +106,7 @@ module _ (s : List ℕ) (small : length s ≤ mostBytes) (bytes : (i : ℕ) → 
       deeper-claimed : {t : Need} → Claimed t g st → Claimed (raise level (depth + 2) t) g st
       deeper-claimed k = record { nodes = k .nodes; entries = k .entries; slots = k .slots }
 
-  front-keeps : (st : State) (t : Need) (depth : ℕ) → Holds s t st → Follows Q C (Fronted s st) t (front s depth (st .at) (length (st .nodes)) (length (st .slots)) (st .slots))
+  pub front-keeps : (st : State) (t : Need) (depth : ℕ) → Holds s t st → Follows Q C (Fronted s st) t (front s depth (st .at) (length (st .nodes)) (length (st .slots)) (st .slots))
   unfolding front
   front-keeps st t depth h = (
     h .within,

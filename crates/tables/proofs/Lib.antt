@@ -1,0 +1,4 @@
+pub mod Round
+pub mod Chains
+pub mod Codes
+pub mod Groups

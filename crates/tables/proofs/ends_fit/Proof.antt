@@ -1,0 +1,50 @@
+-- Three parts' numbers, compared. Assumes nothing.
+use Rattle.tables.proofs.Codes.{ends-not, ends-so}
+use Rattle.grammar.specs.State.{Node}
+use borrow.Author.Tests.{eq-eqb, ne-eqb}
+use native.Mathlib.Omega.{arith}
+use mathlib.Core.Path.{ap, sym, _∙_}
+use borrow.Author.Needs.{needs}
+use Rattle.tables.proofs.ends_fit.Statement.{statement}
+use Rattle.tables.proofs.ends_fit.Tie as tie
+use Rattle.tables.proofs.ends_fit.Reads as reads
+use Rattle.tables.proofs.ends_fit.Lts as lts
+use Rattle.tables.proofs.node_at.Reads as node-at-reads
+use Rattle.tables.proofs.part_at.Reads as part-at-reads
+
+part-at-requires : tie.Need-part-at-requires
+part-at-requires c κs = search needs
+
+node-at-requires : tie.Need-node-at-requires
+node-at-requires c κs = search needs
+
+part-at-requires-2 : tie.Need-part-at-requires-2
+part-at-requires-2 c κs = search needs
+
+node-at-requires-2 : tie.Need-node-at-requires-2
+node-at-requires-2 c κs = search needs
+
+part-at-requires-3 : tie.Need-part-at-requires-3
+part-at-requires-3 c κs = search needs
+
+node-at-requires-3 : tie.Need-node-at-requires-3
+node-at-requires-3 c κs = search needs
+
+returns : tie.Need-returns
+returns c = ends-not (c .before .before .before .before .before .before .before .before .before .before .before .args .nodes .now) (c .before .before .before .before .before .before .before .before .part-at .ensures) (c .before .before .before .before .before .before .part-at2 .ensures) (c .before .before .before .before .part-at3 .ensures) (ap (λ (m : Node). m .count) (c .before .before .before .before .before .node-at2 .ensures)) (ap (λ (m : Node). m .size) (c .before .before .before .node-at3 .ensures)) (λ e. omega arith)
+
+returns-2 : tie.Need-returns-2
+returns-2 c = ends-so (c .before .before .before .before .before .before .before .before .before .before .before .before .args .nodes .now) (c .before .before .before .before .before .before .before .before .before .part-at .ensures) (c .before .before .before .before .before .before .before .part-at2 .ensures) (c .before .before .before .before .before .part-at3 .ensures) (ap (λ (m : Node). m .size) (c .before .before .before .before .before .before .before .before .node-at .ensures)) (ap (λ (m : Node). m .count) (c .before .before .before .before .before .before .node-at2 .ensures)) (ap (λ (m : Node). m .size) (c .before .before .before .before .node-at3 .ensures)) (omega arith)
+
+pub ends-fit-spec : {M : Type 1} → statement M
+ends-fit-spec =
+    tie.close
+    (tie.spec
+    part-at-requires
+    node-at-requires
+    part-at-requires-2
+    node-at-requires-2
+    part-at-requires-3
+    node-at-requires-3
+    returns
+    returns-2)

@@ -1,0 +1,65 @@
+-- Carried by `Walking`: what is left of the walk still tells the same. Assumes nothing.
+use Rattle.tables.proofs.Chains.{Walking, walk-start, walk-stop, walk-more, walk-end, inside, onto, outside, within-room, linked-is}
+use native.Mathlib.Omega.{arith}
+use Prim.Native.Nat.{_-_}
+use borrow.Author.Needs.{needs}
+use Rattle.tables.proofs.linked.Statement.{statement}
+use Rattle.tables.proofs.linked.Tie as tie
+use Rattle.tables.proofs.linked.Reads as reads
+use Rattle.tables.proofs.linked.Lts as lts
+use Rattle.tables.proofs.entries_in.Reads as entries-in-reads
+use Rattle.tables.proofs.lesser.Reads as lesser-reads
+use Rattle.tables.proofs.next.Reads as next-reads
+
+abbrev Inv-loop : tie.InvT-loop
+Inv-loop entries used first count room steps e₀ i₀ e i = Walking (inside entries used) (onto entries) steps first i e
+
+abbrev μ-loop : tie.MeasureT-loop
+μ-loop entries used first count room steps e₀ i₀ e i = steps - i
+
+entries-in-requires : tie.Need-entries-in-requires Inv-loop μ-loop
+entries-in-requires c κs = search needs
+
+add-lesser : tie.Need-add-lesser Inv-loop μ-loop
+add-lesser c = search needs
+
+lesser-requires : tie.Need-lesser-requires Inv-loop μ-loop
+lesser-requires c κs = search needs
+
+loop-holds : tie.Need-loop-holds Inv-loop μ-loop
+loop-holds c = walk-start _ _ _ _
+
+returns : tie.Need-returns Inv-loop μ-loop
+returns c = linked-is (c .before .before .before .before .before .before .args .entries .now) (c .before .before .before .before .before .before .args .used) (c .before .before .before .before .before .before .args .count) (c .before .before .before .before .before .before .args .first) (c .before .before .before .before .entries-in .ensures .0) (c .before .before .before .lesser .ensures) (walk-stop _ _ _ _ (c .before .before .loop .inv) (c .before .loop-test .taken) (outside (c .before .before .before .before .before .before .args .entries .now) (c .before .before .before .before .before .before .args .used) (c .before .before .loop .e) (c .before .before .before .before .entries-in .ensures .0) (omega arith)))
+
+next-requires : tie.Need-next-requires Inv-loop μ-loop
+next-requires c κs = search needs
+
+add-i : tie.Need-add-i Inv-loop μ-loop
+add-i c = search needs
+
+loop-less : tie.Need-loop-less Inv-loop μ-loop
+loop-less c = search needs
+
+loop-again : tie.Need-loop-again Inv-loop μ-loop
+loop-again c = walk-more _ _ _ _ (c .before .before .before .loop .inv) (c .before .before .loop-test .taken) (within-room (c .before .before .before .before .before .before .before .args .entries .now) (c .before .before .before .before .before .before .before .args .used) (c .before .before .before .loop .e) (c .before .before .before .before .before .entries-in .ensures .0) (omega arith)) (c .next .ensures)
+
+returns-2 : tie.Need-returns-2 Inv-loop μ-loop
+returns-2 c = linked-is (c .before .before .before .before .before .args .entries .now) (c .before .before .before .before .before .args .used) (c .before .before .before .before .before .args .count) (c .before .before .before .before .before .args .first) (c .before .before .before .entries-in .ensures .0) (c .before .before .lesser .ensures) (walk-end _ _ _ _ (c .before .loop .inv) (omega arith))
+
+pub linked-spec : {M : Type 1} → statement M
+linked-spec =
+    tie.close
+    (tie.spec
+    Inv-loop
+    μ-loop
+    entries-in-requires
+    add-lesser
+    lesser-requires
+    loop-holds
+    returns
+    next-requires
+    add-i
+    loop-less
+    loop-again
+    returns-2)

@@ -1,0 +1,82 @@
+-- Carried by `Walking` over sound strings. Assumes nothing.
+use Rattle.tables.proofs.Chains.{Walking, walk-start, walk-stop, walk-more, walk-end, spelt, onto, spelt-outside, spelt-as, named-are}
+use Rattle.tables.specs.Looking.{lent}
+use borrow.Author.Tests.{not-true, not-false}
+use native.Mathlib.Omega.{arith}
+use mathlib.Core.Path.{_∙_}
+use Prim.Native.Nat.{_-_}
+use borrow.Author.Needs.{needs}
+use Rattle.tables.proofs.named.Statement.{statement}
+use Rattle.tables.proofs.named.Tie as tie
+use Rattle.tables.proofs.named.Reads as reads
+use Rattle.tables.proofs.named.Lts as lts
+use Rattle.tables.proofs.child.Reads as child-reads
+use Rattle.tables.proofs.entries_in.Reads as entries-in-reads
+use Rattle.tables.proofs.lesser.Reads as lesser-reads
+use Rattle.tables.proofs.next.Reads as next-reads
+use Rattle.tables.proofs.string_at.Reads as string-at-reads
+
+abbrev Inv-loop : tie.InvT-loop
+Inv-loop s nodes entries used first count room steps e₀ i₀ e i = Walking (spelt (lent s nodes entries used)) (onto entries) steps first i e
+
+abbrev μ-loop : tie.MeasureT-loop
+μ-loop s nodes entries used first count room steps e₀ i₀ e i = steps - i
+
+entries-in-requires : tie.Need-entries-in-requires Inv-loop μ-loop
+entries-in-requires c κs = search needs
+
+add-lesser : tie.Need-add-lesser Inv-loop μ-loop
+add-lesser c = search needs
+
+lesser-requires : tie.Need-lesser-requires Inv-loop μ-loop
+lesser-requires c κs = search needs
+
+loop-holds : tie.Need-loop-holds Inv-loop μ-loop
+loop-holds c = walk-start _ _ _ _
+
+returns : tie.Need-returns Inv-loop μ-loop
+returns c = named-are (lent (c .before .before .before .before .before .before .before .before .args .s .now) (c .before .before .before .before .before .before .before .before .args .nodes .now) (c .before .before .before .before .before .before .before .before .args .entries .now) (c .before .before .before .before .before .before .before .before .args .used)) (c .before .before .before .before .before .before .before .before .args .count) (c .before .before .before .before .before .before .before .before .args .first) (c .before .before .before .before .entries-in .ensures .0) (c .before .before .before .lesser .ensures) (walk-stop _ _ _ _ (c .before .before .loop .inv) (c .before .loop-test .taken) (spelt-outside (lent (c .before .before .before .before .before .before .before .before .args .s .now) (c .before .before .before .before .before .before .before .before .args .nodes .now) (c .before .before .before .before .before .before .before .before .args .entries .now) (c .before .before .before .before .before .before .before .before .args .used)) (c .before .before .loop .e) (c .before .before .before .before .entries-in .ensures .0) (omega arith)))
+
+child-requires : tie.Need-child-requires Inv-loop μ-loop
+child-requires c κs = search needs
+
+string-at-requires : tie.Need-string-at-requires Inv-loop μ-loop
+string-at-requires c κs = search needs
+
+returns-2 : tie.Need-returns-2 Inv-loop μ-loop
+returns-2 c = named-are (lent (c .before .before .before .before .before .before .before .before .before .before .before .args .s .now) (c .before .before .before .before .before .before .before .before .before .before .before .args .nodes .now) (c .before .before .before .before .before .before .before .before .before .before .before .args .entries .now) (c .before .before .before .before .before .before .before .before .before .before .before .args .used)) (c .before .before .before .before .before .before .before .before .before .before .before .args .count) (c .before .before .before .before .before .before .before .before .before .before .before .args .first) (c .before .before .before .before .before .before .before .entries-in .ensures .0) (c .before .before .before .before .before .before .lesser .ensures) (walk-stop _ _ _ _ (c .before .before .before .before .before .loop .inv) (c .before .before .before .before .loop-test .taken) (spelt-as (lent (c .before .before .before .before .before .before .before .before .before .before .before .args .s .now) (c .before .before .before .before .before .before .before .before .before .before .before .args .nodes .now) (c .before .before .before .before .before .before .before .before .before .before .before .args .entries .now) (c .before .before .before .before .before .before .before .before .before .before .before .args .used)) (c .before .before .before .before .before .loop .e) (c .before .before .before .before .before .before .before .entries-in .ensures .0) (omega arith) (c .before .before .child .result) (c .before .before .child .ensures) (c .before .string-at .ensures) ∙ not-true _ (c .if2 .taken)))
+
+next-requires : tie.Need-next-requires Inv-loop μ-loop
+next-requires c κs = search needs
+
+add-i : tie.Need-add-i Inv-loop μ-loop
+add-i c = search needs
+
+loop-less : tie.Need-loop-less Inv-loop μ-loop
+loop-less c = search needs
+
+loop-again : tie.Need-loop-again Inv-loop μ-loop
+loop-again c = walk-more _ _ _ _ (c .before .before .before .before .before .before .loop .inv) (c .before .before .before .before .before .loop-test .taken) (spelt-as (lent (c .before .before .before .before .before .before .before .before .before .before .before .before .args .s .now) (c .before .before .before .before .before .before .before .before .before .before .before .before .args .nodes .now) (c .before .before .before .before .before .before .before .before .before .before .before .before .args .entries .now) (c .before .before .before .before .before .before .before .before .before .before .before .before .args .used)) (c .before .before .before .before .before .before .loop .e) (c .before .before .before .before .before .before .before .before .entries-in .ensures .0) (omega arith) (c .before .before .before .child .result) (c .before .before .before .child .ensures) (c .before .before .string-at .ensures) ∙ not-false _ (c .before .if2 .left)) (c .next .ensures)
+
+returns-3 : tie.Need-returns-3 Inv-loop μ-loop
+returns-3 c = named-are (lent (c .before .before .before .before .before .before .before .args .s .now) (c .before .before .before .before .before .before .before .args .nodes .now) (c .before .before .before .before .before .before .before .args .entries .now) (c .before .before .before .before .before .before .before .args .used)) (c .before .before .before .before .before .before .before .args .count) (c .before .before .before .before .before .before .before .args .first) (c .before .before .before .entries-in .ensures .0) (c .before .before .lesser .ensures) (walk-end _ _ _ _ (c .before .loop .inv) (omega arith))
+
+pub named-spec : {M : Type 1} → statement M
+named-spec =
+    tie.close
+    (tie.spec
+    Inv-loop
+    μ-loop
+    entries-in-requires
+    add-lesser
+    lesser-requires
+    loop-holds
+    returns
+    child-requires
+    string-at-requires
+    returns-2
+    next-requires
+    add-i
+    loop-less
+    loop-again
+    returns-3)

@@ -1,0 +1,57 @@
+-- Five numbers, one after another. Assumes nothing.
+use mathlib.Core.Path.{_≡_}
+use borrow.Author.Needs.{needs}
+use Rattle.tables.proofs.node_at.Statement.{statement}
+use Rattle.tables.proofs.node_at.Tie as tie
+use Rattle.tables.proofs.node_at.Reads as reads
+use Rattle.tables.proofs.node_at.Lts as lts
+use Rattle.tables.proofs.word_at.Reads as word-at-reads
+
+mul-at : tie.Need-mul-at
+mul-at c = search needs
+
+word-at-requires : tie.Need-word-at-requires
+word-at-requires c κs = search needs
+
+add-word-at : tie.Need-add-word-at
+add-word-at c = search needs
+
+word-at-requires-2 : tie.Need-word-at-requires-2
+word-at-requires-2 c κs = search needs
+
+add-word-at-2 : tie.Need-add-word-at-2
+add-word-at-2 c = search needs
+
+word-at-requires-3 : tie.Need-word-at-requires-3
+word-at-requires-3 c κs = search needs
+
+add-word-at-3 : tie.Need-add-word-at-3
+add-word-at-3 c = search needs
+
+word-at-requires-4 : tie.Need-word-at-requires-4
+word-at-requires-4 c κs = search needs
+
+add-word-at-4 : tie.Need-add-word-at-4
+add-word-at-4 c = search needs
+
+word-at-requires-5 : tie.Need-word-at-requires-5
+word-at-requires-5 c κs = search needs
+
+returns : tie.Need-returns
+returns c = cc (c .before .before .before .before .word-at .ensures, c .before .before .before .word-at2 .ensures, c .before .before .word-at3 .ensures, c .before .word-at4 .ensures, c .word-at5 .ensures)
+
+pub node-at-spec : {M : Type 1} → statement M
+node-at-spec =
+    tie.close
+    (tie.spec
+    mul-at
+    word-at-requires
+    add-word-at
+    word-at-requires-2
+    add-word-at-2
+    word-at-requires-3
+    add-word-at-3
+    word-at-requires-4
+    add-word-at-4
+    word-at-requires-5
+    returns)

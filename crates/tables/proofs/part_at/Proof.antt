@@ -1,0 +1,52 @@
+-- Carried by `Reaching`: what is left of the way leads to the same entry. Assumes nothing.
+use Rattle.tables.proofs.Codes.{Reaching, reaching-none, reaching-more, reaching-end}
+use native.Mathlib.Omega.{arith}
+use Prim.Native.Nat.{_-_}
+use borrow.Author.Needs.{needs}
+use Rattle.tables.proofs.part_at.Statement.{statement}
+use Rattle.tables.proofs.part_at.Tie as tie
+use Rattle.tables.proofs.part_at.Reads as reads
+use Rattle.tables.proofs.part_at.Lts as lts
+use Rattle.tables.proofs.child.Reads as child-reads
+use Rattle.tables.proofs.next.Reads as next-reads
+
+abbrev Inv-loop : tie.InvT-loop
+Inv-loop entries first part e₀ i₀ e i = Reaching entries first part i e
+
+abbrev μ-loop : tie.MeasureT-loop
+μ-loop entries first part e₀ i₀ e i = part - i
+
+loop-holds : tie.Need-loop-holds Inv-loop μ-loop
+loop-holds c = reaching-none _ _ _
+
+next-requires : tie.Need-next-requires Inv-loop μ-loop
+next-requires c κs = search needs
+
+add-i : tie.Need-add-i Inv-loop μ-loop
+add-i c = search needs
+
+loop-less : tie.Need-loop-less Inv-loop μ-loop
+loop-less c = search needs
+
+loop-again : tie.Need-loop-again Inv-loop μ-loop
+loop-again c = reaching-more (c .before .before .loop .inv) (c .before .loop-test .taken) (c .next .ensures)
+
+child-requires : tie.Need-child-requires Inv-loop μ-loop
+child-requires c κs = search needs
+
+returns : tie.Need-returns Inv-loop μ-loop
+returns c = reaching-end (c .before .before .loop .inv) (omega arith) (c .child .ensures)
+
+pub part-at-spec : {M : Type 1} → statement M
+part-at-spec =
+    tie.close
+    (tie.spec
+    Inv-loop
+    μ-loop
+    loop-holds
+    next-requires
+    add-i
+    loop-less
+    loop-again
+    child-requires
+    returns)

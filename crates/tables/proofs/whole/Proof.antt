@@ -1,0 +1,33 @@
+-- The node's own record, then its chain. Assumes nothing.
+use Rattle.tables.proofs.Chains.{whole-not, whole-is}
+use Rattle.tables.specs.Looking.{lent}
+use Rattle.grammar.specs.State.{Node}
+use borrow.Author.Tests.{not-true, not-false}
+use mathlib.Core.Path.{ap}
+use borrow.Author.Needs.{needs}
+use Rattle.tables.proofs.whole.Statement.{statement}
+use Rattle.tables.proofs.whole.Tie as tie
+use Rattle.tables.proofs.whole.Reads as reads
+use Rattle.tables.proofs.whole.Lts as lts
+use Rattle.records.proofs.sound_at.Reads as sound-at-reads
+use Rattle.tables.proofs.linked.Reads as linked-reads
+use Rattle.tables.proofs.node_at.Reads as node-at-reads
+
+sound-at-requires : tie.Need-sound-at-requires
+sound-at-requires c κs = search needs
+
+returns : tie.Need-returns
+returns c = whole-not (lent (c .before .before .before .before .before .args .s .now) (c .before .before .before .before .before .args .nodes .now) (c .before .before .before .before .before .args .entries .now) (c .before .before .before .before .before .args .used)) (c .before .before .before .before .before .args .node) (c .before .sound-at .ensures) (not-true _ (c .if1 .taken))
+
+node-at-requires : tie.Need-node-at-requires
+node-at-requires c κs = search needs
+
+linked-requires : tie.Need-linked-requires
+linked-requires c κs = search needs
+
+returns-2 : tie.Need-returns-2
+returns-2 c = whole-is (lent (c .before .before .before .before .before .before .before .args .s .now) (c .before .before .before .before .before .before .before .args .nodes .now) (c .before .before .before .before .before .before .before .args .entries .now) (c .before .before .before .before .before .before .before .args .used)) (c .before .before .before .before .before .before .before .args .node) (c .before .node-at .result .count) (c .before .node-at .result .first) (c .before .before .before .sound-at .ensures) (not-false _ (c .before .before .if1 .left)) (ap (λ (m : Node). m .count) (c .before .node-at .ensures)) (ap (λ (m : Node). m .first) (c .before .node-at .ensures)) (c .linked .ensures)
+
+pub whole-spec : {M : Type 1} → statement M
+whole-spec =
+    tie.close (tie.spec sound-at-requires returns node-at-requires linked-requires returns-2)

@@ -1,0 +1,390 @@
+// What the writer asks of the stores it is lent before it writes a node: its record, its chain, and the parts of a code.
+// Everything here only reads, and holds for any stores whatever: a number past a store reads as 0, as the definitions have it.
+ghost use mathlib.Core.Path.{_≡_};
+ghost use mathlib.Core.Bool.{true, cond, _&&_};
+ghost use Prim.Native.Nat.{_+_, _*_, _≤_, _<_, min};
+ghost use lib.ListN.{length, getD};
+ghost use Rattle.refusals.specs.Limits.{mostBytes};
+ghost use Rattle.grammar.specs.Letters;
+ghost use Rattle.grammar.specs.State.{nodeAt, entryAt};
+ghost use Rattle.grammar.specs.Steps.{rules, whatever};
+ghost use Rattle.grammar.specs.Record;
+ghost use Rattle.records.specs.Nodes.{nodeOf};
+ghost use Rattle.grammar.specs.Fields.{contents};
+ghost use Rattle.localsplus.specs.Kind;
+ghost use Rattle.writing.specs.Names.{contentsOf, sameBytes, namedIn};
+ghost use Rattle.tables.specs.Groups.{localsIn, inGroup, groupIn, Listed};
+ghost use Rattle.tables.specs.Looking.{lent, links, isSome, isNone, stringAt, Names, NamesFit, Parts, after, partOf, evenly, Looks};
+
+// The bits of a kind.
+pub const LOCAL: u32 = 0x20;
+
+pub const CELL: u32 = 0x40;
+
+pub const FREE: u32 = 0x80;
+
+// How many nodes and how many entries are said to be used.
+pub struct Used {
+    pub nodes: u32,
+    pub entries: u32,
+}
+
+fn lesser(a: u32, b: u32) -> u32
+    ensures { λ r. ⌜ r ≡ min a b ⌝ }
+{
+    if a < b { a } else { b }
+}
+
+fn word_at(store: &[u32], at: usize) -> u32
+    ensures { λ r. ⌜ r ≡ getD (now (store .entry)) at 0 ⌝ }
+{
+    if at < store.len() {
+        return store[at];
+    }
+    0
+}
+
+// The node of an entry, and the entry after it.
+pub fn child(entries: &[u32], entry: u32) -> u32
+    ensures { λ r. ⌜ r ≡ entryAt (now (entries .entry)) entry .child ⌝ }
+{
+    word_at(entries, entry as usize * 2)
+}
+
+pub fn next(entries: &[u32], entry: u32) -> u32
+    ensures { λ r. ⌜ r ≡ entryAt (now (entries .entry)) entry .next ⌝ }
+{
+    word_at(entries, entry as usize * 2 + 1)
+}
+
+// The record of a node.
+pub fn node_at(nodes: &[u32], node: u32) -> records::Node
+    ensures { λ r. ⌜ nodeOf r ≡ nodeAt (now (nodes .entry)) node ⌝ }
+{
+    let at = node as usize * 5;
+    records::Node {
+        letter: word_at(nodes, at),
+        place: word_at(nodes, at + 1),
+        size: word_at(nodes, at + 2),
+        first: word_at(nodes, at + 3),
+        count: word_at(nodes, at + 4),
+    }
+}
+
+// How many entries of a store may be named, where so many are said to be used.
+fn entries_in(entries: &[u32], used: u32) -> u32
+    ensures { λ r. ⌜ (r ≡ Record.entriesIn (now (entries .entry)) used) × (r ≤ 1048576) ⌝ }
+{
+    let held = entries.len() / 2;
+    let most = lesser(used, refusals::MOST_RECORDS);
+    if held < most as usize {
+        return held as u32;
+    }
+    most
+}
+
+// Whether so many entries are linked from one on. More steps than there are entries can only go round, and are not taken.
+pub fn linked(entries: &[u32], used: u32, first: u32, count: u32) -> bool
+    ensures { λ r. ⌜ r ≡ isSome (Record.chain (links (now (entries .entry)) used) count first) ⌝ }
+{
+    let room = entries_in(entries, used);
+    let steps = lesser(count, room + 1);
+    let mut e = first;
+    let mut i = 0u32;
+    while i < steps {
+        if room <= e {
+            return false;
+        }
+        e = next(entries, e);
+        i += 1;
+    }
+    true
+}
+
+// bytes: s
+fn is_bytes(letter: u32) -> bool
+    ensures { λ r. ⌜ r ≡ Letters.isBytes letter ⌝ }
+{
+    match letter {
+        0x73 => true,
+        _ => false,
+    }
+}
+
+// tuples: ( )
+fn is_tuple(letter: u32) -> bool
+    ensures { λ r. ⌜ r ≡ Letters.isTuple letter ⌝ }
+{
+    match letter {
+        0x28 => true,
+        0x29 => true,
+        _ => false,
+    }
+}
+
+// strings: u t a A z Z
+fn is_string(letter: u32) -> bool
+    ensures { λ r. ⌜ r ≡ Letters.isString letter ⌝ }
+{
+    match letter {
+        0x75 => true,
+        0x74 => true,
+        0x61 => true,
+        0x41 => true,
+        0x7A => true,
+        0x5A => true,
+        _ => false,
+    }
+}
+
+// Whether a node is a sound string.
+fn string_at(s: &[u8], nodes: &[u32], used: u32, node: u32) -> bool
+    requires { ⌜ length (now s) ≤ mostBytes ⌝ }
+    ensures { λ r. ⌜ r ≡ stringAt (now (s .entry)) (now (nodes .entry)) used node ⌝ }
+{
+    if !records::sound_at(s, nodes, used, node) {
+        return false;
+    }
+    is_string(word_at(nodes, node as usize * 5))
+}
+
+// Whether so many children, linked from an entry on, are sound strings: those that go round are tested once.
+fn named(s: &[u8], nodes: &[u32], entries: &[u32], used: Used, first: u32, count: u32) -> bool
+    requires { ⌜ length (now s) ≤ mostBytes ⌝ }
+    ensures { λ r. ⌜ Names (lent (now (s .entry)) (now (nodes .entry)) (now (entries .entry)) used) first count r ⌝ }
+{
+    let room = entries_in(entries, used.entries);
+    let steps = lesser(count, room + 1);
+    let mut e = first;
+    let mut i = 0u32;
+    while i < steps {
+        if room <= e {
+            return false;
+        }
+        if !string_at(s, nodes, used.nodes, child(entries, e)) {
+            return false;
+        }
+        e = next(entries, e);
+        i += 1;
+    }
+    true
+}
+
+// Whether a node's own record and its chain are sound.
+fn whole(s: &[u8], nodes: &[u32], entries: &[u32], used: Used, node: u32) -> bool
+    requires { ⌜ length (now s) ≤ mostBytes ⌝ }
+    ensures { λ r. ⌜ r ≡ isSome (Record.whole (lent (now (s .entry)) (now (nodes .entry)) (now (entries .entry)) used) node) ⌝ }
+{
+    if !records::sound_at(s, nodes, used.nodes, node) {
+        return false;
+    }
+    let n = node_at(nodes, node);
+    linked(entries, used.entries, n.first, n.count)
+}
+
+// Whether a tuple's children are all sound strings.
+fn names_fit(s: &[u8], nodes: &[u32], entries: &[u32], used: Used, node: u32) -> bool
+    requires { ⌜ length (now s) ≤ mostBytes ⌝ }
+    ensures { λ r. ⌜ NamesFit (lent (now (s .entry)) (now (nodes .entry)) (now (entries .entry)) used) node r ⌝ }
+{
+    let n = node_at(nodes, node);
+    if !is_tuple(n.letter) {
+        return false;
+    }
+    named(s, nodes, entries, used, n.first, n.count)
+}
+
+// Whether a part of a code is what its rule asks.
+fn part_fits(s: &[u8], nodes: &[u32], entries: &[u32], used: Used, part: u32, node: u32) -> bool
+    requires { ⌜ (length (now s) ≤ mostBytes) × (part < 10) ⌝ }
+    ensures { λ r. ⌜ r ≡ isNone (Record.suited (lent (now (s .entry)) (now (nodes .entry)) (now (entries .entry)) used) (getD rules part whatever) node (Record.whole (lent (now (s .entry)) (now (nodes .entry)) (now (entries .entry)) used) node)) ⌝ }
+{
+    if !whole(s, nodes, entries, used, node) {
+        return false;
+    }
+    let letter = word_at(nodes, node as usize * 5);
+    match part {
+        1 => is_tuple(letter),
+        2 => names_fit(s, nodes, entries, used, node),
+        3 => names_fit(s, nodes, entries, used, node),
+        5 => is_string(letter),
+        6 => is_string(letter),
+        7 => is_string(letter),
+        _ => is_bytes(letter),
+    }
+}
+
+// Whether the ten parts of a code are what their rules ask.
+fn parts_fit(s: &[u8], nodes: &[u32], entries: &[u32], used: Used, first: u32) -> bool
+    requires { ⌜ length (now s) ≤ mostBytes ⌝ }
+    ensures { λ r. ⌜ Parts (lent (now (s .entry)) (now (nodes .entry)) (now (entries .entry)) used) first r ⌝ }
+{
+    let mut e = first;
+    let mut part = 0u32;
+    while part < 10 {
+        if !part_fits(s, nodes, entries, used, part, child(entries, e)) {
+            return false;
+        }
+        e = next(entries, e);
+        part += 1;
+    }
+    true
+}
+
+// The node of a code's part.
+pub fn part_at(entries: &[u32], first: u32, part: u32) -> u32
+    ensures { λ r. ⌜ r ≡ entryAt (now (entries .entry)) (after (now (entries .entry)) part first) .child ⌝ }
+{
+    let mut e = first;
+    let mut i = 0u32;
+    while i < part {
+        e = next(entries, e);
+        i += 1;
+    }
+    child(entries, e)
+}
+
+// As many kinds as local names, and an even number of code bytes.
+fn ends_fit(nodes: &[u32], entries: &[u32], first: u32) -> bool
+    ensures { λ r. ⌜ r ≡ evenly (now (nodes .entry)) (partOf (now (entries .entry)) first 0) (partOf (now (entries .entry)) first 3) (partOf (now (entries .entry)) first 4) ⌝ }
+{
+    let code = node_at(nodes, part_at(entries, first, 0));
+    let locals = node_at(nodes, part_at(entries, first, 3));
+    let kinds = node_at(nodes, part_at(entries, first, 4));
+    if locals.count != kinds.size {
+        return false;
+    }
+    code.size % 2 == 0
+}
+
+// The record test of a node, with its chain, and for a code with its parts.
+pub fn look(s: &[u8], nodes: &[u32], entries: &[u32], used: Used, node: u32) -> bool
+    requires { ⌜ length (now s) ≤ mostBytes ⌝ }
+    ensures { λ r. ⌜ Looks (lent (now (s .entry)) (now (nodes .entry)) (now (entries .entry)) used) node r ⌝ }
+{
+    if !whole(s, nodes, entries, used, node) {
+        return false;
+    }
+    let n = node_at(nodes, node);
+    if n.letter != 0x63 {
+        return true;
+    }
+    if !parts_fit(s, nodes, entries, used, n.first) {
+        return false;
+    }
+    ends_fit(nodes, entries, n.first)
+}
+
+// The local names of a code: their chain, and the place of their kinds, one for each.
+pub struct Locals {
+    pub first: u32,
+    pub count: u32,
+    pub kinds: u32,
+}
+
+// Whether two parts of the input hold the same bytes.
+fn same_bytes(s: &[u8], a: usize, b: usize, size: usize) -> bool
+    requires { ⌜ (a + size ≤ length (now s)) × (b + size ≤ length (now s)) ⌝ }
+    ensures { λ r. ⌜ r ≡ sameBytes (contents (now (s .entry)) a size) (contents (now (s .entry)) b size) ⌝ }
+{
+    let mut i = 0;
+    while i < size {
+        if s[a + i] != s[b + i] {
+            return false;
+        }
+        i += 1;
+    }
+    true
+}
+
+// Whether two sound strings are the same.
+fn same_name(s: &[u8], nodes: &[u32], used: u32, a: u32, b: u32) -> bool
+    requires { ⌜ (stringAt (now s) (now nodes) used a ≡ true) × (stringAt (now s) (now nodes) used b ≡ true) ⌝ }
+    ensures { λ r. ⌜ r ≡ sameBytes (contents (now (s .entry)) (nodeAt (now (nodes .entry)) a .place) (nodeAt (now (nodes .entry)) a .size)) (contents (now (s .entry)) (nodeAt (now (nodes .entry)) b .place) (nodeAt (now (nodes .entry)) b .size)) ⌝ }
+{
+    let m = node_at(nodes, a);
+    let n = node_at(nodes, b);
+    if m.size != n.size {
+        return false;
+    }
+    same_bytes(s, m.place as usize, n.place as usize, m.size as usize)
+}
+
+fn has(bit: u32, kind: u8) -> bool
+    requires { ⌜ 0 < bit ⌝ }
+    ensures { λ r. ⌜ r ≡ Kind.has bit kind ⌝ }
+{
+    kind as u32 / bit % 2 == 1
+}
+
+// Whether a name of a kind is Local and the same as another.
+fn local_is(s: &[u8], nodes: &[u32], used: u32, kind: u8, name: u32, node: u32) -> bool
+    requires { ⌜ (stringAt (now s) (now nodes) used name ≡ true) × (stringAt (now s) (now nodes) used node ≡ true) ⌝ }
+    ensures { λ r. ⌜ r ≡ (Kind.has 32 kind && sameBytes (contents (now (s .entry)) (nodeAt (now (nodes .entry)) node .place) (nodeAt (now (nodes .entry)) node .size)) (contents (now (s .entry)) (nodeAt (now (nodes .entry)) name .place) (nodeAt (now (nodes .entry)) name .size))) ⌝ }
+{
+    if !has(LOCAL, kind) {
+        return false;
+    }
+    same_name(s, nodes, used, node, name)
+}
+
+// Whether a name equals a Local name.
+fn is_local(s: &[u8], nodes: &[u32], entries: &[u32], used: Used, locals: Locals, node: u32) -> bool
+    requires { ⌜ Listed (lent (now s) (now nodes) (now entries) used) locals × (stringAt (now s) (now nodes) (used .nodes) node ≡ true) ⌝ }
+    ensures { λ r. ⌜ r ≡ namedIn (lent (now (s .entry)) (now (nodes .entry)) (now (entries .entry)) used) (contentsOf (lent (now (s .entry)) (now (nodes .entry)) (now (entries .entry)) used) node) (localsIn (lent (now (s .entry)) (now (nodes .entry)) (now (entries .entry)) used) locals) ⌝ }
+{
+    let kinds = locals.kinds as usize;
+    let count = locals.count;
+    let mut e = locals.first;
+    let mut i = 0u32;
+    while i < count {
+        if local_is(s, nodes, used.nodes, s[kinds + i as usize], child(entries, e), node) {
+            return true;
+        }
+        e = next(entries, e);
+        i += 1;
+    }
+    false
+}
+
+// Whether a name of a kind stands in the group of a bit.
+pub fn belongs(s: &[u8], nodes: &[u32], entries: &[u32], used: Used, locals: Locals, bit: u32, kind: u8, node: u32) -> bool
+    requires { ⌜ Listed (lent (now s) (now nodes) (now entries) used) locals × (stringAt (now s) (now nodes) (used .nodes) node ≡ true) × (0 < bit) ⌝ }
+    ensures { λ r. ⌜ r ≡ inGroup (lent (now (s .entry)) (now (nodes .entry)) (now (entries .entry)) used) (localsIn (lent (now (s .entry)) (now (nodes .entry)) (now (entries .entry)) used) locals) bit kind node ⌝ }
+{
+    if !has(bit, kind) {
+        return false;
+    }
+    if bit != CELL {
+        return true;
+    }
+    !is_local(s, nodes, entries, used, locals, node)
+}
+
+fn one_if(so: bool) -> u32
+    ensures { λ r. ⌜ (r ≡ cond so 1 0) × (r ≤ 1) ⌝ }
+{
+    if so {
+        return 1;
+    }
+    0
+}
+
+// How many names stand in the group of a bit.
+pub fn count_group(s: &[u8], nodes: &[u32], entries: &[u32], used: Used, locals: Locals, bit: u32) -> u32
+    requires { ⌜ Listed (lent (now s) (now nodes) (now entries) used) locals × (0 < bit) ⌝ }
+    ensures { λ r. ⌜ (r ≡ length (groupIn (lent (now (s .entry)) (now (nodes .entry)) (now (entries .entry)) used) locals bit)) × (r ≤ locals .count) ⌝ }
+{
+    let kinds = locals.kinds as usize;
+    let count = locals.count;
+    let mut e = locals.first;
+    let mut i = 0u32;
+    let mut n = 0u32;
+    while i < count {
+        let kind = s[kinds + i as usize];
+        n += one_if(belongs(s, nodes, entries, used, locals, bit, kind, child(entries, e)));
+        e = next(entries, e);
+        i += 1;
+    }
+    n
+}

@@ -1,0 +1,6 @@
+pub mod Writing
+pub mod Canonical
+pub mod Shape
+pub mod Names
+pub mod Steps
+pub mod Answer
