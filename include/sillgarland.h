@@ -123,7 +123,7 @@ typedef struct {
 /* The input has at most 16,777,216 bytes (14). nodes holds five numbers a node: letter, place, size, first entry, count;
  * entries two an entry: node, next entry; slots one a slot: 0 while open, else node + 1. No entry is 4,294,967,295. Each
  * capacity counts as at most 1,048,576 records, nesting as at most 2,000. The root is node 0. A nesting of 2,000 needs
- * less than 1.5 MiB of stack. */
+ * less than 1 MiB of stack. */
 sill_read_t sill_read(const uint8_t *input, size_t input_len, uint32_t *nodes, size_t nodes_len, uint32_t *entries,
                       size_t entries_len, uint32_t *slots, size_t slots_len, uint32_t nesting);
 

@@ -148,7 +148,7 @@ static void test_split(void)
 
 /* ---- the deepest nesting: tuples and code objects' constants, as deep as allowed, on the stack that the header names */
 
-enum { DEEPEST = 2000, MOST_BYTES = 1 << 20, MOST_NODES = 1 << 14, STACK = 3 << 19 };
+enum { DEEPEST = 2000, MOST_BYTES = 1 << 20, MOST_NODES = 1 << 14, STACK = 1 << 20 };
 
 static uint8_t deep_input[MOST_BYTES];
 static uint32_t deep_nodes[5 * MOST_NODES], deep_entries[2 * MOST_NODES], deep_slots[1];
@@ -203,7 +203,7 @@ static void test_small_stack(void)
     pthread_attr_init(&attributes);
     pthread_attr_setstacksize(&attributes, STACK);
     int begun = pthread_create(&thread, &attributes, test_nesting, NULL) == 0;
-    expect(begun && pthread_join(thread, NULL) == 0, "a thread of 1.5 MiB");
+    expect(begun && pthread_join(thread, NULL) == 0, "a thread of 1 MiB");
     pthread_attr_destroy(&attributes);
 }
 
