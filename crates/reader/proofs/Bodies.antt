@@ -1,17 +1,17 @@
 -- The one loop over a node's children, by the kind of these: each way out and each turn is a law of Loops or of Codes.
 -- Assumes nothing.
 use mathlib.Core.Path.{_≡_, refl, sym, ap, subst, _∙_}
-use Prim.Native.Nat.{ℕ, zero, suc, _+_, _-_, _*_, _%_, _≤_, _<_}
+use Prim.Native.Nat.{ℕ, _+_, _-_, _%_, _≤_, _<_}
 use native.Mathlib.Omega.{arith}
 use mathlib.Core.Bool.{Bool, true, false, cond}
 use mathlib.Core.List.{List}
-use lib.ListN.{length, getD}
+use lib.ListN.{length}
 use lib.Dec.{leb, ltb, eqb}
 use borrow.Author.Tests.{eqb-true, eqb-false, ltb-true, ltb-false}
-use Rattle.refusals.specs.Numbers.{eofObject, accepted, dataTooShort}
+use Rattle.refusals.specs.Numbers.{dataTooShort}
 use Rattle.grammar.specs.Reading.{bind}
 use Rattle.grammar.specs.Fields.{parts}
-use Rattle.grammar.specs.Steps.{Rule, whatever, codeParts, linePart, couples, ended, body, value}
+use Rattle.grammar.specs.Steps.{whatever, codeParts, linePart, couples, ended, body, value}
 use Rattle.fields.specs.Behind.{childrenOf}
 use Rattle.fields.specs.declared.Kids.{Kids}
 use Rattle.fields.specs.declared.Kids.the-variants as kind
@@ -22,7 +22,7 @@ use Rattle.steps.specs.declared.Linked.the-variants as linked
 use Rattle.steps.specs.declared.Next.{Next}
 use Rattle.steps.specs.declared.Next.the-variants as next
 use Rattle.steps.specs.Held.{Safe, LineIn}
-use Rattle.steps.specs.Linking.{ruleOf, lineOn, lineLined, firstLined, NextOf, Nexts, belowOf}
+use Rattle.steps.specs.Linking.{ruleOf, lineLined, firstLined, NextOf, Nexts, belowOf}
 use Rattle.reader.specs.Readings.{Lists, LinkedMoved, Counted, ReadsChild, BodyLists, ReadsBody, childOf, partsOf, bodyOf}
 use Rattle.reader.proofs.Chains.{Stands, lists-inside}
 use Rattle.reader.proofs.Loops.{InvKids, kids-start, kids-end, kids-cut, kids-next, InvPairs, InvValue, pairs-start, pairs-out, pairs-null, key-cut, key-next, item-cut, item-next}

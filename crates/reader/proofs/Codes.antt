@@ -12,10 +12,7 @@ use Rattle.refusals.specs.Numbers.{accepted, dataTooShort}
 use Rattle.grammar.specs.Reading.{done, reads, gives, stops, bind}
 use Rattle.grammar.specs.Room.{run}
 use Rattle.grammar.specs.Fields.{field}
-use Rattle.grammar.specs.Steps.{Chain, whatever, rules, codeParts, linePart, couples, lined, firstLine, partsFrom, faultOf, ended, body, value}
-use Rattle.fields.specs.Behind.{childrenOf}
-use Rattle.fields.specs.declared.Kids.{Kids}
-use Rattle.fields.specs.declared.Kids.the-variants as kind
+use Rattle.grammar.specs.Steps.{Chain, whatever, rules, codeParts, linePart, lined, firstLine, partsFrom, faultOf, ended}
 use Rattle.steps.specs.declared.Room.{Room}
 use Rattle.steps.specs.declared.Line.{Line}
 use Rattle.steps.specs.declared.Linked.{Linked}

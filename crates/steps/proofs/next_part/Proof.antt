@@ -1,43 +1,32 @@
-use mathlib.Core.Path.{refl, sym, ap, _∙_}
+-- `next_part` asks for the next part or ends the code.
+-- Assumes nothing.
+use mathlib.Core.Path.{sym, _∙_}
 use native.Mathlib.Omega.{arith}
 use borrow.Author.Needs.{needs}
 use Rattle.steps.proofs.next_part.Statement.{statement}
 use Rattle.steps.proofs.next_part.Tie as tie
-use Rattle.steps.proofs.next_part.Reads as reads
-use Rattle.steps.proofs.next_part.Lts as lts
-use Rattle.steps.proofs.code_end.Reads as code-end-reads
-use Rattle.steps.proofs.first_line.Reads as first-line-reads
-use Rattle.steps.proofs.rule_at.Reads as rule-at-reads
 
--- src/lib.rt:459:9
 code-end-requires : tie.Need-code-end-requires
 code-end-requires c κs = search needs
 
--- src/lib.rt:459:9
 returns : tie.Need-returns
 returns c = search needs
 
--- src/lib.rt:461:9
 first-line-requires : tie.Need-first-line-requires
 first-line-requires c κs = search needs
 
--- src/lib.rt:463:25
 enum-known-g : tie.Need-enum-known-g
 enum-known-g c = search needs
 
--- src/lib.rt:464:22
 enum-known-g-2 : tie.Need-enum-known-g-2
 enum-known-g-2 c = search needs
 
--- src/lib.rt:465:17
 rule-at-requires : tie.Need-rule-at-requires
 rule-at-requires c κs = search needs
 
--- src/lib.rt:454:1
 returns-2 : tie.Need-returns-2
 returns-2 c = (λ h. sym (c .before .before .before .first-line .ensures) ∙ c .before .g .given .1, λ h. absurd (omega (arith, h, c .before .before .before .before .if1 .left)))
 
--- src/lib.rt:454:1
 returns-3 : tie.Need-returns-3
 returns-3 c = (sym (c .before .before .before .before .first-line .ensures) ∙ c .before .before .g2 .given .1, c .rule-at .ensures, c .before .before .before .before .before .if1 .left)
 
