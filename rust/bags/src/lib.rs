@@ -2,10 +2,10 @@
 //! every container kept as a sequence, the other keeps nothing. Neither gives placeholders.
 #![cfg(carried)]
 
-mod nothing;
 mod notes;
+mod nothing;
 mod tree;
 
-pub use nothing::NothingBag;
 pub use notes::Notes;
+pub use nothing::NothingBag;
 pub use tree::{Code, Group, Tree, TreeBag};

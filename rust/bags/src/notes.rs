@@ -12,8 +12,10 @@ pub struct Notes {
     pub surrogates: Cell<bool>,
     /// A line table over which the checked Rust panics.
     pub lines: Cell<bool>,
-    /// Whether the last thing the reader did was to look at a code's part or at its instructions.
+    /// Whether a code's part was looked at since this was last cleared.
     pub at_part: Cell<bool>,
+    /// How many code objects were made since this was last cleared.
+    pub finished: Cell<usize>,
 }
 
 impl Notes {

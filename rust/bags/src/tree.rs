@@ -112,6 +112,8 @@ impl MarshalBag for TreeBag<'_> {
         bytes: Vec<u8>,
     ) -> Result<Rc<Tree>> {
         if let Some(notes) = self.notes {
+            notes.at_part.set(false);
+            notes.finished.set(notes.finished.get() + 1);
             // Which line of 0 or less the code had is not kept: the two ends stand for all of them.
             let first_lines = object.first_line_number.map_or([0, i32::MIN], |line| [line.get() as i32; 2]);
             for first_line in first_lines {

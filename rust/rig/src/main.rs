@@ -14,6 +14,7 @@ mod read;
 mod reading;
 #[cfg(carried)]
 mod shape;
+mod stores;
 mod subject;
 mod tally;
 mod text;
@@ -30,6 +31,7 @@ use linetable::LineTables;
 use localsplus::LocalNames;
 use read::Reads;
 use std::process::ExitCode;
+use stores::{Leaves, ReadStores};
 use subject::replay;
 use varint::Varints;
 
@@ -132,7 +134,9 @@ fn contents(file: &str) -> Result<String, String> {
 fn replay_lists() -> bool {
     let replay_all =
         |folder| all([replay::<Varints>(folder), replay::<LineTables>(folder), replay::<LocalNames>(folder)]);
-    all([numbers::hold(), nulls::hold(), replay_all("fixed"), replay_all("vectors")])
+    let fixed = all([replay_all("fixed"), replay::<Reads>("fixed")]);
+    let vectors = all([replay_all("vectors"), replay::<ReadStores>("vectors"), replay::<Leaves>("vectors")]);
+    all([numbers::hold(), nulls::hold(), fixed, vectors])
 }
 
 fn all<const N: usize>(held: [bool; N]) -> bool {
@@ -141,7 +145,9 @@ fn all<const N: usize>(held: [bool; N]) -> bool {
 
 #[cfg(carried)]
 mod beside_the_rust {
-    use super::{LineTables, LocalNames, Reads, Varints, all, contents, cpython, linetable, localsplus, values, varint};
+    use super::{
+        LineTables, LocalNames, Reads, Varints, all, contents, cpython, linetable, localsplus, values, varint,
+    };
     use crate::subject::{compare as compare_all, write_list};
     use linetable::carried_side::Extent;
 

@@ -18,19 +18,8 @@ pub struct Answer {
 }
 
 pub enum Verdict {
-    Refused { number: u32, place: Place },
+    Refused { number: u32, place: u32 },
     Accepted { consumed: u32, value: String },
-}
-
-/// What the Rust shows of the place.
-#[derive(Clone, Copy)]
-pub enum Place {
-    At(u32),
-    /// Where the next byte stands, or the byte before it if that was a dict key's header.
-    NextOrBefore(u32),
-    /// At some code's header.
-    AtCode,
-    Unseen,
 }
 
 /// Values whose text is longer are compared up to here.
@@ -47,7 +36,11 @@ impl Subject for Reads {
         if let Verdict::Accepted { value, .. } = &answer.verdict
             && value.contains("c(")
         {
-            return if answer.inside { "in the domain: code objects alike" } else { "out of the domain: code objects alike" };
+            return if answer.inside {
+                "in the domain: code objects alike"
+            } else {
+                "out of the domain: code objects alike"
+            };
         }
         let number = match answer.verdict {
             Verdict::Accepted { .. } => 0,
@@ -62,7 +55,7 @@ impl Subject for Reads {
         let reading = read(&part, ask.nesting, lens);
         match &answer.verdict {
             Verdict::Refused { number, place } => {
-                hold_refused(&part, &reading, *number, *place)?;
+                hold_refused(&reading, *number, *place)?;
                 hold_refused_with_less(ask, &part, &reading.answer, lens)
             }
             Verdict::Accepted { consumed, value } => {
@@ -77,7 +70,7 @@ impl Subject for Reads {
         let asked = format!("read {} {} {side}", hex(&ask.input), ask.nesting);
         match &answer.verdict {
             Verdict::Accepted { consumed, value } => format!("{asked} {consumed} {value}"),
-            Verdict::Refused { number, place } => format!("{asked} refused {number} {}", place.row()),
+            Verdict::Refused { number, place } => format!("{asked} refused {number} {place}"),
         }
     }
 
@@ -86,7 +79,7 @@ impl Subject for Reads {
             return None;
         };
         let verdict = match rest {
-            ["refused", number, place] => Verdict::Refused { number: number.parse().ok()?, place: Place::of_row(place)? },
+            ["refused", number, place] => Verdict::Refused { number: number.parse().ok()?, place: place.parse().ok()? },
             [consumed, value] => Verdict::Accepted { consumed: consumed.parse().ok()?, value: value.to_string() },
             _ => return None,
         };
@@ -95,18 +88,18 @@ impl Subject for Reads {
     }
 }
 
-/// The classes by number, in the domain and out of it; 0 is an accepted value.
+/// The classes by number, in the domain and out of it; 0 is an accepted value. A refusal's place is always alike too.
 const INSIDE: [&str; 19] = [
     "in the domain: values alike, and bytes consumed",
-    "in the domain: refused 1 (EofObject), place alike",
-    "in the domain: refused 2 (Eof, DataTooShort), place alike",
-    "in the domain: refused 3 (UnknownType), place alike",
-    "in the domain: refused 4 (NullObject), place alike",
-    "in the domain: refused 5 (InvalidRef), place alike",
-    "in the domain: refused 6 (BadSize), place alike",
+    "in the domain: refused 1 (EofObject)",
+    "in the domain: refused 2 (Eof, DataTooShort)",
+    "in the domain: refused 3 (UnknownType)",
+    "in the domain: refused 4 (NullObject)",
+    "in the domain: refused 5 (InvalidRef)",
+    "in the domain: refused 6 (BadSize)",
     "in the domain: refused 7 (BadType)",
     "in the domain: refused 8 (InvalidBytecode)",
-    "in the domain: refused 9 (InvalidUtf8), place alike",
+    "in the domain: refused 9 (InvalidUtf8)",
     "in the domain: refused 10 (InvalidBytecode, for nesting)",
     "11",
     "12",
@@ -119,15 +112,15 @@ const INSIDE: [&str; 19] = [
 ];
 const OUTSIDE: [&str; 19] = [
     "out of the domain: values alike, and bytes consumed",
-    "out of the domain: refused 1 (EofObject), place alike",
-    "out of the domain: refused 2 (Eof, DataTooShort), place alike",
-    "out of the domain: refused 3 (UnknownType), place alike",
-    "out of the domain: refused 4 (NullObject), place alike",
-    "out of the domain: refused 5 (InvalidRef), place alike",
-    "out of the domain: refused 6 (BadSize), place alike",
+    "out of the domain: refused 1 (EofObject)",
+    "out of the domain: refused 2 (Eof, DataTooShort)",
+    "out of the domain: refused 3 (UnknownType)",
+    "out of the domain: refused 4 (NullObject)",
+    "out of the domain: refused 5 (InvalidRef)",
+    "out of the domain: refused 6 (BadSize)",
     "out of the domain: refused 7 (BadType)",
     "out of the domain: refused 8 (InvalidBytecode)",
-    "out of the domain: refused 9 (InvalidUtf8), place alike",
+    "out of the domain: refused 9 (InvalidUtf8)",
     "out of the domain: refused 10 (InvalidBytecode, for nesting)",
     "11",
     "12",
@@ -139,42 +132,10 @@ const OUTSIDE: [&str; 19] = [
     "out of the domain: refused 18 (there the checked Rust panics)",
 ];
 
-impl Place {
-    fn row(self) -> String {
-        match self {
-            Self::At(place) => place.to_string(),
-            Self::NextOrBefore(place) => format!("{place}-"),
-            Self::AtCode => "c".to_string(),
-            Self::Unseen => "?".to_string(),
-        }
-    }
-
-    fn of_row(text: &str) -> Option<Self> {
-        Some(match text {
-            "c" => Self::AtCode,
-            "?" => Self::Unseen,
-            _ => match text.strip_suffix('-') {
-                Some(place) => Self::NextOrBefore(place.parse().ok()?),
-                None => Self::At(text.parse().ok()?),
-            },
-        })
-    }
-
-    fn holds(self, input: &[u8], place: u32) -> bool {
-        match self {
-            Self::At(expected) => place == expected,
-            Self::NextOrBefore(next) => place == next || place + 1 == next,
-            Self::AtCode => input.get(place as usize).is_some_and(|byte| byte & 0x7F == b'c'),
-            Self::Unseen => (place as usize) < input.len(),
-        }
-    }
-}
-
-fn hold_refused(part: &Part, reading: &Reading, number: u32, place: Place) -> Result<(), String> {
-    let answer = reading.answer;
-    let expected = Read { refusal: number, place: answer.place, consumed: 0, nodes: 0, entries: 0, slots: 0 };
-    if answer != expected || !place.holds(part.bytes(), answer.place) {
-        return Err(format!("{answer:?} and not {number} at {}", place.row()));
+fn hold_refused(reading: &Reading, number: u32, place: u32) -> Result<(), String> {
+    let expected = Read { refusal: number, place, consumed: 0, nodes: 0, entries: 0, slots: 0 };
+    if reading.answer != expected {
+        return Err(format!("{:?} and not {number} at {place}", reading.answer));
     }
     all_zero(reading)
 }
@@ -253,8 +214,8 @@ fn hold_short(ask: &Ask, part: &Part, reading: &Reading, exact: [usize; 3], i: u
 
 #[cfg(carried)]
 pub mod carried_side {
-    //! The Rust's answers, and the questions put to both.
-    use super::{Answer, Ask, LONGEST_TEXT, Place, Reads, Verdict};
+    //! The Rust's answers.
+    use super::{Answer, Ask, LONGEST_TEXT, Reads, Verdict};
     use crate::panics::unless_overflow;
     use crate::subject::Carried;
     use crate::trace::Trace;
@@ -266,40 +227,67 @@ pub mod carried_side {
     impl Carried for Reads {
         fn by_the_rust(ask: &Ask) -> Answer {
             if ask.input.len() > refusals::MOST_BYTES as usize {
-                return refused(refusals::INPUT_TOO_LONG, Place::At(0));
+                return listed(refusals::INPUT_TOO_LONG, 0);
             }
             let nesting = ask.nesting.min(refusals::MOST_NESTING);
             let notes = Notes::default();
             let mut trace = Trace::new(&ask.input, &notes);
             let read = unless_overflow(|| trace.value(nesting as usize).map(|tree| text_of(&tree, LONGEST_TEXT)));
             if let Some(place) = trace.like_decimal.iter().find(|at| is_decimal_float(&ask.input, **at, nesting)) {
-                return refused(refusals::NOT_CARRIED, Place::At(*place as u32));
+                return listed(refusals::NOT_CARRIED, *place);
             }
             let inside = notes.none() && !trace.other_flags && nesting == refusals::MOST_NESTING && read.is_some();
             let verdict = match read {
-                None => Verdict::Refused { number: refusals::NUMBER_RANGE, place: Place::AtCode },
+                None => refused(refusals::NUMBER_RANGE, trace.code()),
                 Some(Ok(value)) => Verdict::Accepted { consumed: trace.position as u32, value },
-                Some(Err(error)) => of_error(error, &trace, &notes),
+                Some(Err(MarshalError::InvalidBytecode)) => of_bytecode(&ask.input, nesting, &mut trace, &notes),
+                Some(Err(error)) => of_error(error, &mut trace),
             };
             Answer { verdict, inside }
         }
 
+        /// With a run of bytes taken out, long runs first.
         fn smaller(ask: &Ask) -> Vec<Ask> {
-            shortened(ask)
+            let len = ask.input.len();
+            let runs = [len / 2, len / 4, len / 8, 2, 1].into_iter().filter(|run| *run > 0 && *run <= len);
+            let cuts = runs.flat_map(|run| (0..=len - run).map(move |start| (start, run)));
+            let without =
+                |(start, run)| Ask { input: [&ask.input[..start], &ask.input[start + run..]].concat(), ..*ask };
+            cuts.take(10_000).map(without).collect()
         }
     }
 
-    /// With a run of bytes taken out, long runs first.
-    fn shortened(ask: &Ask) -> Vec<Ask> {
-        let len = ask.input.len();
-        let runs = [len / 2, len / 4, len / 8, 2, 1].into_iter().filter(|run| *run > 0);
-        let starts = runs.flat_map(|run| (0..=len - run.min(len)).map(move |start| (start, run)));
-        let without = |(start, run)| Ask { input: [&ask.input[..start], &ask.input[start + run..]].concat(), ..*ask };
-        starts.take(10_000).map(without).collect()
+    fn refused(number: u32, place: usize) -> Verdict {
+        Verdict::Refused { number, place: place as u32 }
     }
 
-    fn refused(number: u32, place: Place) -> Answer {
-        Answer { verdict: Verdict::Refused { number, place }, inside: false }
+    fn listed(number: u32, place: usize) -> Answer {
+        Answer { verdict: refused(number, place), inside: false }
+    }
+
+    fn of_error(error: MarshalError, trace: &mut Trace) -> Verdict {
+        match error {
+            MarshalError::EofObject => refused(refusals::EOF_OBJECT, trace.last()),
+            MarshalError::UnknownType => refused(refusals::UNKNOWN_TYPE, trace.last()),
+            MarshalError::NullObject => refused(refusals::NULL_OBJECT, trace.last()),
+            MarshalError::InvalidRef => refused(refusals::INVALID_REF, trace.last()),
+            MarshalError::BadSize(_) => refused(refusals::BAD_SIZE, trace.last()),
+            MarshalError::BadType => refused(refusals::BAD_TYPE, trace.part()),
+            MarshalError::InvalidUtf8 => refused(refusals::INVALID_UTF8, trace.last()),
+            _ => refused(refusals::DATA_TOO_SHORT, trace.field()),
+        }
+    }
+
+    /// InvalidBytecode is said at the end of a code, at a digit, and where the nesting is spent.
+    fn of_bytecode(input: &[u8], nesting: u32, trace: &mut Trace, notes: &Notes) -> Verdict {
+        if notes.at_part.get() {
+            return refused(refusals::INVALID_BYTECODE, trace.code());
+        }
+        if trace.last_is_digit() {
+            return refused(refusals::INVALID_BYTECODE, trace.last());
+        }
+        let at_key = is_too_deep(input, trace.last(), nesting);
+        refused(refusals::TOO_DEEP, if at_key { trace.last() } else { trace.position })
     }
 
     /// Whether a value with letter `f` or `x` begins here: the Rust wants an object here if the bytes end before it.
@@ -307,38 +295,20 @@ pub mod carried_side {
         let notes = Notes::default();
         let mut trace = Trace::new(&input[..at], &notes);
         let ended = unless_overflow(|| trace.value(nesting as usize));
-        matches!(ended, Some(Err(MarshalError::EofObject))) && is_kept(input, at, nesting)
+        matches!(ended, Some(Err(MarshalError::EofObject))) && !is_too_deep(input, at, nesting)
     }
 
-    /// A dict's key has its header read before the allowance is tested: there the Rust says "too deep" before it looks
-    /// at the letter.
-    fn is_kept(input: &[u8], at: usize, nesting: u32) -> bool {
-        let mut none = input[..at].to_vec();
-        none.push(b'N');
-        let notes = Notes::default();
-        let mut trace = Trace::new(&none, &notes);
-        let ended = unless_overflow(|| trace.value(nesting as usize));
-        !(matches!(ended, Some(Err(MarshalError::InvalidBytecode))) && trace.last() == at && !notes.at_part.get())
-    }
-
-    fn of_error(error: MarshalError, trace: &Trace, notes: &Notes) -> Verdict {
-        let last = Place::At(trace.last() as u32);
-        let (number, place) = match error {
-            MarshalError::EofObject => (refusals::EOF_OBJECT, last),
-            MarshalError::Eof | MarshalError::DataTooShort => {
-                (refusals::DATA_TOO_SHORT, Place::At(trace.field() as u32))
-            }
-            MarshalError::UnknownType => (refusals::UNKNOWN_TYPE, last),
-            MarshalError::NullObject => (refusals::NULL_OBJECT, last),
-            MarshalError::InvalidRef => (refusals::INVALID_REF, last),
-            MarshalError::BadSize(_) => (refusals::BAD_SIZE, last),
-            MarshalError::BadType => (refusals::BAD_TYPE, Place::Unseen),
-            MarshalError::InvalidUtf8 => (refusals::INVALID_UTF8, last),
-            _ if notes.at_part.get() => (refusals::INVALID_BYTECODE, Place::AtCode),
-            _ if trace.last_is_digit() => (refusals::INVALID_BYTECODE, last),
-            _ if trace.last_is_byte() => (refusals::TOO_DEEP, Place::NextOrBefore(trace.position as u32)),
-            _ => (refusals::TOO_DEEP, Place::At(trace.position as u32)),
+    /// Whether a dict's key begins here for which the nesting is spent: of a key the Rust reads the header before it
+    /// tests that. Then none in its place is refused too, and the byte that ends a dict is not.
+    fn is_too_deep(input: &[u8], at: usize, nesting: u32) -> bool {
+        let is_spent = |byte: u8| {
+            let other = [&input[..at], &[byte]].concat();
+            let notes = Notes::default();
+            let mut trace = Trace::new(&other, &notes);
+            let ended = unless_overflow(|| trace.value(nesting as usize));
+            let refused = matches!(ended, Some(Err(MarshalError::InvalidBytecode)));
+            refused && trace.last() == at && !notes.at_part.get()
         };
-        Verdict::Refused { number, place }
+        is_spent(b'N') && !is_spent(b'0')
     }
 }

@@ -23,10 +23,10 @@ pub fn asks(extent: Extent) -> impl Iterator<Item = Ask> {
 
 /// A selection of the above for the list in the repository.
 pub fn asks_to_list() -> impl Iterator<Item = Ask> {
-    let inputs = short_inputs().step_by(8_009);
+    let inputs = short_inputs().step_by(40_009);
     let longer = (4..=6).flat_map(|len| over_alphabet(len, 150));
     let deep = deep_inputs(&[6, 7, 8]).filter(|ask| ask.nesting < MOST_NESTING);
-    sheets().chain(inputs).chain(longer).chain(deep).chain(random_inputs(8, 1500).filter(|ask| ask.input.len() < 400))
+    sheets().chain(inputs).chain(longer).chain(deep).chain(random_inputs(8, 3000).filter(|ask| ask.input.len() < 250))
 }
 
 /// P1 to P12 of document 01.
@@ -127,7 +127,11 @@ fn random_inputs(seed: u64, count: usize) -> impl Iterator<Item = Ask> {
     (0..count).map(move |_| {
         let mut maker = Maker { random: &mut random, out: Vec::new(), slots: Vec::new() };
         let levels = maker.random.one_of(&[1, 2, 3, 3, 4, 5]);
-        if maker.random.below(3) == 0 { maker.code(levels) } else { maker.value(levels) }
+        if maker.random.below(3) == 0 {
+            maker.code(levels)
+        } else {
+            maker.value(levels)
+        }
         let mut input = maker.out;
         for _ in 0..random.one_of(&[0, 0, 1, 1, 2, 3]) {
             damage(&mut random, &mut input);
@@ -297,8 +301,18 @@ impl Maker<'_> {
 
     fn contents(&mut self) -> Vec<u8> {
         let pieces: [&[u8]; 12] = [
-            b"a", b"b", b"sheet", b"", b"x", "\u{e9}".as_bytes(), "\u{20ac}".as_bytes(), "\u{1f33f}".as_bytes(),
-            b"longer than eight bytes", b"_1", b"name", b"\xED\x9F\xBF",
+            b"a",
+            b"b",
+            b"sheet",
+            b"",
+            b"x",
+            "\u{e9}".as_bytes(),
+            "\u{20ac}".as_bytes(),
+            "\u{1f33f}".as_bytes(),
+            b"longer than eight bytes",
+            b"_1",
+            b"name",
+            b"\xED\x9F\xBF",
         ];
         let mut contents = Vec::new();
         for _ in 0..self.random.below(4) {
@@ -371,7 +385,11 @@ impl Maker<'_> {
         }
         let letter = self.random.one_of(b"()");
         let slot = self.header(letter);
-        if letter == b')' { self.out.push(count as u8) } else { self.number(count as u32) }
+        if letter == b')' {
+            self.out.push(count as u8)
+        } else {
+            self.number(count as u32)
+        }
         (0..count).for_each(|_| self.text());
         self.filled(slot, Sort::Names);
     }
@@ -410,7 +428,8 @@ impl Maker<'_> {
     fn instructions(&mut self) {
         let mut contents = Vec::new();
         for _ in 0..self.random.below(5) {
-            let opcode = if self.random.below(30) == 0 { self.random.byte() } else { self.random.one_of(&[9, 30, 82, 100]) };
+            let opcode =
+                if self.random.below(30) == 0 { self.random.byte() } else { self.random.one_of(&[9, 30, 82, 100]) };
             contents.extend_from_slice(&[opcode, self.random.byte()]);
         }
         if self.random.below(40) == 0 {
@@ -427,8 +446,7 @@ impl Maker<'_> {
     }
 
     fn lines(&mut self) {
-        let entries: [&[u8]; 5] =
-            [b"\x80\x00", b"\xE9\x02", b"\xF9", b"\xDA\x04\x08", b"\xE8\x7E\x7F\x7F\x7F\x7F\x03"];
+        let entries: [&[u8]; 5] = [b"\x80\x00", b"\xE9\x02", b"\xF9", b"\xDA\x04\x08", b"\xE8\x7E\x7F\x7F\x7F\x7F\x03"];
         let mut contents = Vec::new();
         for _ in 0..self.random.below(4) {
             let most = if self.random.below(30) == 0 { 5 } else { 4 };
