@@ -14,6 +14,7 @@ pub struct Extent {
 pub fn asks(extent: Extent) -> impl Iterator<Item = Ask> {
     let Extent { of_each_length, random } = extent;
     sheets()
+        .chain(code_faults())
         .chain(short_inputs())
         .chain((4..=6).flat_map(move |len| over_alphabet(len, of_each_length)))
         .chain(deep_inputs(&[1990, 1999, 2000, 2001]))
@@ -26,7 +27,12 @@ pub fn asks_to_list() -> impl Iterator<Item = Ask> {
     let inputs = short_inputs().step_by(40_009);
     let longer = (4..=6).flat_map(|len| over_alphabet(len, 150));
     let deep = deep_inputs(&[6, 7, 8]).filter(|ask| ask.nesting < MOST_NESTING);
-    sheets().chain(inputs).chain(longer).chain(deep).chain(random_inputs(8, 3000).filter(|ask| ask.input.len() < 250))
+    sheets()
+        .chain(code_faults())
+        .chain(inputs)
+        .chain(longer)
+        .chain(deep)
+        .chain(random_inputs(8, 3000).filter(|ask| ask.input.len() < 250))
 }
 
 /// P1 to P12 of document 01.
@@ -47,6 +53,49 @@ fn sheets() -> impl Iterator<Item = Ask> {
         sheet(1, b"\x63"),
     ]
     .into_iter()
+}
+
+/// The parts of a small code object.
+const PARTS: [&[u8]; 10] = [
+    b"s\x02\0\0\0\x09\0",
+    b")\x01N",
+    b")\x01z\x01a",
+    b")\x01z\x01b",
+    b"s\x01\0\0\0\x20",
+    b"z\x01f",
+    b"z\x01g",
+    b"z\x01h",
+    b"s\x02\0\0\0\x80\0",
+    b"s\0\0\0\0",
+];
+
+fn code_of(numbers: [u32; 5], parts: [&[u8]; 10]) -> Vec<u8> {
+    let numbers = numbers.map(u32::to_le_bytes).concat();
+    [b"c".as_slice(), &numbers, &parts[..8].concat(), b"\x01\0\0\0", &parts[8..].concat()].concat()
+}
+
+/// A code object with one thing wrong: each part of another kind, as it stands and by reference; a name that is none; the
+/// three checks at its end, alone and together.
+fn code_faults() -> impl Iterator<Item = Ask> {
+    let with = |i: usize, part: &'static [u8]| {
+        let mut parts = PARTS;
+        parts[i] = part;
+        parts
+    };
+    let (zero, full) = ([0; 5], u32::MAX);
+    let (odd, unequal) = (with(0, b"s\x01\0\0\0\x09"), with(4, b"s\0\0\0\0"));
+    let others: [&'static [u8]; 4] = [b"N", b"r\0\0\0\0", b"\xA9\x01T", b"r\x01\0\0\0"];
+    let mut codes: Vec<_> = (0..10).flat_map(|i| others.map(|other| code_of(zero, with(i, other)))).collect();
+    codes.extend([2, 3].map(|i| code_of(zero, with(i, b")\x02z\0T"))));
+    codes.extend(
+        [zero, [full, 0, 1, 0, 0], [full, 0, 0, 0, 4], [full - 1, 9, 0, 0, 0x0C], [full, 0, 0, 0, 0x40]]
+            .iter()
+            .flat_map(|numbers| [PARTS, odd, unequal].map(|parts| code_of(*numbers, parts))),
+    );
+    // Before the code stands a value with a slot, so that a part may refer to it; before others nothing.
+    let referring = codes.clone().into_iter().map(|code| [b")\x02\xCE".as_slice(), &code].concat());
+    let inputs: Vec<_> = referring.chain(codes).collect();
+    inputs.into_iter().map(|input| Ask { input, nesting: MOST_NESTING })
 }
 
 const LETTERS: &[u8] = b"0NFTS.iIlgfxystr()[{cu<>:aAzZ";
