@@ -4,6 +4,7 @@ mod cpython;
 mod lent;
 mod linetable;
 mod localsplus;
+mod marshalled;
 mod nulls;
 mod numbers;
 #[cfg(carried)]

@@ -178,7 +178,7 @@ fn hold_accepted(part: &Part, reading: &Reading, consumed: u32, value: &str) -> 
 
 /// In stores that are just long enough the answer and the contents are the same; one record short of any, it is refused
 /// for want of that one.
-fn hold_rooms(ask: &Ask, part: &Part, reading: &Reading) -> Result<(), String> {
+pub fn hold_rooms(ask: &Ask, part: &Part, reading: &Reading) -> Result<(), String> {
     let used = counts(&reading.answer);
     let exact = [0, 1, 2].map(|i| used[i] * WIDTHS[i]);
     let tight = read(part, ask.nesting, exact);

@@ -33,7 +33,7 @@ pub fn counts(answer: &Read) -> [usize; 3] {
     [answer.nodes as usize, answer.entries as usize, answer.slots as usize]
 }
 
-/// How a code's flags and strings are shown: as they stand, or as the Rust keeps them.
+/// How a value is shown: as it stands, sets sorted; or a code's flags and strings as the Rust keeps them.
 #[derive(Clone, Copy)]
 pub enum Shown {
     AsStored,
@@ -200,9 +200,25 @@ impl Held<'_> {
             b'c' => return self.show_code(text, node, shown),
             _ => return Ok(text.bytes('u', self.contents(node))),
         };
+        if let (b'<' | b'>', Shown::AsStored) = (node.letter, shown) {
+            return self.show_set(text, word, node);
+        }
         let mut held = Ok(());
         text.group(word, self.children(node)?, |text, child| held = held.clone().and(self.show(text, child, shown)));
         held
+    }
+
+    /// The members in the order of their texts: a set has no order of its own.
+    fn show_set(&self, text: &mut Text, word: &str, node: &Node) -> Result<(), Fault> {
+        let mut members = Vec::new();
+        for child in self.children(node)? {
+            let mut member = Text::new(usize::MAX);
+            self.show(&mut member, child, Shown::AsStored)?;
+            members.push(member.text);
+        }
+        members.sort();
+        text.group(word, members, |text, member| text.word(&member));
+        Ok(())
     }
 
     fn show_code(&self, text: &mut Text, node: &Node, shown: Shown) -> Result<(), Fault> {
