@@ -4,6 +4,8 @@ use crate::lent::Part;
 use crate::linetable::{self, LineTables, Origin, locate};
 use crate::localsplus::{self, split};
 use crate::marshalled::{Marshalled, Module};
+#[cfg(carried)]
+use crate::read;
 use crate::subject::Subject;
 use crate::tally::Tally;
 use crate::text::{of_hex, of_numbers};
@@ -70,6 +72,13 @@ fn counted(tally: &mut Tally, class: &'static str, marshalled: Marshalled) -> Op
 #[cfg(carried)]
 pub fn tables(text: &str) -> Vec<linetable::Ask> {
     text.lines().filter_map(of_lines).map(|(ask, _)| ask).collect()
+}
+
+/// The modules of the file, as questions for the comparison with the Rust.
+#[cfg(carried)]
+pub fn modules(text: &str) -> Vec<read::Ask> {
+    let marshalled = text.lines().filter(|row| row.starts_with("module ")).filter_map(|row| row.split(' ').nth(1));
+    marshalled.filter_map(of_hex).map(|input| read::Ask { input, nesting: refusals::MOST_NESTING }).collect()
 }
 
 /// A position as co_positions() gives it: line, end line, column, end column; none is None.

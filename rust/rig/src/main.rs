@@ -38,7 +38,7 @@ use varint::Varints;
 
 const USAGE: &str = "\
 usage: rig [--long] [--tables FILE]              compare with the carried Rust, then replay the lists
-       rig --values [--long]                     compare the reading of values with the carried Rust, nothing else
+       rig --values [--long] [--tables FILE]     compare the reading of values with the carried Rust, nothing else
        rig --replay                              replay the lists only: tests/fixed and tests/vectors
        rig --cpython FILE                        hold the port to what CPython says
        rig --write-fixed FOLDER [--tables FILE]  write the carried Rust's answers as lists into FOLDER
@@ -120,7 +120,7 @@ fn run(options: Options) -> Result<bool, String> {
     #[cfg(carried)]
     panics::keep_quiet();
     if options.values {
-        return beside_the_rust::compare_values(options.long);
+        return beside_the_rust::compare_values(options.long, options.tables);
     }
     match options.write_fixed {
         Some(folder) => beside_the_rust::write_fixed(&folder, options.tables),
@@ -173,32 +173,34 @@ mod beside_the_rust {
         values: values::Extent { of_each_length: 60_000_000, random: 50_000_000 },
     };
 
+    fn text_of(tables: Option<String>) -> Result<String, String> {
+        tables.map_or(Ok(String::new()), |file| contents(&file))
+    }
+
     pub fn compare(long: bool, tables: Option<String>) -> Result<bool, String> {
-        let made = made_tables(tables)?;
+        let text = text_of(tables)?;
         let sizes = if long { LONG } else { SHORT };
         Ok(all([
             compare_all::<Varints>(varint::carried_side::asks(sizes.varints)),
-            compare_all::<LineTables>(linetable::carried_side::asks(sizes.tables, made)),
+            compare_all::<LineTables>(linetable::carried_side::asks(sizes.tables, cpython::tables(&text))),
             compare_all::<LocalNames>(localsplus::carried_side::asks(sizes.lists.0, sizes.lists.1)),
-            compare_all::<Reads>(values::asks(sizes.values)),
+            compare_all::<Reads>(values::asks(sizes.values, cpython::modules(&text))),
         ]))
     }
 
-    pub fn compare_values(long: bool) -> Result<bool, String> {
-        Ok(compare_all::<Reads>(values::asks(if long { LONG } else { SHORT }.values)))
+    pub fn compare_values(long: bool, tables: Option<String>) -> Result<bool, String> {
+        let text = text_of(tables)?;
+        let modules = cpython::modules(&text);
+        Ok(compare_all::<Reads>(values::asks(if long { LONG } else { SHORT }.values, modules)))
     }
 
     pub fn write_fixed(folder: &str, tables: Option<String>) -> Result<bool, String> {
-        let made = made_tables(tables)?;
+        let text = text_of(tables)?;
         write_list::<Varints>(folder, varint::carried_side::asks_to_list())?;
-        write_list::<LineTables>(folder, linetable::carried_side::asks_to_list(made))?;
+        write_list::<LineTables>(folder, linetable::carried_side::asks_to_list(cpython::tables(&text)))?;
         write_list::<LocalNames>(folder, localsplus::carried_side::asks_to_list())?;
         write_list::<Reads>(folder, values::asks_to_list())?;
         Ok(true)
-    }
-
-    fn made_tables(file: Option<String>) -> Result<Vec<linetable::Ask>, String> {
-        Ok(file.map(|file| contents(&file)).transpose()?.map_or(Vec::new(), |text| cpython::tables(&text)))
     }
 }
 
@@ -209,8 +211,8 @@ mod beside_the_rust {
         Ok(true)
     }
 
-    pub fn compare_values(long: bool) -> Result<bool, String> {
-        compare(long, None)
+    pub fn compare_values(long: bool, tables: Option<String>) -> Result<bool, String> {
+        compare(long, tables)
     }
 
     pub fn write_fixed(_folder: &str, _tables: Option<String>) -> Result<bool, String> {

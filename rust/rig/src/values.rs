@@ -11,7 +11,7 @@ pub struct Extent {
     pub random: usize,
 }
 
-pub fn asks(extent: Extent) -> impl Iterator<Item = Ask> {
+pub fn asks(extent: Extent, modules: Vec<Ask>) -> impl Iterator<Item = Ask> {
     let Extent { of_each_length, random } = extent;
     sheets()
         .chain(code_faults())
@@ -20,6 +20,7 @@ pub fn asks(extent: Extent) -> impl Iterator<Item = Ask> {
         .chain(deep_inputs(&[1990, 1999, 2000, 2001]))
         .chain(large_inputs())
         .chain(random_inputs(7, random))
+        .chain(of_modules(modules))
 }
 
 /// A selection of the above for the list in the repository.
@@ -190,6 +191,16 @@ fn random_inputs(seed: u64, count: usize) -> impl Iterator<Item = Ask> {
         }
         let nesting = if random.below(3) == 0 { 1 + random.below(7) as u32 } else { MOST_NESTING };
         Ask { input, nesting }
+    })
+}
+
+/// Each module as CPython marshalled it, and the same damaged.
+fn of_modules(modules: Vec<Ask>) -> impl Iterator<Item = Ask> {
+    let mut random = Random::new(9);
+    modules.into_iter().flat_map(move |ask| {
+        let mut damaged = ask.clone();
+        damage(&mut random, &mut damaged.input);
+        [ask, damaged]
     })
 }
 
