@@ -2,9 +2,11 @@
 //! code, and to lists of answers kept in the repository. `rig --help` says how to call it.
 mod cpython;
 mod lent;
+mod limits;
 mod linetable;
 mod localsplus;
 mod marshalled;
+mod nested;
 mod nulls;
 mod numbers;
 #[cfg(carried)]
@@ -15,6 +17,7 @@ mod read;
 mod reading;
 #[cfg(carried)]
 mod shape;
+mod stack;
 mod stores;
 mod subject;
 mod tally;
@@ -137,7 +140,7 @@ fn replay_lists() -> bool {
         |folder| all([replay::<Varints>(folder), replay::<LineTables>(folder), replay::<LocalNames>(folder)]);
     let fixed = all([replay_all("fixed"), replay::<Reads>("fixed")]);
     let vectors = all([replay_all("vectors"), replay::<ReadStores>("vectors"), replay::<Leaves>("vectors")]);
-    all([numbers::hold(), nulls::hold(), fixed, vectors])
+    all([numbers::hold(), nulls::hold(), limits::hold(), stack::hold(), fixed, vectors])
 }
 
 fn all<const N: usize>(held: [bool; N]) -> bool {
