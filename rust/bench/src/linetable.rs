@@ -12,19 +12,22 @@ pub struct Table {
 }
 
 /// The line tables of the file that tools/cpython-tables writes.
-pub fn of_cpython(file: &str) -> Result<Vec<Table>, String> {
-    let text = std::fs::read_to_string(file).map_err(|error| format!("{file}: {error}"))?;
+pub fn of_cpython(text: &str) -> Result<Vec<Table>, String> {
     let rows = text.lines().filter(|row| row.starts_with("lines "));
-    rows.map(|row| of_row(row).ok_or(format!("{file}: malformed: {row}"))).collect()
+    rows.map(|row| of_row(row).ok_or(format!("malformed: {row}"))).collect()
 }
 
 fn of_row(row: &str) -> Option<Table> {
     let ["lines", first_line, count, table, _] = row.split(' ').collect::<Vec<_>>()[..] else {
         return None;
     };
-    let byte = |i| u8::from_str_radix(table.get(i..i + 2)?, 16).ok();
-    let bytes = (0..table.len() / 2).map(|i| byte(2 * i)).collect::<Option<_>>()?;
-    Some(Table { bytes, first_line: first_line.parse().ok()?, count: count.parse().ok()? })
+    Some(Table { bytes: of_hex(table)?, first_line: first_line.parse().ok()?, count: count.parse().ok()? })
+}
+
+/// Bytes in hexadecimal; `-` is none.
+pub fn of_hex(text: &str) -> Option<Vec<u8>> {
+    let byte = |i| u8::from_str_radix(text.get(i..i + 2)?, 16).ok();
+    (0..text.len() / 2).map(|i| byte(2 * i)).collect()
 }
 
 pub fn run(of_cpython: Vec<Table>) {

@@ -3,6 +3,10 @@
 #[cfg(carried)]
 mod linetable;
 #[cfg(carried)]
+mod python;
+#[cfg(carried)]
+mod read;
+#[cfg(carried)]
 mod timing;
 
 use std::process::ExitCode;
@@ -10,24 +14,32 @@ use std::process::ExitCode;
 #[cfg(carried)]
 fn main() -> ExitCode {
     let arguments: Vec<String> = std::env::args().skip(1).collect();
-    let tables = match &arguments[..] {
-        [] => Ok(Vec::new()),
-        [file] if !file.starts_with('-') => linetable::of_cpython(file),
+    let text = match &arguments[..] {
+        [] => Ok(String::new()),
+        [file] if !file.starts_with('-') => std::fs::read_to_string(file).map_err(|error| format!("{file}: {error}")),
         _ => {
             eprintln!("bench: wants nothing, or the file that tools/cpython-tables writes");
             return ExitCode::from(2);
         }
     };
-    match tables {
+    match text.and_then(|text| Ok((linetable::of_cpython(&text)?, modules(&text)))) {
         Err(fault) => {
             eprintln!("bench: {fault}");
             ExitCode::FAILURE
         }
-        Ok(tables) => {
+        Ok((tables, modules)) => {
             linetable::run(tables);
+            read::run(modules);
             ExitCode::SUCCESS
         }
     }
+}
+
+/// The modules of the file, as CPython marshals them.
+#[cfg(carried)]
+fn modules(text: &str) -> Vec<Vec<u8>> {
+    let rows = text.lines().filter_map(|row| row.strip_prefix("module "));
+    rows.filter_map(|row| linetable::of_hex(row.split(' ').next()?)).collect()
 }
 
 #[cfg(not(carried))]

@@ -3,6 +3,9 @@
 use crate::lent::Part;
 use crate::linetable::{self, LineTables, Origin, locate};
 use crate::localsplus::{self, split};
+use crate::marshalled::{Marshalled, Module};
+#[cfg(carried)]
+use crate::read;
 use crate::subject::Subject;
 use crate::tally::Tally;
 use crate::text::{of_hex, of_numbers};
@@ -14,11 +17,18 @@ pub fn hold(text: &str) -> bool {
     let mut cuts = Tally::new("cpython cut tables");
     let mut names = Tally::new("cpython names");
     let mut exceptions = Tally::new("cpython exceptions");
+    let mut values = Tally::new("cpython values");
+    let mut nodes = Tally::new("cpython positions by node");
+    let mut module: Option<Module> = None;
     for row in text.lines().filter(|row| !row.starts_with('#')) {
         let tallied = match row.split(' ').next() {
             Some("lines") => of_lines(row).map(|(ask, said)| {
                 positions.count("code objects, every position alike", hold_positions(&ask, &said));
                 cuts.count("tables cut in the middle, none whole", hold_cut(&ask));
+                if let Some(module) = &mut module {
+                    let held = module.hold_lines(ask.first_line, ask.count, &as_all_shown(&ask, &said));
+                    nodes.count("code objects, every position alike", held);
+                }
             }),
             Some("names") => of_names(row).map(|(ask, said)| {
                 names.count("code objects, names split alike", hold_names(&ask, &said));
@@ -26,19 +36,49 @@ pub fn hold(text: &str) -> bool {
             Some("exceptions") => of_exceptions(row).map(|(table, said)| {
                 exceptions.count("exception tables, every entry alike", hold_exceptions(&table, &said));
             }),
+            Some("module") => Marshalled::of_row(row).map(|marshalled| {
+                module = counted(&mut values, "modules, values alike", marshalled);
+            }),
+            Some("body") => Marshalled::of_row(row).map(|marshalled| {
+                counted(&mut values, ".pyc bodies, values alike", marshalled);
+            }),
+            Some("value") => Marshalled::of_row(row).map(|marshalled| {
+                counted(&mut values, "made values alike, versions 0 to 4", marshalled);
+            }),
             _ => None,
         };
         if tallied.is_none() {
+            let row: String = row.chars().take(300).collect();
             positions.count("", Err(format!("malformed: {row}")));
         }
     }
-    [positions.finish(), cuts.finish(), names.finish(), exceptions.finish()].iter().all(|held| *held)
+    [positions, cuts, names, exceptions, values, nodes].map(Tally::finish).iter().all(|held| *held)
+}
+
+fn counted(tally: &mut Tally, class: &'static str, marshalled: Marshalled) -> Option<Module> {
+    match marshalled.hold() {
+        Ok(module) => {
+            tally.count(class, Ok(()));
+            Some(module)
+        }
+        Err(difference) => {
+            tally.count(class, Err(difference));
+            None
+        }
+    }
 }
 
 /// The line tables of the file, as questions for the comparison with the Rust.
 #[cfg(carried)]
 pub fn tables(text: &str) -> Vec<linetable::Ask> {
     text.lines().filter_map(of_lines).map(|(ask, _)| ask).collect()
+}
+
+/// The modules of the file, as questions for the comparison with the Rust.
+#[cfg(carried)]
+pub fn modules(text: &str) -> Vec<read::Ask> {
+    let marshalled = text.lines().filter(|row| row.starts_with("module ")).filter_map(|row| row.split(' ').nth(1));
+    marshalled.filter_map(of_hex).map(|input| read::Ask { input, nesting: refusals::MOST_NESTING }).collect()
 }
 
 /// A position as co_positions() gives it: line, end line, column, end column; none is None.
@@ -61,11 +101,15 @@ fn of_lines(row: &str) -> Option<(linetable::Ask, Vec<Position>)> {
 
 /// Every record as CPython has it, all from entries, and the table whole.
 fn hold_positions(ask: &linetable::Ask, said: &[Position]) -> Result<(), String> {
-    let mut running = i64::from(ask.first_line);
-    let records = said.iter().map(|position| as_shown(*position, &mut running)).collect();
+    let records = as_all_shown(ask, said);
     let origin = Origin { from_entries: ask.count, whole: true };
     let answer = linetable::Answer::Accepted { records, origin };
     LineTables::check(ask, &answer).map_err(|difference| format!("{}; {difference}", LineTables::row(ask, &answer)))
+}
+
+fn as_all_shown(ask: &linetable::Ask, said: &[Position]) -> Vec<Location> {
+    let mut running = i64::from(ask.first_line);
+    said.iter().map(|position| as_shown(*position, &mut running)).collect()
 }
 
 /// A position as document 01 shows it: lines of 0 or less as 1; columns from 1, none as 1; no place at all as the

@@ -34,6 +34,13 @@ impl<T: Cell> Lent<T> {
         Self { cells: vec![T::MARK; GUARD + len + GUARD] }
     }
 
+    /// A store that holds these cells, as it is lent for reading.
+    pub fn of(cells: &[T]) -> Self {
+        let mut store = Self::new(cells.len());
+        store.cells[GUARD..GUARD + cells.len()].copy_from_slice(cells);
+        store
+    }
+
     pub fn len(&self) -> usize {
         self.cells.len() - 2 * GUARD
     }

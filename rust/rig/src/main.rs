@@ -2,29 +2,46 @@
 //! code, and to lists of answers kept in the repository. `rig --help` says how to call it.
 mod cpython;
 mod lent;
+mod limits;
 mod linetable;
 mod localsplus;
+mod marshalled;
+mod nested;
 mod nulls;
 mod numbers;
 #[cfg(carried)]
 mod panics;
 #[cfg(carried)]
 mod random;
+mod read;
+mod reading;
 #[cfg(carried)]
 mod shape;
+mod stack;
+mod stores;
 mod subject;
 mod tally;
 mod text;
+#[cfg(carried)]
+mod trace;
+#[cfg(carried)]
+mod tree;
+mod value;
+#[cfg(carried)]
+mod values;
 mod varint;
 
 use linetable::LineTables;
 use localsplus::LocalNames;
+use read::Reads;
 use std::process::ExitCode;
+use stores::{Leaves, ReadStores};
 use subject::replay;
 use varint::Varints;
 
 const USAGE: &str = "\
 usage: rig [--long] [--tables FILE]              compare with the carried Rust, then replay the lists
+       rig --values [--long] [--tables FILE]     compare the reading of values with the carried Rust, nothing else
        rig --replay                              replay the lists only: tests/fixed and tests/vectors
        rig --cpython FILE                        hold the port to what CPython says
        rig --write-fixed FOLDER [--tables FILE]  write the carried Rust's answers as lists into FOLDER
@@ -36,6 +53,7 @@ struct Options {
     help: bool,
     long: bool,
     replay: bool,
+    values: bool,
     tables: Option<String>,
     cpython: Option<String>,
     write_fixed: Option<String>,
@@ -49,7 +67,16 @@ fn main() -> ExitCode {
             return ExitCode::from(2);
         }
     };
-    match run(options) {
+    // The carried Rust, nested 2,000 deep, wants more stack than a main thread has.
+    let deep = std::thread::Builder::new().stack_size(512 << 20);
+    match deep.spawn(|| run(options)).map(|thread| thread.join()) {
+        Ok(Ok(ended)) => exit_code(ended),
+        _ => ExitCode::FAILURE,
+    }
+}
+
+fn exit_code(ended: Result<bool, String>) -> ExitCode {
+    match ended {
         Ok(true) => ExitCode::SUCCESS,
         Ok(false) => ExitCode::FAILURE,
         Err(fault) => {
@@ -67,13 +94,15 @@ fn options(mut words: impl Iterator<Item = String>) -> Result<Options, String> {
             "--help" => options.help = true,
             "--long" => options.long = true,
             "--replay" => options.replay = true,
+            "--values" => options.values = true,
             "--tables" => options.tables = file()?,
             "--cpython" => options.cpython = file()?,
             "--write-fixed" => options.write_fixed = file()?,
             _ => return Err(format!("unknown option {word}")),
         }
     }
-    let tasks = [options.help, options.replay, options.cpython.is_some(), options.write_fixed.is_some()];
+    let tasks =
+        [options.help, options.replay, options.values, options.cpython.is_some(), options.write_fixed.is_some()];
     if tasks.iter().filter(|asked| **asked).count() > 1 {
         return Err("one task at a time".to_string());
     }
@@ -93,6 +122,9 @@ fn run(options: Options) -> Result<bool, String> {
     }
     #[cfg(carried)]
     panics::keep_quiet();
+    if options.values {
+        return beside_the_rust::compare_values(options.long, options.tables);
+    }
     match options.write_fixed {
         Some(folder) => beside_the_rust::write_fixed(&folder, options.tables),
         None => Ok(all([beside_the_rust::compare(options.long, options.tables)?, replay_lists()])),
@@ -106,7 +138,9 @@ fn contents(file: &str) -> Result<String, String> {
 fn replay_lists() -> bool {
     let replay_all =
         |folder| all([replay::<Varints>(folder), replay::<LineTables>(folder), replay::<LocalNames>(folder)]);
-    all([numbers::hold(), nulls::hold(), replay_all("fixed"), replay_all("vectors")])
+    let fixed = all([replay_all("fixed"), replay::<Reads>("fixed")]);
+    let vectors = all([replay_all("vectors"), replay::<ReadStores>("vectors"), replay::<Leaves>("vectors")]);
+    all([numbers::hold(), nulls::hold(), limits::hold(), stack::hold(), fixed, vectors])
 }
 
 fn all<const N: usize>(held: [bool; N]) -> bool {
@@ -115,7 +149,9 @@ fn all<const N: usize>(held: [bool; N]) -> bool {
 
 #[cfg(carried)]
 mod beside_the_rust {
-    use super::{LineTables, LocalNames, Varints, all, contents, cpython, linetable, localsplus, varint};
+    use super::{
+        LineTables, LocalNames, Reads, Varints, all, contents, cpython, linetable, localsplus, values, varint,
+    };
     use crate::subject::{compare as compare_all, write_list};
     use linetable::carried_side::Extent;
 
@@ -124,33 +160,50 @@ mod beside_the_rust {
         varints: usize,
         tables: Extent,
         lists: (u32, usize),
+        values: values::Extent,
     }
 
-    const SHORT: Sizes =
-        Sizes { varints: 1_000_000, tables: Extent { of_three: 1, random: 500_000 }, lists: (3, 200_000) };
-    const LONG: Sizes =
-        Sizes { varints: 20_000_000, tables: Extent { of_three: 6, random: 20_000_000 }, lists: (4, 5_000_000) };
+    const SHORT: Sizes = Sizes {
+        varints: 1_000_000,
+        tables: Extent { of_three: 1, random: 500_000 },
+        lists: (3, 200_000),
+        values: values::Extent { of_each_length: 2_000_000, random: 1_000_000 },
+    };
+    const LONG: Sizes = Sizes {
+        varints: 20_000_000,
+        tables: Extent { of_three: 6, random: 20_000_000 },
+        lists: (4, 5_000_000),
+        values: values::Extent { of_each_length: 60_000_000, random: 50_000_000 },
+    };
+
+    fn text_of(tables: Option<String>) -> Result<String, String> {
+        tables.map_or(Ok(String::new()), |file| contents(&file))
+    }
 
     pub fn compare(long: bool, tables: Option<String>) -> Result<bool, String> {
-        let made = made_tables(tables)?;
+        let text = text_of(tables)?;
         let sizes = if long { LONG } else { SHORT };
         Ok(all([
             compare_all::<Varints>(varint::carried_side::asks(sizes.varints)),
-            compare_all::<LineTables>(linetable::carried_side::asks(sizes.tables, made)),
+            compare_all::<LineTables>(linetable::carried_side::asks(sizes.tables, cpython::tables(&text))),
             compare_all::<LocalNames>(localsplus::carried_side::asks(sizes.lists.0, sizes.lists.1)),
+            compare_all::<Reads>(values::asks(sizes.values, cpython::modules(&text))),
         ]))
     }
 
-    pub fn write_fixed(folder: &str, tables: Option<String>) -> Result<bool, String> {
-        let made = made_tables(tables)?;
-        write_list::<Varints>(folder, varint::carried_side::asks_to_list())?;
-        write_list::<LineTables>(folder, linetable::carried_side::asks_to_list(made))?;
-        write_list::<LocalNames>(folder, localsplus::carried_side::asks_to_list())?;
-        Ok(true)
+    pub fn compare_values(long: bool, tables: Option<String>) -> Result<bool, String> {
+        let text = text_of(tables)?;
+        let modules = cpython::modules(&text);
+        Ok(compare_all::<Reads>(values::asks(if long { LONG } else { SHORT }.values, modules)))
     }
 
-    fn made_tables(file: Option<String>) -> Result<Vec<linetable::Ask>, String> {
-        Ok(file.map(|file| contents(&file)).transpose()?.map_or(Vec::new(), |text| cpython::tables(&text)))
+    pub fn write_fixed(folder: &str, tables: Option<String>) -> Result<bool, String> {
+        let text = text_of(tables)?;
+        write_list::<Varints>(folder, varint::carried_side::asks_to_list())?;
+        write_list::<LineTables>(folder, linetable::carried_side::asks_to_list(cpython::tables(&text)))?;
+        write_list::<LocalNames>(folder, localsplus::carried_side::asks_to_list())?;
+        write_list::<Reads>(folder, values::asks_to_list())?;
+        Ok(true)
     }
 }
 
@@ -159,6 +212,10 @@ mod beside_the_rust {
     pub fn compare(_long: bool, _tables: Option<String>) -> Result<bool, String> {
         println!("rig: built without the carried Rust, so nothing is compared with it: the fixed lists stand in");
         Ok(true)
+    }
+
+    pub fn compare_values(long: bool, tables: Option<String>) -> Result<bool, String> {
+        compare(long, tables)
     }
 
     pub fn write_fixed(_folder: &str, _tables: Option<String>) -> Result<bool, String> {

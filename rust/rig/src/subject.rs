@@ -26,6 +26,11 @@ pub trait Subject {
 #[cfg(carried)]
 pub trait Carried: Subject {
     fn by_the_rust(ask: &Self::Ask) -> Self::Answer;
+
+    /// Smaller questions of the same kind, to try where this one shows a difference.
+    fn smaller(_: &Self::Ask) -> Vec<Self::Ask> {
+        Vec::new()
+    }
 }
 
 fn held<S: Subject>(ask: &S::Ask, answer: &S::Answer) -> Result<(), String> {
@@ -40,9 +45,27 @@ pub fn compare<S: Carried>(asks: impl Iterator<Item = S::Ask>) -> bool {
     let mut tally = Tally::new(format!("rust {}", S::NAME));
     for ask in asks {
         let answer = S::by_the_rust(&ask);
-        tally.count(S::class(&ask, &answer), held::<S>(&ask, &answer));
+        let class = S::class(&ask, &answer);
+        let outcome = held::<S>(&ask, &answer);
+        let first = outcome.is_err() && tally.none_failed();
+        tally.count(class, if first { smallest::<S>(ask, outcome) } else { outcome });
     }
     tally.finish()
+}
+
+/// The difference that the smallest question shows to which this one can be shortened.
+#[cfg(carried)]
+fn smallest<S: Carried>(mut ask: S::Ask, mut outcome: Result<(), String>) -> Result<(), String> {
+    loop {
+        let mut tried = S::smaller(&ask).into_iter().map(|ask| {
+            let outcome = held::<S>(&ask, &S::by_the_rust(&ask));
+            (ask, outcome)
+        });
+        match tried.find(|(_, outcome)| outcome.is_err()) {
+            None => return outcome,
+            Some(found) => (ask, outcome) = found,
+        }
+    }
 }
 
 /// Writes the Rust's answers; the list is whole or not there.

@@ -12,6 +12,11 @@ impl Tally {
         Self { name: name.into(), classes: Vec::new(), failed: 0, first_difference: None }
     }
 
+    #[cfg(carried)]
+    pub fn none_failed(&self) -> bool {
+        self.failed == 0
+    }
+
     /// One case of a class: agreed, or a difference in words.
     pub fn count(&mut self, class: &'static str, outcome: Result<(), String>) {
         match outcome {

@@ -1,0 +1,63 @@
+//! CPython beside the others: a child that loads the same bytes as often as it is told to, one line for each time.
+use std::io::{BufRead, BufReader, Write};
+use std::path::PathBuf;
+use std::process::{Child, ChildStdin, ChildStdout, Command, Stdio};
+
+const SCRIPT: &str = "\
+import gc, marshal, sys
+data = open(sys.argv[1], 'rb').read()
+sizes = list(map(int, sys.argv[2].split(',')))
+parts, at = [], 0
+for size in sizes:
+    parts.append(data[at:at + size])
+    at += size
+gc.disable()
+print('ready', flush=True)
+for _ in sys.stdin:
+    for part in parts:
+        marshal.loads(part)
+    print('done', flush=True)
+";
+
+pub struct Python {
+    child: Child,
+    asked: Option<ChildStdin>,
+    said: BufReader<ChildStdout>,
+    file: PathBuf,
+}
+
+impl Python {
+    /// None where there is no python3, or one that cannot load this.
+    pub fn new(inputs: &[Vec<u8>]) -> Option<Self> {
+        let file = std::env::temp_dir().join(format!("sillgarland-bench-{}", std::process::id()));
+        std::fs::write(&file, inputs.concat()).ok()?;
+        let sizes: Vec<String> = inputs.iter().map(|input| input.len().to_string()).collect();
+        let mut command = Command::new("python3");
+        command.args(["-c", SCRIPT]).arg(&file).arg(sizes.join(",")).stdin(Stdio::piped()).stdout(Stdio::piped());
+        let mut child = command.spawn().ok()?;
+        let (asked, said) = (child.stdin.take(), BufReader::new(child.stdout.take()?));
+        let mut python = Self { child, asked, said, file };
+        (python.line() == "ready").then_some(python)
+    }
+
+    fn line(&mut self) -> String {
+        let mut line = String::new();
+        let _ = self.said.read_line(&mut line);
+        line.trim_end().to_string()
+    }
+
+    pub fn load_all(&mut self) {
+        if let Some(asked) = &mut self.asked {
+            let _ = asked.write_all(b"\n").and_then(|()| asked.flush());
+        }
+        assert_eq!(self.line(), "done", "CPython refuses");
+    }
+}
+
+impl Drop for Python {
+    fn drop(&mut self) {
+        drop(self.asked.take());
+        let _ = self.child.wait();
+        let _ = std::fs::remove_file(&self.file);
+    }
+}
