@@ -1,36 +1,33 @@
 -- Theorem B: the canonical bytes of a value, with anything after them, are read as that value. One law a kind of value, and an induction on
 -- the value. Assumes that the input is bytes.
-use mathlib.Core.Path.{_≡_, refl, sym, ap, subst, _∙_}
-use Prim.Native.Nat.{ℕ, zero, suc, _+_, _-_, _*_, _/_, _%_, _≤_, _<_, max}
+use mathlib.Core.Path.{_≡_, refl, ap, subst, _∙_}
+use Prim.Native.Nat.{ℕ, zero, suc, _+_, _-_, _*_, _%_, _≤_, _<_}
 use native.Mathlib.Omega.{arith}
-use native.Mathlib.Nat.{add-zero}
-use mathlib.Core.Bool.{Bool, true, false, cond, not, _&&_}
-use mathlib.Core.List.{List, [], _∷_, _++_, append-assoc, append-nil}
-use lib.ListN.{length, getD, take, drop, length-append}
-use lib.Dec.{leb, ltb, eqb}
-use borrow.Author.Tests.{lt-ltb, le-ltb, le-leb, ltb-true, ltb-false, leb-true, leb-false, ne-eqb, eq-eqb}
-use Rattle.refusals.specs.Numbers.{accepted}
+use mathlib.Core.Bool.{Bool, true, false, cond, not}
+use mathlib.Core.List.{List, [], _∷_, _++_, append-assoc}
+use lib.ListN.{length, drop, length-append}
+use lib.Dec.{leb, ltb}
+use borrow.Author.Tests.{lt-ltb, le-ltb, le-leb, ltb-false, leb-false, ne-eqb}
 use Rattle.refusals.specs.Limits.{mostBytes}
-use Rattle.grammar.specs.Reading.{level, node, Reading, done, claim, bind, Answer, gives, stops}
+use Rattle.grammar.specs.Reading.{Answer}
 use Rattle.grammar.specs.Letters as letter
-use Rattle.grammar.specs.Letters.{Class, keeps, contains, codes, letters, found, classOf, among, endsDict}
-use Rattle.grammar.specs.Fields.{Fields, items, pairs, parts, le16, le32, notNegative, digitCount, digits, lastDigit, pylong, numbers, sumAt, codeFault, fields, codeFields}
-use Rattle.grammar.specs.Arguments.{argumentSum}
+use Rattle.grammar.specs.Letters.{keeps, letters, found, classOf, among, endsDict}
+use Rattle.grammar.specs.Fields.{Fields, items, pairs, le16, le32, notNegative, digitCount, digits, lastDigit, pylong, fields}
 use Rattle.grammar.specs.Leaf.{magnitude}
-use Rattle.grammar.specs.State.{State, movedTo}
-use Rattle.grammar.specs.Steps.{opens, header, front, Chain, fresh, Rule, whatever, child, kids, couples, rules, linePart, lined, firstLine, partsFrom, faultOf, ended, body, enter, value}
-use Rattle.grammar.proofs.Following.{Need, follows-bind, follows-map}
+use Rattle.grammar.specs.State.{State}
+use Rattle.grammar.specs.Steps.{fresh, kids, couples, body, enter, value}
+use Rattle.grammar.proofs.Following.{Need, follows-map}
 use Rattle.grammar.proofs.Bounded.{Bytes}
-use Rattle.grammar.proofs.Standing.{Holds, Chained, closing}
-use Rattle.writing.specs.Canonical.{Integer, bytes16, bytes32, words, bitsOf, inSigned32, digitsFrom, digitsOf, digitBytes, longBytes, integerBytes, shownLine}
+use Rattle.grammar.proofs.Standing.{Chained, closing}
+use Rattle.writing.specs.Canonical.{Integer, bytes16, bytes32, bitsOf, inSigned32, digitsOf, digitBytes, longBytes, integerBytes}
 use Rattle.writing.specs.Shape as shape
-use Rattle.writing.specs.Shape.{classed, longAt, numbersAt}
-use Rattle.meaning.specs.Value.{Value, Values, nil, more, integer, sequence, slice, dict, code, countOf}
-use Rattle.meaning.specs.Extent.{depthOf, depthAll, nodesOf, nodesAll, entriesOf, entriesAll}
+use Rattle.writing.specs.Shape.{classed, longAt}
+use Rattle.meaning.specs.Value.{Values, nil, integer, sequence, slice, dict, countOf}
+use Rattle.meaning.specs.Extent.{depthOf, nodesOf, entriesOf}
 use Rattle.meaning.specs.Proper.{sequences, lengths, Signed}
-use Rattle.meaning.proofs.Means.{Sees, Means, MeanAll}
-use Rattle.meaning.proofs.At.{byte-first, length-at, drop-at, past, fits, half-at, word-at, Digits, digits-below, total, digits-total, lastOf, digits-last, magnitude-at}
-use Rattle.meaning.proofs.Goes.{Goes, Never, Anywhere, Wrote, WroteKids, Reads, AllRead, kids-go}
+use Rattle.meaning.proofs.Means.{Means}
+use Rattle.meaning.proofs.At.{byte-first, length-at, drop-at, half-at, word-at, Digits, digits-below, total, digits-total, lastOf, digits-last, magnitude-at}
+use Rattle.meaning.proofs.Goes.{Goes, Never, Anywhere, WroteKids, Reads, AllRead, kids-go}
 use Rattle.meaning.proofs.Loops.{WroteBody, Whatever, all-children, couples-go, node-goes}
 use Rattle.meaning.proofs.Inversion.{among-each}
 use Rattle.meaning.proofs.Leaves.{kept-front, reads-node, short-reads, leaf-goes}

@@ -1,33 +1,29 @@
 -- A code is read from its bytes: five numbers, eight parts, the first line and two tables. Assumes that the input is bytes.
 use mathlib.Core.Path.{_≡_, refl, sym, ap, subst, _∙_}
-use Prim.Native.Nat.{ℕ, zero, suc, _+_, _-_, _≤_, _<_, max}
+use Prim.Native.Nat.{ℕ, suc, _+_, _-_, _≤_, _<_, max}
 use native.Mathlib.Omega.{arith}
-use mathlib.Core.Bool.{Bool, true, false, cond}
 use mathlib.Core.List.{List, [], _∷_, _++_, append-assoc}
 use lib.ListN.{length, getD, take, drop, length-append}
-use lib.Dec.{leb, ltb, eqb}
 use borrow.Author.Tests.{lt-ltb, le-leb, eq-eqb}
 use Rattle.refusals.specs.Numbers.{accepted}
 use Rattle.refusals.specs.Limits.{mostBytes}
-use Rattle.grammar.specs.Reading.{level, node, Reading, done, claim, bind}
+use Rattle.grammar.specs.Reading.{level, node, done, claim, bind}
 use Rattle.grammar.specs.Letters.{letters, found, classOf}
-use Rattle.grammar.specs.Fields.{Fields, parts, le32, numbers, sumAt, codeFault, codeFields}
-use Rattle.grammar.specs.Arguments.{argumentSum}
+use Rattle.grammar.specs.Fields.{Fields, parts, le32, numbers, codeFields}
 use Rattle.grammar.specs.State.{Node, State, blank}
-use Rattle.grammar.specs.Steps.{opens, header, front, Chain, fresh, Rule, whatever, child, rules, linePart, lined, firstLine, partsFrom, faultOf, ended, body, enter, one, value}
-use Rattle.grammar.proofs.Following.{Need, raise, follows-bind, follows-map}
+use Rattle.grammar.specs.Steps.{opens, header, front, Chain, fresh, whatever, child, rules, linePart, lined, firstLine, partsFrom, faultOf, ended, body, enter, one, value}
+use Rattle.grammar.proofs.Following.{Need, raise, follows-bind}
 use Rattle.grammar.proofs.Bounded.{Bytes}
-use Rattle.grammar.proofs.Standing.{Holds, Chained, Claimed, entered, started, closing}
+use Rattle.grammar.proofs.Standing.{Chained, Claimed, entered, started}
 use Rattle.writing.specs.Canonical.{bytes32, words, shownLine}
 use Rattle.writing.specs.Shape as shape
-use Rattle.writing.specs.Shape.{Shape, classed, numbersAt}
+use Rattle.writing.specs.Shape.{Shape, numbersAt}
 use Rattle.meaning.specs.Value.{Value, Values, nil, more, code, countOf, valueAt, contentsOf, membersOf}
-use Rattle.meaning.specs.Extent.{depthOf, depthAll, nodesOf, nodesAll, entriesOf, entriesAll}
+use Rattle.meaning.specs.Extent.{depthOf, depthAll, nodesOf, entriesOf}
 use Rattle.meaning.specs.Proper.{lengths, SuitFrom, faultIn}
-use Rattle.meaning.proofs.Means.{Sees, Means, MeanAll, join, takeOf, dropOf, mean-all-take, mean-all-drop}
-use Rattle.meaning.proofs.Standing.{InState}
-use Rattle.meaning.proofs.At.{byte-first, length-at, drop-at, past, fits, word-at}
-use Rattle.meaning.proofs.Goes.{Goes, Never, Anywhere, Wrote, WroteKids, Reads, child-goes, join-assoc, nodes-join, entries-join, depth-join}
+use Rattle.meaning.proofs.Means.{Means, MeanAll, join, takeOf, dropOf, mean-all-take, mean-all-drop}
+use Rattle.meaning.proofs.At.{byte-first, length-at, drop-at, past, word-at}
+use Rattle.meaning.proofs.Goes.{Goes, Never, Anywhere, WroteKids, Reads, child-goes, join-assoc, nodes-join, entries-join, depth-join}
 use Rattle.meaning.proofs.Loops.{moved, Suited, PartsRead, parts-go, WroteBody, after-goes, value-goes, claimed-node}
 use Rattle.meaning.proofs.Leaves.{reads-node}
 use Rattle.meaning.proofs.Parts.{take-join, drop-join, looked-at}

@@ -1,22 +1,22 @@
 -- What a writing emits, and what it comes to within room; and what a node is in the stores that a writer is lent. Assumes nothing.
-use mathlib.Core.Path.{_≡_, refl, sym, ap, subst, _∙_}
-use Prim.Native.Nat.{ℕ, zero, suc, _+_, _-_, _≤_, _<_}
+use mathlib.Core.Path.{_≡_, refl, sym, ap, _∙_}
+use Prim.Native.Nat.{ℕ, zero, suc, _+_, _≤_, _<_}
 use native.Mathlib.Omega.{arith}
 use mathlib.Core.Bool.{Bool, true, false, cond, _&&_}
-use mathlib.Core.List.{List, [], _∷_, _++_, append-assoc, append-nil}
+use mathlib.Core.List.{List, [], _++_, append-assoc, append-nil}
 use lib.ListN.{length, length-append}
 use lib.Dec.{leb, ltb, eqb}
 use borrow.Author.Tests.{le-leb, eqb-true, leb-true}
 use Rattle.refusals.specs.Numbers.{noRoom}
-use Rattle.grammar.specs.Reading.{Answer, gives, stops}
+use Rattle.grammar.specs.Reading.{gives, stops}
 use Rattle.grammar.specs.Letters.{letters, found, classOf}
 use Rattle.grammar.specs.Record.{Tables, holds, look, nodeOf, nodesIn}
-use Rattle.writing.specs.Writing.{Writing, ended, refused, emit, then, each, into}
+use Rattle.writing.specs.Writing.{Writing, ended, refused, emit, then, into}
 use Rattle.writing.specs.Shape as shape
 use Rattle.writing.specs.Shape.{Shape, shapeOf}
 use Rattle.writing.specs.Names.{contentsOf}
-use Rattle.writing.specs.Steps.{shaped, looked, isCode, noParts, parted, writing}
-use Rattle.meaning.proofs.Means.{Sees, tag}
+use Rattle.writing.specs.Steps.{shaped, isCode, noParts, parted, writing}
+use Rattle.meaning.proofs.Means.{tag}
 use Rattle.meaning.proofs.Inversion.{bytes-class, text-class}
 
 -- The writing ends, and these are its bytes.

@@ -4,8 +4,10 @@ use mathlib.Core.Path.{_≡_, refl}
 use Prim.Native.Nat.{ℕ}
 use mathlib.Core.Bool.{true, false}
 use mathlib.Core.Option.{Option, none, some}
-use mathlib.Core.List.{List, [], _∷_, _++_}
-use Rattle.lent.specs.Lent.{zeros, padded}
+use mathlib.Core.List.{List, [], _∷_}
+use lib.ListN.{length}
+use Rattle.refusals.specs.Numbers.{invalidBytecode}
+use Rattle.lent.specs.Lent.{padded}
 use Rattle.wtf8.specs.Forms.{afterLead, after as afterByte, allows}
 use Rattle.localsplus.specs.Kind.{has}
 use Rattle.grammar.specs.Reading.{Answer, gives, stops, bind}
@@ -22,7 +24,7 @@ use Rattle.writing.specs.Shape.{shapeOf}
 use Rattle.writing.specs.Names.{sameBytes, having, namedIn, apartFrom, inGroups}
 use Rattle.writing.specs.Steps.{manners, partsAs, parted, writing}
 use Rattle.writing.specs.Answer.{written}
-use Rattle.meaning.specs.Value.{Value, Values, nil, more, single, integer, float, complex, bytes, text, sequence, slice, dict, code, countOf, valueAt, contentsOf, contentsAll, membersOf}
+use Rattle.meaning.specs.Value.{Value, nil, more, single, integer, bytes, text, sequence, code, countOf, contentsOf, membersOf}
 use Rattle.meaning.specs.Canonical.{canonical, codeStrings}
 use Rattle.meaning.specs.Extent.{depthOf, nodesOf, entriesOf}
 use Rattle.meaning.specs.Order.{frees, cellsThenFrees, localNames, grouped, nameOrder}
@@ -84,6 +86,30 @@ pub code-both-ways :
     × (depthOf codeValue ≡ 4) × (nodesOf codeValue ≡ 13) × (entriesOf codeValue ≡ 12)
 unfolding afterLead afterByte allows bind run letters found classOf digits pylong numbers fields contained codeFields reference header front attach strings suits child kids couples rules firstLine partsFrom ended body enter close after one value plain reading readOf padded sound soundAt chain whole badString badPart badEnd look magnitude then each into words digitsFrom digitBytes integerBytes ascii codeString shapeOf sameBytes having namedIn apartFrom inGroups manners partsAs parted writing written allOf valueOf has canonical codeStrings countOf contentsOf membersOf depthOf nodesOf entriesOf
 code-both-ways = (refl, refl, refl, refl, refl, refl, refl)
+
+-- A code whose one local name has kind 0, in no group: out of name order, so that its name is not written, nor its nesting asked for. With
+-- nesting 3 it is written, though the value is 4 deep; the round trip does not speak of it, and its bytes are refused when read.
+abbrev groupless : List ℕ
+groupless =
+    0x63 ∷ 1 ∷ 0 ∷ 0 ∷ 0 ∷ 0 ∷ 0 ∷ 0 ∷ 0 ∷ 0 ∷ 0 ∷ 0 ∷ 0 ∷ 2 ∷ 0 ∷ 0 ∷ 0 ∷ 3 ∷ 0 ∷ 0 ∷ 0
+    ∷ 0x73 ∷ 0 ∷ 0 ∷ 0 ∷ 0 ∷ 0x29 ∷ 0 ∷ 0x29 ∷ 0 ∷ 0x29 ∷ 1 ∷ 0x7A ∷ 1 ∷ 0x78 ∷ 0x73 ∷ 1 ∷ 0 ∷ 0 ∷ 0 ∷ 0 ∷ 0x7A ∷ 0 ∷ 0x7A ∷ 0 ∷ 0x7A ∷ 0
+    ∷ 0 ∷ 0 ∷ 0 ∷ 0 ∷ 0x73 ∷ 0 ∷ 0 ∷ 0 ∷ 0 ∷ 0x73 ∷ 0 ∷ 0 ∷ 0 ∷ 0 ∷ []
+
+abbrev readAgain : Answer (List ℕ) → Answer Counts
+readAgain (gives bs) = readOf bs 100 40 5 9 .answer
+readAgain (stops n p) = stops n p
+
+abbrev lengthOf : Answer (List ℕ) → Answer ℕ
+lengthOf (gives bs) = gives (length bs)
+lengthOf (stops n p) = stops n p
+
+abbrev shallowAs : List ℕ → Outcome → Answer Counts → Option Value × Answer ℕ × Answer Counts
+shallowAs s o (gives c) = (valueOf 3 (tablesAfter s o c) 0, lengthOf (written (tablesAfter s o c) 0 3 200), readAgain (written (tablesAfter s o c) 0 3 200))
+shallowAs s o (stops n p) = (none, stops n p, stops n p)
+
+pub out-of-order : shallowAs groupless (readOf groupless 100 40 5 9) (readOf groupless 100 40 5 9 .answer) ≡ (none, gives 67, stops invalidBytecode 0)
+unfolding afterLead afterByte allows bind run letters found classOf digits pylong numbers fields contained codeFields reference header front attach strings suits child kids couples rules firstLine partsFrom ended body enter close after one value plain reading readOf padded sound soundAt chain whole badString badPart badEnd look magnitude then each into words digitsFrom digitBytes integerBytes ascii codeString shapeOf sameBytes having namedIn apartFrom inGroups manners partsAs parted writing written allOf valueOf has
+out-of-order = refl
 
 -- The name order: x Local, c Cell, f Free keep it; a cell before a local, and a cell named like a local, do not.
 pub orders :

@@ -1,27 +1,24 @@
 -- Written bytes, read: what holds of a value and of a chain of children that are read from them, and how one follows another. `Goes P t m`:
 -- the reading m is not refused, and P holds of what it claims and gives. Assumes nothing.
-use mathlib.Core.Path.{_≡_, refl, sym, ap, _∙_}
-use Prim.Native.Nat.{ℕ, zero, suc, _+_, _*_, _%_, _≤_, _<_, max}
+use mathlib.Core.Path.{_≡_, refl, ap, _∙_}
+use Prim.Native.Nat.{ℕ, _+_, _≤_, max}
 use native.Mathlib.Omega.{arith}
-use mathlib.Core.Bool.{Bool, true, false}
-use mathlib.Core.List.{List, [], _∷_, _++_, append-assoc, append-nil}
-use lib.ListN.{length, getD, drop, length-append}
-use lib.Dec.{ltb, eqb}
-use borrow.Author.Tests.{lt-ltb, ltb-true, ltb-false, ne-eqb, eq-eqb}
+use mathlib.Core.Bool.{true, false}
+use mathlib.Core.List.{List, [], _∷_, _++_, append-assoc}
+use lib.ListN.{length, drop, length-append}
 use Rattle.refusals.specs.Limits.{mostBytes}
-use Rattle.grammar.specs.Reading.{entry, Reading, done, refused, claim, bind}
+use Rattle.grammar.specs.Reading.{Reading, done, refused, claim}
 use Rattle.grammar.specs.Letters.{endsDict}
-use Rattle.grammar.specs.State.{State, movedTo}
-use Rattle.grammar.specs.Steps.{Chain, attach, Rule, whatever, suits, child, kids, couples, passed, Reader, value}
+use Rattle.grammar.specs.State.{State}
+use Rattle.grammar.specs.Steps.{Chain, attach, Rule, whatever, suits, child, kids, Reader, value}
 use Rattle.grammar.proofs.Following.{Need, raise, Follows, follows-bind, follows-map}
 use Rattle.grammar.proofs.Bounded.{Bytes}
 use Rattle.grammar.proofs.Standing.{Holds, Valued, Chained, attached}
-use Rattle.grammar.proofs.Keeping.{value-keeps}
 use Rattle.meaning.specs.Value.{Value, Values, nil, more, countOf}
 use Rattle.meaning.specs.Extent.{depthOf, depthAll, nodesOf, nodesAll, entriesOf, entriesAll}
 use Rattle.meaning.proofs.Means.{Means, MeanAll, snoc, join, join-nil}
-use Rattle.meaning.proofs.Standing.{InState, attach-means, mean-all-on, Onward}
-use Rattle.meaning.proofs.At.{byte-first, length-at, drop-at, past, fits}
+use Rattle.meaning.proofs.Standing.{InState, attach-means}
+use Rattle.meaning.proofs.At.{past}
 
 -- What two theorems say of one reading.
 pub follows-both : {A : Type 0} (Q Q′ : ℕ → ℕ → Type 0) (C C′ : ℕ → Type 0) (P P′ : Need → A → Type 0) (t : Need) (m : Reading A)
@@ -119,6 +116,11 @@ module _ (s : List ℕ) (small : length s ≤ mostBytes) (bytes : Bytes s) where
   AllRead bs nil = bs ≡ []
   AllRead bs (more v vs) = (b : List ℕ) × (rest : List ℕ) × (bs ≡ b ++ rest) × Reads b v × AllRead rest vs
 
+  -- any child may be any value
+  pub any : (v : Value) (st : State) (n : ℕ) → Means (InState s st) n v → suits whatever (st .nodes) (st .entries) n ≡ true
+  unfolding suits
+  any v st n m = refl
+
   module _ (fuel depth : ℕ) (b : State) where
     abbrev f : Reader
     f = value fuel s depth
@@ -147,10 +149,6 @@ module _ (s : List ℕ) (small : length s ≤ mostBytes) (bytes : Bytes s) where
           },
         ))
 
-    any : (st : State) (n : ℕ) (v : Value) → Means (InState s st) n v → suits whatever (st .nodes) (st .entries) n ≡ true
-    unfolding suits
-    any st n v m = refl
-
     pub kids-go : (vs : Values) (bs : List ℕ) → AllRead bs vs → (us : Values) (c : Chain) (t : Need) (rest : List ℕ) → Chained s b t c → MeanAll (InState s (c .st)) (c .kids) us
         → length s ≤ c .st .at + fuel → drop (c .st .at) s ≡ bs ++ rest → Goes (WroteKids s us vs (length bs) depth b c t) t (kids f (countOf vs) c)
     unfolding kids countOf join
@@ -162,7 +160,7 @@ module _ (s : List ℕ) (small : length s ≤ mostBytes) (bytes : Bytes s) where
         let long : length bs ≡ length h + length r = ap length (al .2) ∙ length-append h r in
         rw long
         (follows-bind Never Anywhere (WroteKids s us (more v nil) (length h) depth b c t) (WroteKids s us (more v vs) (length h + length r) depth b c t) t (child whatever f c) (kids f (countOf vs))
-        (child-goes whatever h v (al .3) (λ st n x. any st n v x) us c t (r ++ rest) k m enough d₀)
+        (child-goes whatever h v (al .3) (any v) us c t (r ++ rest) k m enough d₀)
         (λ t₁ d w.
         follows-map Never Anywhere (WroteKids s (join us (more v nil)) vs (length r) depth b d t₁) (WroteKids s us (more v vs) (length h + length r) depth b c t) t₁ (kids f (countOf vs) d)
         (kids-go vs r (al .4) (join us (more v nil)) d t₁ rest (w .chained) (w .means) (omega (arith, w .at)) (ap (λ i. drop i s) (w .at) ∙ past s (c .st .at) h (r ++ rest) d₀))

@@ -1,27 +1,26 @@
 -- What a letter, its class, the shape of a node and a value say of one another: one computed test over the letters, and the kinds that a
 -- code's parts must be of, in the stores and as values. Assumes nothing.
 use mathlib.Core.Path.{_≡_, refl, sym, ap, _∙_}
-use Prim.Native.Nat.{ℕ, zero, suc, _+_, _≤_, _<_}
+use Prim.Native.Nat.{ℕ, _≤_}
 use native.Mathlib.Omega.{arith}
 use mathlib.Core.Bool.{Bool, true, false, cond, _&&_}
 use mathlib.Core.List.{List, [], _∷_}
 use lib.ListN.{length, getD}
-use lib.Dec.{leb, ltb, eqb}
-use borrow.Author.Tests.{eqb-true, eqb-false, eq-eqb, leb-true}
+use lib.Dec.{eqb}
+use borrow.Author.Tests.{eqb-true}
 use Rattle.grammar.specs.Letters as letter
-use Rattle.grammar.specs.Letters.{Form, Sort, Class, refers, keeps, contains, codes, refuses, letters, found, classOf, among, isBytes, isTuple, isString}
+use Rattle.grammar.specs.Letters.{Class, refers, keeps, contains, codes, refuses, letters, found, classOf, among, isBytes, isTuple, isString}
 use Rattle.grammar.specs.Fields.{contents, le32, le64}
-use Rattle.grammar.specs.State.{Node, Entry, State, blank, unlinked}
+use Rattle.grammar.specs.State.{Node, State, blank}
 use Rattle.grammar.specs.Steps.{Rule, whatever, asBytes, asTuple, asNames, asString, letterIn, strings, suits}
-use Rattle.grammar.specs.Record.{ruled, sound}
 use Rattle.grammar.proofs.Links.{Linked, More, childOf, nextOf}
 use Rattle.writing.specs.Canonical.{Integer, ofBits}
 use Rattle.writing.specs.Shape as shape
-use Rattle.writing.specs.Shape.{Shape, eight, field, formed, sorted, classed}
-use Rattle.meaning.specs.Value.{Value, Values, nil, more, single, integer, float, complex, bytes, text, sequence, slice, dict, code, countOf}
+use Rattle.writing.specs.Shape.{Shape, field, classed}
+use Rattle.meaning.specs.Value.{Value, Values, nil, more, single, integer, float, complex, bytes, text, sequence, slice, dict, code}
 use Rattle.meaning.specs.Proper.{singles, sequences, AllTexts, Suits}
-use Rattle.meaning.proofs.Means.{Sees, Means, MeanAll, tag, tagOf, Seen, means-seen, mean-all-count}
-use Rattle.meaning.proofs.Standing.{Stands, InState}
+use Rattle.meaning.proofs.Means.{Means, MeanAll, tag, tagOf, means-seen}
+use Rattle.meaning.proofs.Standing.{InState}
 
 -- a letter of each class
 abbrev pub lettered : ℕ → Class → Bool
@@ -197,7 +196,7 @@ module _ (s : List ℕ) (st : State) where
       text-letter n (h .0) (f .0) (h .1)
 
 -- A value by the number of its kind.
-tagged-bytes : (v : Value) → tagOf v ≡ 4 → (cs : List ℕ) × (v ≡ bytes cs)
+pub tagged-bytes : (v : Value) → tagOf v ≡ 4 → (cs : List ℕ) × (v ≡ bytes cs)
 tagged-bytes (single letter) e = absurd (omega (arith, e))
 tagged-bytes (integer z) e = absurd (omega (arith, e))
 tagged-bytes (float bits) e = absurd (omega (arith, e))
@@ -209,7 +208,7 @@ tagged-bytes (slice vs) e = absurd (omega (arith, e))
 tagged-bytes (dict vs) e = absurd (omega (arith, e))
 tagged-bytes (code numbers parts line tables) e = absurd (omega (arith, e))
 
-tagged-text : (v : Value) → tagOf v ≡ 5 → (cs : List ℕ) × (v ≡ text cs)
+pub tagged-text : (v : Value) → tagOf v ≡ 5 → (cs : List ℕ) × (v ≡ text cs)
 tagged-text (single letter) e = absurd (omega (arith, e))
 tagged-text (integer z) e = absurd (omega (arith, e))
 tagged-text (float bits) e = absurd (omega (arith, e))
@@ -221,7 +220,7 @@ tagged-text (slice vs) e = absurd (omega (arith, e))
 tagged-text (dict vs) e = absurd (omega (arith, e))
 tagged-text (code numbers parts line tables) e = absurd (omega (arith, e))
 
-tagged-sequence : (v : Value) → tagOf v ≡ 6 → (l : ℕ) × (vs : Values) × (v ≡ sequence l vs)
+pub tagged-sequence : (v : Value) → tagOf v ≡ 6 → (l : ℕ) × (vs : Values) × (v ≡ sequence l vs)
 tagged-sequence (single letter) e = absurd (omega (arith, e))
 tagged-sequence (integer z) e = absurd (omega (arith, e))
 tagged-sequence (float bits) e = absurd (omega (arith, e))
@@ -247,26 +246,29 @@ among-each P l (x ∷ xs) h e = go (eqb l x) refl e (λ q. among-each P l xs (h 
     go false q e rest = rest e
 
 -- the kind of a node by its letter
-abbrev Tagged : ℕ → ℕ → Type 0
+abbrev pub Tagged : ℕ → ℕ → Type 0
 Tagged k l = (s : List ℕ) (n : Node) (kids : List ℕ) → tag (classed s n kids (classOf l)) ≡ k
 
-bytes-tagged : (l : ℕ) → isBytes l ≡ true → Tagged 4 l
+pub bytes-tagged : (l : ℕ) → isBytes l ≡ true → Tagged 4 l
 unfolding classOf letters found
 bytes-tagged l e = among-each (Tagged 4) l (0x73 ∷ []) ((λ s n kids. refl), tt) e
 
-text-tagged : (l : ℕ) → isString l ≡ true → Tagged 5 l
+pub text-tagged : (l : ℕ) → isString l ≡ true → Tagged 5 l
 unfolding classOf letters found
 text-tagged l e =
     among-each (Tagged 5) l (0x75 ∷ 0x74 ∷ 0x61 ∷ 0x41 ∷ 0x7A ∷ 0x5A ∷ [])
     ((λ s n kids. refl), ((λ s n kids. refl), ((λ s n kids. refl), ((λ s n kids. refl), ((λ s n kids. refl), ((λ s n kids. refl), tt)))))) e
 
 -- and a tuple's letter is written as one
-abbrev TupleShaped : ℕ → Type 0
+abbrev pub TupleShaped : ℕ → Type 0
 TupleShaped l = (s : List ℕ) (n : Node) (kids : List ℕ) → n .letter ≡ l → classed s n kids (classOf l) ≡ shape.sequence 0x28 kids
 
-tuple-shaped : (l : ℕ) → isTuple l ≡ true → TupleShaped l
+pub tuple-shaped : (l : ℕ) → isTuple l ≡ true → TupleShaped l
 unfolding classOf letters found
 tuple-shaped l e = among-each TupleShaped l (0x28 ∷ 0x29 ∷ []) ((λ s n kids q. ap (λ z. shape.sequence z kids) q), ((λ s n kids q. refl), tt)) e
+
+pub same-letter : (l k : ℕ) (xs ys : List ℕ) → _≡_ {A = Shape} (shape.sequence l xs) (shape.sequence k ys) → l ≡ k
+same-letter l k xs ys e = cc
 
 module _ (s : List ℕ) (st : State) where
   node-bytes : (n : ℕ) (v : Value) → isBytes (letterIn (st .nodes) n) ≡ true → Means (InState s st) n v → (cs : List ℕ) × (v ≡ bytes cs)
@@ -278,9 +280,6 @@ module _ (s : List ℕ) (st : State) where
   node-text n v e m =
       let h = means-seen (InState s st) n v m in
       tagged-text v (sym (h .same) ∙ ap tag (sym (h .seen .is)) ∙ text-tagged (letterIn (st .nodes) n) e s (getD (st .nodes) n blank) (h .kids))
-
-  same-letter : (l k : ℕ) (xs ys : List ℕ) → _≡_ {A = Shape} (shape.sequence l xs) (shape.sequence k ys) → l ≡ k
-  same-letter l k xs ys e = cc
 
   node-tuple : (n : ℕ) (v : Value) → isTuple (letterIn (st .nodes) n) ≡ true → Means (InState s st) n v → (vs : Values) × (v ≡ sequence 0x28 vs)
   unfolding Means

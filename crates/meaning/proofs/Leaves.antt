@@ -1,35 +1,34 @@
 -- Each value without children is read from its bytes. Assumes that the input is bytes.
-use mathlib.Core.Path.{_≡_, refl, sym, ap, subst, _∙_}
-use Prim.Native.Nat.{ℕ, zero, suc, _+_, _-_, _*_, _/_, _%_, _≤_, _<_, max}
+use mathlib.Core.Path.{_≡_, refl, ap, subst, _∙_}
+use Prim.Native.Nat.{ℕ, zero, suc, _+_, _/_, _%_, _≤_, _<_}
 use native.Mathlib.Omega.{arith}
-use native.Mathlib.Nat.{add-zero}
-use mathlib.Core.Bool.{Bool, true, false, cond, not, _&&_}
-use mathlib.Core.List.{List, [], _∷_, _++_, append-assoc, append-nil}
+use mathlib.Core.Bool.{Bool, true, false, cond, _&&_}
+use mathlib.Core.List.{List, [], _∷_, _++_}
 use lib.ListN.{length, getD, drop, length-append}
-use lib.Dec.{leb, ltb, eqb}
-use borrow.Author.Tests.{lt-ltb, le-ltb, le-leb, lt-leb, ltb-true, ltb-false, leb-true, leb-false, eqb-true, ne-eqb}
+use lib.Dec.{ltb}
+use borrow.Author.Tests.{lt-ltb, le-leb, ltb-true}
 use Rattle.refusals.specs.Limits.{mostBytes}
 use Rattle.wtf8.specs.Forms.{wellFormed}
-use Rattle.grammar.specs.Reading.{level, node, Reading, done, claim, Answer, gives, stops}
+use Rattle.grammar.specs.Reading.{level, node, done, claim, gives}
 use Rattle.grammar.specs.Letters as letter
-use Rattle.grammar.specs.Letters.{Form, Sort, Class, keeps, contains, codes, letters, found, classOf, among, endsDict}
-use Rattle.grammar.specs.Fields.{Fields, items, le16, le32, le64, notNegative, digitCount, digits, lastDigit, pylong, fields, contained}
+use Rattle.grammar.specs.Letters.{Form, Sort, keeps, contains, letters, found, classOf, among, endsDict}
+use Rattle.grammar.specs.Fields.{Fields, items, le32, le64, notNegative, fields, contained}
 use Rattle.grammar.specs.State.{State}
 use Rattle.grammar.specs.Steps.{opens, header, front, Chain, fresh, kids, body, enter, value}
 use Rattle.grammar.proofs.Following.{Need}
 use Rattle.grammar.proofs.Bounded.{Bytes}
 use Rattle.grammar.proofs.Standing.{Holds, closing}
-use Rattle.writing.specs.Canonical.{Integer, bytes16, bytes32, bytes64, ofBits, bitsOf, inSigned32, digitsFrom, digitsOf, digitBytes, integerBytes, sized, ascii, codeString}
+use Rattle.writing.specs.Canonical.{Integer, bytes32, bytes64, ofBits, bitsOf, inSigned32, sized, ascii, codeString}
 use Rattle.writing.specs.Shape as shape
-use Rattle.writing.specs.Shape.{Shape, classed, longAt}
-use Rattle.meaning.specs.Value.{Value, Values, nil, more, single, integer, float, complex, bytes as byteString, text}
+use Rattle.writing.specs.Shape.{classed}
+use Rattle.meaning.specs.Value.{Value, nil, single, integer, float, complex, bytes as byteString, text}
 use Rattle.meaning.specs.Extent.{depthOf, nodesOf, entriesOf}
 use Rattle.meaning.specs.Proper.{singles, lengths, Signed}
-use Rattle.meaning.proofs.Means.{Sees, Leaf, Means, MeanAll}
+use Rattle.meaning.proofs.Means.{Sees, Means}
 use Rattle.meaning.proofs.Inversion.{among-each}
-use Rattle.meaning.proofs.At.{byte-first, length-at, drop-at, past, fits, contents-at, half-at, word-at, long-at, in-signed32, Digits, digits-below, total, digits-total, lastOf, digits-last, magnitude-at}
+use Rattle.meaning.proofs.At.{byte-first, length-at, drop-at, contents-at, word-at, long-at, in-signed32}
 use Rattle.meaning.proofs.Goes.{Goes, Wrote, wrote-none, Reads}
-use Rattle.meaning.proofs.Loops.{WroteBody, Whatever, all-children, node-goes}
+use Rattle.meaning.proofs.Loops.{all-children, node-goes}
 
 -- The front of a node whose letter has no flag.
 module _ (s : List ℕ) (depth at nodes used : ℕ) (slots : List ℕ) (l : ℕ) (small : l < 128) (here : at < length s) (e : getD s at 0 ≡ l) where

@@ -1,12 +1,11 @@
-pub mod Examples
 pub mod Means
 pub mod Standing
 pub mod Inversion
+pub mod Parts
 pub mod At
 pub mod Goes
 pub mod Loops
 pub mod Leaves
-pub mod Parts
 pub mod Back
 pub mod Coded
 pub mod TheoremB
@@ -20,3 +19,6 @@ pub mod Unique
 pub mod Octets
 pub mod TheoremA
 pub mod RoundTrip
+pub mod Hostile
+pub mod AnyStores
+pub mod Examples

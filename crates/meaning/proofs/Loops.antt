@@ -1,34 +1,32 @@
 -- The children of a dict, the parts of a code, and a node around its children, read from their bytes. Assumes that the input is bytes.
-use mathlib.Core.Path.{_≡_, refl, sym, ap, _∙_}
-use Prim.Native.Nat.{ℕ, zero, suc, _+_, _*_, _%_, _≤_, _<_, max}
+use mathlib.Core.Path.{_≡_, refl, ap, _∙_}
+use Prim.Native.Nat.{ℕ, zero, suc, _+_, _%_, _≤_, _<_, max}
 use native.Mathlib.Omega.{arith}
 use native.Mathlib.Nat.{zero-add}
-use mathlib.Core.Bool.{Bool, true, false, cond}
-use mathlib.Core.List.{List, [], _∷_, _++_, append-assoc, append-nil}
+use mathlib.Core.Bool.{true}
+use mathlib.Core.List.{List, [], _∷_, _++_, append-assoc}
 use lib.ListN.{length, getD, drop, length-append, length-set}
-use lib.Dec.{ltb, eqb}
-use borrow.Author.Tests.{lt-ltb, le-leb, ne-eqb}
+use borrow.Author.Tests.{lt-ltb, ne-eqb}
 use Rattle.refusals.specs.Limits.{mostBytes}
-use Rattle.grammar.specs.Reading.{level, node, entry, Reading, done, refused, claim, bind}
-use Rattle.grammar.specs.Letters.{classOf, endsDict}
-use Rattle.grammar.specs.Fields.{Fields, le32}
+use Rattle.grammar.specs.Reading.{level, node, done, claim, bind}
+use Rattle.grammar.specs.Letters.{classOf}
+use Rattle.grammar.specs.Fields.{Fields}
 use Rattle.grammar.specs.State.{State, movedTo, blank}
-use Rattle.grammar.specs.Steps.{opens, front, Chain, fresh, Rule, whatever, suits, child, kids, couples, passed, Reader, rules, linePart, lined, firstLine, partsFrom, body, enter, close, fill, after, one, value}
+use Rattle.grammar.specs.Steps.{opens, front, Chain, fresh, Rule, whatever, suits, child, kids, couples, passed, Reader, rules, linePart, firstLine, partsFrom, body, enter, close, after, one, value}
 use Rattle.grammar.specs.Record.{sound}
-use Rattle.grammar.proofs.Following.{Need, raise, Follows, follows-bind, follows-map}
+use Rattle.grammar.proofs.Following.{Need, raise, follows-bind, follows-map}
 use Rattle.grammar.proofs.Bounded.{Bytes}
 use Rattle.grammar.proofs.Links.{built-linked}
 use Rattle.grammar.proofs.Standing.{Holds, Valued, Chained, Claimed, entered, started, closing}
 use Rattle.grammar.proofs.Keeping.{value-keeps}
 use Rattle.grammar.proofs.Fielding.{Own}
-use Rattle.writing.specs.Canonical.{bytes32}
 use Rattle.writing.specs.Shape.{classed}
 use Rattle.meaning.specs.Value.{Value, Values, nil, more, countOf}
 use Rattle.meaning.specs.Extent.{depthOf, depthAll, nodesOf, nodesAll, entriesOf, entriesAll}
 use Rattle.meaning.proofs.Means.{Sees, Means, MeanAll, join, join-nil}
-use Rattle.meaning.proofs.Standing.{Stands, InState, Onward, mean-all-on, close-on, closed-node, inside}
-use Rattle.meaning.proofs.At.{byte-first, length-at, drop-at, past, fits, word-at}
-use Rattle.meaning.proofs.Goes.{follows-both, Never, Anywhere, Goes, Wrote, WroteKids, wrote-then, wrote-none, Reads, AllRead, child-goes, kids-go}
+use Rattle.meaning.proofs.Standing.{InState, mean-all-on, close-on, closed-node, inside}
+use Rattle.meaning.proofs.At.{byte-first, length-at, past}
+use Rattle.meaning.proofs.Goes.{follows-both, Never, Anywhere, Goes, Wrote, WroteKids, wrote-then, wrote-none, Reads, AllRead, child-goes, any}
 
 -- bytes are passed between children
 pub moved : {s : List ℕ} {b : State} {t : Need} {c : Chain} (size line : ℕ) → c .st .at + size ≤ length s → Chained s b t c
@@ -71,10 +69,6 @@ module _ (s : List ℕ) (small : length s ≤ mostBytes) (bytes : Bytes s) where
     abbrev f : Reader
     f = value fuel s depth
 
-    any : (v : Value) (st : State) (n : ℕ) → Means (InState s st) n v → suits whatever (st .nodes) (st .entries) n ≡ true
-    unfolding suits
-    any v st n m = refl
-
     ended : (us : Values) (c : Chain) (t : Need) → c .st .at + 1 ≤ length s → Chained s b t c → MeanAll (InState s (c .st)) (c .kids) us
         → WroteKids s us nil 1 depth b c t t (passed 1 c)
     unfolding nodesOf entriesOf depthOf
@@ -107,13 +101,13 @@ module _ (s : List ℕ) (small : length s ≤ mostBytes) (bytes : Bytes s) where
         let long : length bs + 1 ≡ length h + (length h′ + (length r′ + 1)) = omega (arith, ap length (al .2), length-append h r, ap length (al′ .2), length-append h′ r′) in
         rw (lt-ltb (c .st .at) (length s) (omega (arith, l)), byte-first s (c .st .at) (rd .head ∷ (rd .tail ++ (r ++ 0x30 ∷ rest))) d₁, rd .no-end, long)
         (follows-bind Never Anywhere (WroteKids s us (more v nil) (length h) depth b c t) (WroteKids s us (more v (more w vs)) (length h + (length h′ + (length r′ + 1))) depth b c t) t (child whatever f c) _
-        (child-goes s small bytes fuel depth b whatever h v rd (any v) us c t (r ++ 0x30 ∷ rest) k m enough d₀)
+        (child-goes s small bytes fuel depth b whatever h v rd (any s small bytes v) us c t (r ++ 0x30 ∷ rest) k m enough d₀)
         (λ t₁ d w₁.
         let dr₁ : drop (d .st .at) s ≡ r ++ 0x30 ∷ rest = ap (λ i. drop i s) (w₁ .at) ∙ past s (c .st .at) h (r ++ 0x30 ∷ rest) d₀ in
         let dr₂ : drop (d .st .at) s ≡ h′ ++ (r′ ++ 0x30 ∷ rest) = dr₁ ∙ ap (λ x. x ++ 0x30 ∷ rest) (al′ .2) ∙ append-assoc h′ r′ (0x30 ∷ rest) in
         follows-map Never Anywhere (WroteKids s (join us (more v nil)) (more w vs) (length h′ + (length r′ + 1)) depth b d t₁) (WroteKids s us (more v (more w vs)) (length h + (length h′ + (length r′ + 1))) depth b c t) t₁ (bind (child whatever f d) (couples f s n))
         (follows-bind Never Anywhere (WroteKids s (join us (more v nil)) (more w nil) (length h′) depth b d t₁) (WroteKids s (join us (more v nil)) (more w vs) (length h′ + (length r′ + 1)) depth b d t₁) t₁ (child whatever f d) (couples f s n)
-        (child-goes s small bytes fuel depth b whatever h′ w (al′ .3) (any w) (join us (more v nil)) d t₁ (r′ ++ 0x30 ∷ rest) (w₁ .chained) (w₁ .means) (omega (arith, w₁ .at)) dr₂)
+        (child-goes s small bytes fuel depth b whatever h′ w (al′ .3) (any s small bytes w) (join us (more v nil)) d t₁ (r′ ++ 0x30 ∷ rest) (w₁ .chained) (w₁ .means) (omega (arith, w₁ .at)) dr₂)
         (λ t₂ e w₂.
         follows-map Never Anywhere (WroteKids s (join (join us (more v nil)) (more w nil)) vs (length r′ + 1) depth b e t₂) (WroteKids s (join us (more v nil)) (more w vs) (length h′ + (length r′ + 1)) depth b d t₁) t₂ (couples f s n e)
         (couples-go n vs r′ (al′ .4) (omega (arith, ev)) (join (join us (more v nil)) (more w nil)) e t₂ rest (w₂ .chained) (w₂ .means) (omega (arith, w₁ .at, w₂ .at))

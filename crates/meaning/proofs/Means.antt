@@ -1,7 +1,7 @@
 -- Meaning as a relation, by recursion on the value, over any way P of finding a node's children and shape: the stores of a state while they
 -- are read, or the stores that a writer is lent. Assumes nothing.
-use mathlib.Core.Path.{_≡_, refl, sym, ap, _∙_}
-use Prim.Native.Nat.{ℕ, zero, suc, _+_, _<_}
+use mathlib.Core.Path.{_≡_, refl, ap, _∙_}
+use Prim.Native.Nat.{ℕ, zero, suc, _<_}
 use native.Mathlib.Omega.{arith}
 use mathlib.Core.List.{List, [], _∷_, _++_}
 use lib.ListN.{length, getD, take, drop}
@@ -76,11 +76,6 @@ unfoldable pub dropOf : ℕ → Values → Values
 dropOf zero vs = vs
 dropOf (suc k) nil = nil
 dropOf (suc k) (more v vs) = dropOf k vs
-
-pub join-snoc : (us : Values) (v : Value) (vs : Values) → join (snoc us v) vs ≡ join us (more v vs)
-unfolding join snoc
-join-snoc nil v vs = refl
-join-snoc (more u us) v vs = ap (more u) (join-snoc us v vs)
 
 pub join-nil : (us : Values) → join us nil ≡ us
 unfolding join

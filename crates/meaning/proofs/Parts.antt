@@ -1,25 +1,24 @@
 -- The parts of a code by their positions: what suits, what is joined and cut, and the sizes that the checks at a code's end look at.
 -- Assumes nothing.
 use mathlib.Core.Path.{_≡_, refl, sym, ap, _∙_}
-use Prim.Native.Nat.{ℕ, zero, suc, _+_, _-_, _≤_, _<_}
+use Prim.Native.Nat.{ℕ, zero, suc, _+_, _≤_, _<_}
 use native.Mathlib.Omega.{arith}
 use mathlib.Core.Bool.{Bool, true, false, _&&_}
-use mathlib.Core.List.{List, [], _∷_, _++_}
-use lib.ListN.{length, getD, take, drop}
+use mathlib.Core.List.{List, _++_}
+use lib.ListN.{length, getD}
 use lib.Seq.{length-slice}
 use lib.Dec.{leb}
 use borrow.Author.Tests.{leb-true}
 use Rattle.grammar.specs.Letters.{classOf}
 use Rattle.grammar.specs.Fields.{contents}
 use Rattle.grammar.specs.State.{Node, State, blank}
-use Rattle.grammar.specs.Steps.{Rule, whatever, asBytes, asNames, rules, codePart, localsPart, kindsPart, linePart}
+use Rattle.grammar.specs.Steps.{whatever, asBytes, asNames, rules, codePart, localsPart, kindsPart, linePart}
 use Rattle.grammar.specs.Record.{ruled, sound}
-use Rattle.writing.specs.Shape as shape
 use Rattle.meaning.specs.Value.{Value, Values, nil, more, bytes, sequence, countOf, valueAt, contentsOf, membersOf}
-use Rattle.meaning.specs.Proper.{Suits, SuitFrom, Proper, ProperAll}
+use Rattle.meaning.specs.Proper.{Suits, SuitFrom}
 use Rattle.meaning.proofs.Means.{Sees, Means, MeanAll, join, takeOf, dropOf, mean-at, mean-all-count}
-use Rattle.meaning.proofs.Standing.{Stands, InState}
-use Rattle.meaning.proofs.Inversion.{bytes-class, tuple-class}
+use Rattle.meaning.proofs.Standing.{InState}
+use Rattle.meaning.proofs.Inversion.{bytes-class}
 
 pub both-true : (a b : Bool) → a && b ≡ true → (a ≡ true) × (b ≡ true)
 both-true true b e = (refl, e)

@@ -2,16 +2,15 @@
 -- written reads as the same value; written once more it is the same bytes; and values with the same bytes are the same. From theorems A, B
 -- and C. Assumes that the input is bytes.
 use mathlib.Core.Path.{_≡_, refl, sym, ap, subst, _∙_}
-use Prim.Native.Nat.{ℕ, zero, suc, _+_, _≤_, _<_, min, max}
+use Prim.Native.Nat.{ℕ, _≤_, _<_, min, max}
 use native.Mathlib.Omega.{arith}
-use mathlib.Core.Option.{Option, none, some}
-use mathlib.Core.List.{List, [], _∷_, _++_, append-nil}
-use lib.ListN.{length, getD}
+use mathlib.Core.Option.{some}
+use mathlib.Core.List.{List, [], _++_, append-nil}
+use lib.ListN.{length}
 use borrow.Author.Tests.{le-ltb}
 use Rattle.refusals.specs.Numbers.{noRoom}
 use Rattle.refusals.specs.Limits.{mostBytes, mostNesting}
-use Rattle.grammar.specs.Reading.{Answer, gives, stops}
-use Rattle.grammar.specs.Room.{plainly}
+use Rattle.grammar.specs.Reading.{gives, stops}
 use Rattle.grammar.specs.State.{State, start, nodeCapacity, entryCapacity}
 use Rattle.grammar.specs.Record.{Tables}
 use Rattle.grammar.specs.Answer.{plain, reading, Counts, countsOf, readOf}
@@ -19,7 +18,6 @@ use Rattle.grammar.proofs.Bounded.{Bytes}
 use Rattle.grammar.proofs.Contents.{gives-within}
 use Rattle.grammar.proofs.Following.{follows-gives}
 use Rattle.grammar.proofs.ReadBack.{tablesOf}
-use Rattle.writing.specs.Writing.{into}
 use Rattle.writing.specs.Steps.{writing}
 use Rattle.writing.specs.Answer.{mostOutput, written}
 use Rattle.meaning.specs.Value.{Value}
@@ -28,6 +26,7 @@ use Rattle.meaning.specs.Extent.{depthOf, nodesOf, entriesOf}
 use Rattle.meaning.specs.Order.{InOrder}
 use Rattle.meaning.specs.Proper.{Below, Proper}
 use Rattle.meaning.specs.Meaning.{valueOf, tablesAfter}
+use Rattle.meaning.specs.Written.{writtenAs}
 use Rattle.meaning.specs.Round.{IsRead, Fits, countsFor}
 use Rattle.meaning.proofs.Means.{Means}
 use Rattle.meaning.proofs.Standing.{InState}
@@ -35,25 +34,30 @@ use Rattle.meaning.proofs.Goes.{Never, Anywhere, Wrote}
 use Rattle.meaning.proofs.Emits.{InTables, emits-into, emits-over}
 use Rattle.meaning.proofs.Octets.{octets, below-append, below-at}
 use Rattle.meaning.proofs.Stores.{in-tables}
-use Rattle.meaning.proofs.TheoremA.{Meant, root-means, Answered, answer-gives}
-use Rattle.meaning.proofs.TheoremB.{Leaves, read-back, reads-value, goes-somewhere, none-claimed, at-start}
-use Rattle.meaning.proofs.TheoremC.{emits-value}
+use Rattle.meaning.proofs.TheoremA.{root-means, answer-gives}
+use Rattle.meaning.proofs.TheoremB.{read-back, reads-value, goes-somewhere, none-claimed, at-start}
+use Rattle.meaning.proofs.TheoremC.{emits-written, in-order-same}
 use Rattle.meaning.proofs.Unique.{means-value, means-one, by-tables, by-state, worth}
 
--- Theorem C, of the whole answer: exactly the canonical bytes where they fit, and the refusal of room where they do not.
-module _ (t : Tables) (n : ℕ) (v : Value) (small : length (t .input) ≤ mostBytes) (m : Means (InTables t) n v) (p : Proper v) (o : InOrder v) (nesting : ℕ)
-    (depth : depthOf v ≤ min nesting mostNesting) where
-  pub written-is : (room : ℕ) → length (canonical v) ≤ min room mostOutput → written t n nesting room ≡ gives (canonical v)
+-- Theorem C, of the whole answer: exactly what is written of the value where it fits, and the refusal of room where it does not.
+module _ (t : Tables) (n : ℕ) (v : Value) (small : length (t .input) ≤ mostBytes) (m : Means (InTables t) n v) (p : Proper v) (nesting : ℕ) (depth : depthOf v ≤ min nesting mostNesting) where
+  pub written-as : (room : ℕ) → length (writtenAs v) ≤ min room mostOutput → written t n nesting room ≡ gives (writtenAs v)
   unfolding written
-  written-is room h =
+  written-as room h =
       rw (le-ltb mostBytes (length (t .input)) small)
-      (emits-into (min room mostOutput) [] (canonical v) (writing (min nesting mostNesting) t n) (emits-value t v n (min nesting mostNesting) m p o depth) (omega arith))
+      (emits-into (min room mostOutput) [] (writtenAs v) (writing (min nesting mostNesting) t n) (emits-written t v n (min nesting mostNesting) m p depth) (omega arith))
 
-  pub written-over : (room : ℕ) → min room mostOutput < length (canonical v) → written t n nesting room ≡ stops noRoom (min room mostOutput)
+  pub written-over : (room : ℕ) → min room mostOutput < length (writtenAs v) → written t n nesting room ≡ stops noRoom (min room mostOutput)
   unfolding written
   written-over room h =
       rw (le-ltb mostBytes (length (t .input)) small)
-      (emits-over (min room mostOutput) [] (canonical v) (writing (min nesting mostNesting) t n) (emits-value t v n (min nesting mostNesting) m p o depth) (omega arith) (omega arith))
+      (emits-over (min room mostOutput) [] (writtenAs v) (writing (min nesting mostNesting) t n) (emits-written t v n (min nesting mostNesting) m p depth) (omega arith) (omega arith))
+
+  -- in name order, that is the canonical bytes
+  pub written-is : InOrder v → (room : ℕ) → length (canonical v) ≤ min room mostOutput → written t n nesting room ≡ gives (canonical v)
+  written-is o room h =
+      let e = in-order-same v p o in
+      written-as room (subst (λ z. length z ≤ min room mostOutput) (sym e) h) ∙ ap gives e
 
 -- Theorem B, of the whole answer: the value's bytes, with anything after them.
 counts-are : (a b c d a′ b′ c′ d′ : ℕ) → a ≡ a′ → b ≡ b′ → c ≡ c′ → d ≡ d′
@@ -114,7 +118,7 @@ round-trip s bytes nodes entries slots nesting c e =
       back =
           λ nodes′ entries′ slots′ nesting′ room f. (
             canonical v,
-            ap (λ t. written t 0 nesting′ room) (a .tables) ∙ written-is (tablesOf s nodes entries (a .read)) 0 v small (m .means) (m .proper) (f .in-order) nesting′ (f .depth-fits) room (f .output-fits),
+            ap (λ t. written t 0 nesting′ room) (a .tables) ∙ written-is (tablesOf s nodes entries (a .read)) 0 v small (m .means) (m .proper) nesting′ (f .depth-fits) (f .in-order) room (f .output-fits),
             refl,
             reads-whole v (m .proper) (f .input-fits) nodes′ entries′ slots′ nesting′ (f .depth-fits) (f .nodes-fit) (f .entries-fit),
           );
@@ -132,7 +136,7 @@ written-again v p nodes entries slots nesting room f =
     let top = max (depthOf v) (depthOf (m .value)) in
     let same : m .value ≡ v = same-some (m .value) v (sym (m .found top (omega arith)) ∙ ap (λ t. valueOf top t 0) (sym (a .tables)) ∙ i .means top (omega arith)) in
     ap (λ t. written t 0 nesting room) (a .tables)
-    ∙ written-is (tablesOf s nodes entries (a .read)) 0 v (f .input-fits) (subst (Means (InTables (tablesOf s nodes entries (a .read))) 0) same (m .means)) p (f .in-order) nesting (f .depth-fits) room (f .output-fits)
+    ∙ written-is (tablesOf s nodes entries (a .read)) 0 v (f .input-fits) (subst (Means (InTables (tablesOf s nodes entries (a .read))) 0) same (m .means)) p nesting (f .depth-fits) (f .in-order) room (f .output-fits)
   where
     same-some : (v w : Value) → some v ≡ some w → v ≡ w
     same-some v w e = cc

@@ -1,31 +1,31 @@
 -- A sound record whose children mean proper values means a proper value itself: one case a class of letters. Assumes that the input is
 -- bytes, 16 MiB at most.
-use mathlib.Core.Path.{_≡_, refl, sym, ap, subst, _∙_}
+use mathlib.Core.Path.{_≡_, refl, sym, ap, _∙_}
 use Prim.Native.Nat.{ℕ, zero, suc, _+_, _-_, _*_, _/_, _%_, _≤_, _<_}
 use native.Mathlib.Omega.{arith}
 use mathlib.Core.Bool.{Bool, true, false, cond, not, _&&_}
-use mathlib.Core.List.{List, [], _∷_, _++_}
+use mathlib.Core.List.{List, [], _∷_}
 use lib.ListN.{length, getD, take, drop}
 use lib.Seq.{length-slice}
 use lib.Dec.{leb, ltb, eqb}
-use borrow.Author.Tests.{leb-true, ltb-true, ltb-false, eqb-true, eqb-false, lt-ltb}
+use borrow.Author.Tests.{leb-true, ltb-true, ltb-false, eqb-true, eqb-false}
 use Rattle.refusals.specs.Numbers.{accepted, invalidBytecode}
 use Rattle.refusals.specs.Limits.{mostBytes}
 use Rattle.wtf8.specs.Forms.{wellFormed}
-use Rattle.grammar.specs.Reading.{Answer, gives, stops}
+use Rattle.grammar.specs.Reading.{Answer, stops}
 use Rattle.grammar.specs.Letters as letter
 use Rattle.grammar.specs.Letters.{Class, refers, keeps, contains, codes, refuses, classOf}
 use Rattle.grammar.specs.Fields.{Fields, le16, le32, le64, contents, notNegative, digitCount, digits, lastDigit, pylong, codeNumbers, sumAt, fields}
 use Rattle.grammar.specs.Leaf.{magnitude}
 use Rattle.grammar.specs.State.{Node}
 use Rattle.grammar.specs.Steps.{linePart, codeParts}
-use Rattle.grammar.specs.Record.{containing, counted, readsAs, ruled, sound}
+use Rattle.grammar.specs.Record.{readsAs, ruled, sound}
 use Rattle.grammar.proofs.Bounded.{Bytes}
 use Rattle.writing.specs.Canonical.{Integer, ofBits, digitsFrom, digitsOf, shownLine}
 use Rattle.writing.specs.Shape as shape
-use Rattle.writing.specs.Shape.{Shape, classed, numbersAt, longAt}
+use Rattle.writing.specs.Shape.{classed, numbersAt, longAt}
 use Rattle.meaning.specs.Value.{Value, Values, nil, more, single, integer, float, complex, bytes as byteString, text, sequence, slice, dict, code, countOf}
-use Rattle.meaning.specs.Proper.{Below, lengths, Signed, SuitFrom, faultIn, ProperCode, Proper, ProperAll}
+use Rattle.meaning.specs.Proper.{Below, lengths, Signed, SuitFrom, faultIn, Proper, ProperAll}
 use Rattle.meaning.proofs.Means.{Sees, Means, MeanAll, takeOf, dropOf, mean-all-count, mean-all-take, mean-all-drop}
 use Rattle.meaning.proofs.Inversion.{class-lettered}
 use Rattle.meaning.proofs.Parts.{both-true}
@@ -83,15 +83,15 @@ bits-proper half bits h l = go (ltb bits half) refl
         ((λ q. omega arith), omega (arith, few))
 
 -- What a record that reads as its fields passed.
-reads-cond : (b : Bool) (r : Answer Fields) (number place : ℕ) (n : Node) → readsAs (cond b r (stops number place)) n ≡ true → (b ≡ true) × (readsAs r n ≡ true)
+pub reads-cond : (b : Bool) (r : Answer Fields) (number place : ℕ) (n : Node) → readsAs (cond b r (stops number place)) n ≡ true → (b ≡ true) × (readsAs r n ≡ true)
 reads-cond true r number place n e = (refl, e)
 reads-cond false r number place n e = let z : _≡_ {A = ℕ} 0 1 = cc in absurd (omega arith)
 
-abbrev DigitsAt : List ℕ → ℕ → ℕ → Type 0
+abbrev pub DigitsAt : List ℕ → ℕ → ℕ → Type 0
 DigitsAt s zero at = Unit
 DigitsAt s (suc k) at = (le16 s at < 32768) × DigitsAt s k (at + 2)
 
-digits-passed : (s : List ℕ) (k at : ℕ) (r : Answer Fields) (n : Node) → at ≤ length s → readsAs (digits s k at r) n ≡ true → DigitsAt s k at × (at + 2 * k ≤ length s) × (readsAs r n ≡ true)
+pub digits-passed : (s : List ℕ) (k at : ℕ) (r : Answer Fields) (n : Node) → at ≤ length s → readsAs (digits s k at r) n ≡ true → DigitsAt s k at × (at + 2 * k ≤ length s) × (readsAs r n ≡ true)
 unfolding digits
 digits-passed s zero at r n w e = (tt, omega arith, e)
 digits-passed s (suc k) at r n w e =

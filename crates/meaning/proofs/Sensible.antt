@@ -1,36 +1,33 @@
 -- Every step of an accepted reading leaves nodes that mean proper values: the value that was read, its children, and every slot that is
 -- filled. One law a definition of the reading's steps. Assumes that the input is bytes, 16 MiB at most.
 use mathlib.Core.Path.{_≡_, refl, sym, ap, subst, _∙_}
-use Prim.Native.Nat.{ℕ, zero, suc, _+_, _-_, _%_, _≤_, _<_}
+use Prim.Native.Nat.{ℕ, zero, suc, _+_, _≤_, _<_}
 use native.Mathlib.Omega.{arith}
 use mathlib.Core.Bool.{Bool, true, false, cond}
 use mathlib.Core.List.{List, [], _∷_, _++_}
-use lib.ListN.{length, getD, set, length-append, length-set, List·getD-append, List·getD-eq-default}
-use lib.Seq.{getD-set-same, getD-set-other, getD-append-seam}
+use lib.ListN.{length, getD, set, length-append, length-set}
 use lib.Dec.{leb, ltb, eqb}
-use borrow.Author.Tests.{ltb-true, ltb-false, eqb-true, eqb-false, leb-true}
+use borrow.Author.Tests.{ltb-true, ltb-false, eqb-true, leb-true}
 use Rattle.refusals.specs.Numbers.{accepted, eofObject, dataTooShort}
 use Rattle.refusals.specs.Limits.{mostBytes}
-use Rattle.grammar.specs.Reading.{level, node, entry, slot, Reading, done, refused, claim, bind, reads, Answer, gives, stops}
+use Rattle.grammar.specs.Reading.{level, slot, Reading, done, refused, Answer, gives, stops}
 use Rattle.grammar.specs.Letters.{Class, refers, keeps, contains, codes, refuses, letterOf, flagOf, classOf, endsDict}
-use Rattle.grammar.specs.Fields.{Fields, Children, items, pairs, parts, field, le32, sumAt, codeFault, numbers, fields, contained, codeFields}
-use Rattle.grammar.specs.Arguments.{argumentSum}
-use Rattle.grammar.specs.State.{Node, State, blank, movedTo}
-use Rattle.grammar.specs.Steps.{Front, known, opens, stored, reference, reserving, opened, header, front, Chain, fresh, attach, Rule, whatever, suits, Reader, child, kids, couples, passed, codeParts, rules, codePart, localsPart, kindsPart, linePart, lined, firstLine, partsFrom, faultOf, ended, body, reserve, fill, enter, close, sizeOf, after, one, value}
+use Rattle.grammar.specs.Fields.{Fields, Children, items, pairs, parts, field, le32, numbers, fields, contained, codeFields}
+use Rattle.grammar.specs.State.{State, blank, movedTo}
+use Rattle.grammar.specs.Steps.{Front, known, opens, stored, reference, reserving, opened, header, front, Chain, fresh, attach, Rule, whatever, suits, Reader, child, kids, couples, passed, codeParts, rules, linePart, lined, firstLine, partsFrom, faultOf, ended, body, reserve, fill, enter, close, after, one, value}
 use Rattle.grammar.specs.Record.{sound}
 use Rattle.grammar.proofs.Following.{Need, raise, Follows, FollowsA, follows-bind, follows-map, follows-cond, follows-reads}
 use Rattle.grammar.proofs.Bounded.{Bytes}
 use Rattle.grammar.proofs.Links.{built-linked}
-use Rattle.grammar.proofs.Standing.{Holds, Valued, Chained, Claimed, attached, entered, started, closing, since-refl}
-use Rattle.grammar.proofs.Fielding.{Own, Said, said-ahead, said-within}
-use Rattle.grammar.proofs.Keeping.{Opens, Known, Fronted, front-keeps, value-keeps}
-use Rattle.writing.specs.Shape.{classed, numbersAt}
-use Rattle.meaning.specs.Value.{Value, Values, nil, more, countOf, valueAt, contentsOf, membersOf}
-use Rattle.meaning.specs.Proper.{Suits, SuitFrom, faultIn, Proper, ProperAll}
-use Rattle.meaning.proofs.Means.{Sees, Means, MeanAll, snoc, join, takeOf, dropOf, mean-all-count}
-use Rattle.meaning.proofs.Standing.{Stands, InState, Onward, stands-on, means-on, mean-all-on, since-on, attach-on, attach-means, enter-on, close-on, closed-node, inside}
+use Rattle.grammar.proofs.Standing.{Holds, Valued, Chained, attached, entered, started, closing}
+use Rattle.grammar.proofs.Fielding.{Own, said-ahead, said-within}
+use Rattle.grammar.proofs.Keeping.{Fronted, front-keeps, value-keeps}
+use Rattle.meaning.specs.Value.{Value, Values, nil, more, countOf}
+use Rattle.meaning.specs.Proper.{Suits, SuitFrom, Proper, ProperAll}
+use Rattle.meaning.proofs.Means.{Sees, Means, MeanAll, snoc, join, takeOf, dropOf}
+use Rattle.meaning.proofs.Standing.{InState, Onward, means-on, mean-all-on, since-on, attach-on, attach-means, enter-on, close-on, closed-node, inside}
 use Rattle.meaning.proofs.Inversion.{node-suits}
-use Rattle.meaning.proofs.Parts.{looked-at, count-join}
+use Rattle.meaning.proofs.Parts.{looked-at}
 use Rattle.meaning.proofs.Goes.{follows-both, Anywhere}
 use Rattle.meaning.proofs.Loops.{moved}
 use Rattle.meaning.proofs.Sense.{CodeGood, Sense, sound-sense, suit-take, count-take}
@@ -94,7 +91,7 @@ suit-snoc i (more u us) v h f =
     let e : i + suc (countOf us) ≡ i + 1 + countOf us = omega arith in
     (h .0, suit-snoc (i + 1) us v (h .1) (rw e at f))
 
-join-cut : (k : ℕ) (us : Values) → join (takeOf k us) (dropOf k us) ≡ us
+pub join-cut : (k : ℕ) (us : Values) → join (takeOf k us) (dropOf k us) ≡ us
 unfolding join takeOf dropOf
 join-cut zero us = refl
 join-cut (suc k) nil = refl

@@ -1,10 +1,10 @@
 -- What is complete keeps its meaning while the rest is read: the stores of a state only grow, a blank node is filled and an open link set.
 -- One law for each change of the state. Assumes nothing.
 use mathlib.Core.Path.{_≡_, refl, sym, ap, _∙_}
-use Prim.Native.Nat.{ℕ, zero, suc, _+_, _≤_, _<_}
+use Prim.Native.Nat.{ℕ, _≤_, _<_}
 use native.Mathlib.Omega.{arith}
 use mathlib.Core.Bool.{Bool, true, false, _&&_}
-use mathlib.Core.Option.{Option, none, some}
+use mathlib.Core.Option.{Option}
 use mathlib.Core.List.{List, [], _∷_, _++_}
 use lib.ListN.{length, getD, set, length-append, length-set, List·getD-append}
 use lib.Seq.{getD-set-same, getD-set-other, getD-append-seam}
@@ -13,11 +13,11 @@ use borrow.Author.Tests.{eqb-true, eqb-false}
 use Rattle.refusals.specs.Limits.{mostBytes, nothing}
 use Rattle.grammar.specs.Letters.{letters, found, classOf}
 use Rattle.grammar.specs.Fields.{Fields}
-use Rattle.grammar.specs.State.{Node, Entry, State, blank, unlinked}
+use Rattle.grammar.specs.State.{Node, Entry, State, blank}
 use Rattle.grammar.specs.Steps.{Chain, follow, attach, enter, close}
-use Rattle.grammar.specs.Record.{ruled, sound}
+use Rattle.grammar.specs.Record.{sound}
 use Rattle.grammar.proofs.Following.{Need}
-use Rattle.grammar.proofs.Links.{Linked, Grows, grows-linked, kept-grows, Kept, stays, Built, no-child, children, built-kept, Added, added-first, added-next, added-grows}
+use Rattle.grammar.proofs.Links.{Linked, Grows, grows-linked, kept-grows, stays, Built, no-child, children, built-kept, Added, added-first, added-next, added-grows}
 use Rattle.grammar.proofs.Standing.{Holds, Since, Valued, Chained, closing}
 use Rattle.writing.specs.Shape.{Shape, classed}
 use Rattle.meaning.specs.Value.{Value, Values}

@@ -1,33 +1,32 @@
 -- What a state's nodes mean, the stores that are left mean: the record test passes for every node, and for a code its parts too, so that
 -- what was read is what the writer finds. Assumes that the input is bytes, and an accepted reading.
 use mathlib.Core.Path.{_≡_, refl, sym, ap, ap₂, subst, _∙_}
-use Prim.Native.Nat.{ℕ, zero, suc, _+_, _≤_, _<_}
+use Prim.Native.Nat.{ℕ, _+_, _<_}
 use native.Mathlib.Omega.{arith}
-use mathlib.Core.Bool.{Bool, true, false, cond, _&&_}
-use mathlib.Core.Option.{Option, none, some}
-use mathlib.Core.List.{List, [], _∷_, _++_}
+use mathlib.Core.Bool.{true}
+use mathlib.Core.Option.{none, some}
+use mathlib.Core.List.{List, [], _∷_}
 use lib.ListN.{length, getD, take, drop, take-append-drop}
-use lib.Dec.{leb, ltb, eqb}
+use lib.Dec.{leb}
 use borrow.Author.Tests.{eq-eqb}
 use Rattle.refusals.specs.Numbers.{accepted}
 use Rattle.grammar.specs.Reading.{gives}
-use Rattle.grammar.specs.Letters as letter
 use Rattle.grammar.specs.Letters.{Class, refers, keeps, contains, codes, refuses, classOf, isBytes, isTuple, isString}
 use Rattle.grammar.specs.Arguments.{argumentSum}
 use Rattle.grammar.specs.Fields.{sumAt, codeFault}
-use Rattle.grammar.specs.State.{Node, Entry, State, blank}
-use Rattle.grammar.specs.Steps.{Rule, whatever, asBytes, asTuple, asNames, asString, rules, codeParts, codePart, localsPart, kindsPart, linePart, letterIn}
-use Rattle.grammar.specs.Answer.{reading, nodesHeld}
-use Rattle.grammar.specs.Record.{ruled, sound, soundAt, Tables, whole, nodeOf, badString, unless, names, suited, orElse, badPart, badEnd, Looked, holds, faulty, judged, lookedAs, lookedOf, look}
-use Rattle.grammar.proofs.Bounded.{Bytes, Accepted}
+use Rattle.grammar.specs.State.{Entry, State, blank}
+use Rattle.grammar.specs.Steps.{Rule, whatever, asBytes, asTuple, asNames, asString, rules, codePart, localsPart, kindsPart, linePart}
+use Rattle.grammar.specs.Answer.{reading}
+use Rattle.grammar.specs.Record.{ruled, sound, Tables, whole, nodeOf, badString, unless, suited, orElse, badPart, badEnd, holds, judged, lookedAs, lookedOf, look}
+use Rattle.grammar.proofs.Bounded.{Bytes}
 use Rattle.grammar.proofs.Links.{Linked, More, nextOf}
 use Rattle.grammar.proofs.ReadBack.{tablesOf, accepted as accepted-so, node-held, read-is-sound, read-is-whole}
 use Rattle.writing.specs.Shape as shape
 use Rattle.writing.specs.Shape.{Shape, shapeOf, classed, numbersAt}
 use Rattle.meaning.specs.Value.{Value, Values, nil, more, single, integer, float, complex, bytes as byteString, text, sequence, slice, dict, code, countOf, valueAt, contentsOf, membersOf}
 use Rattle.meaning.specs.Proper.{AllTexts, Suits, SuitFrom, faultIn, ProperCode, Proper, ProperAll}
-use Rattle.meaning.proofs.Means.{Means, MeanAll, join, tag, Seen, means-seen, mean-at}
-use Rattle.meaning.proofs.Standing.{Stands, InState}
+use Rattle.meaning.proofs.Means.{Means, MeanAll, join, tag, means-seen, mean-at}
+use Rattle.meaning.proofs.Standing.{InState}
 use Rattle.meaning.proofs.Inversion.{bytes-letter, text-letter, tuple-letter, code-class}
 use Rattle.meaning.proofs.Parts.{both-true, count-join, looked-at, mean-all-join, suit-join}
 use Rattle.meaning.proofs.Emits.{InTables}
@@ -46,11 +45,11 @@ linked-same es e (v ∷ vs) [] l p q = absurd (omega (arith, l))
 linked-same es e (v ∷ vs) (w ∷ ws) l p q = ap₂ (λ x y. x ∷ y) (sym (p .1) ∙ q .1) (more-same es e vs ws (omega (arith, l)) (p .2) (q .2))
 
 -- rules by their positions
-abbrev RulesAre : ℕ → List Rule → Type 0
+abbrev pub RulesAre : ℕ → List Rule → Type 0
 RulesAre i [] = Unit
 RulesAre i (r ∷ rs) = (r ≡ getD rules i whatever) × RulesAre (i + 1) rs
 
-all-rules : RulesAre 0 rules
+pub all-rules : RulesAre 0 rules
 unfolding rules
 all-rules = (refl, (refl, (refl, (refl, (refl, (refl, (refl, (refl, (refl, (refl, tt))))))))))
 

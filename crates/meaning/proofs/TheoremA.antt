@@ -1,22 +1,24 @@
 -- Theorem A: the stores that an accepted reading leaves mean a proper value at every node, whatever the allowance once it is enough; and
 -- what a node means stays while later values are read. Assumes that the input is bytes.
-use mathlib.Core.Path.{_≡_, refl, sym, ap, subst, _∙_}
-use Prim.Native.Nat.{ℕ, zero, suc, _+_, _≤_, _<_}
+use mathlib.Core.Path.{_≡_, refl, sym, subst, _∙_}
+use Prim.Native.Nat.{ℕ, _≤_, _<_}
 use native.Mathlib.Omega.{arith}
-use mathlib.Core.Option.{Option, none, some}
-use mathlib.Core.List.{List, []}
-use lib.ListN.{length, getD}
+use mathlib.Core.Option.{some}
+use mathlib.Core.List.{List}
+use lib.ListN.{length}
 use Rattle.refusals.specs.Limits.{mostBytes}
 use Rattle.grammar.specs.Reading.{Answer, gives, stops}
 use Rattle.grammar.specs.Room.{plainly}
 use Rattle.grammar.specs.State.{State, start}
-use Rattle.grammar.specs.Record.{whole}
-use Rattle.grammar.specs.Answer.{plain, roomsOf, reading, Counts, countsOf, answered, Outcome, outcomeOf, readOf}
-use Rattle.grammar.proofs.Bounded.{Bytes, Accepted}
+use Rattle.grammar.specs.Steps.{value}
+use Rattle.grammar.specs.Answer.{plain, roomsOf, reading, Counts, countsOf, answered, readOf}
+use Rattle.grammar.proofs.Bounded.{Bytes}
 use Rattle.grammar.proofs.Contents.{gives-within}
 use Rattle.grammar.proofs.Fitting.{exact-where-all-fit, fits-unless-of-room, gives-not-of-room}
-use Rattle.grammar.proofs.Following.{Need, follows-gives}
-use Rattle.grammar.proofs.ReadBack.{tablesOf, accepted, read-is-whole}
+use Rattle.grammar.proofs.Fielding.{Own}
+use Rattle.grammar.proofs.Following.{Need, Follows, follows-map, follows-gives}
+use Rattle.grammar.proofs.Keeping.{value-keeps}
+use Rattle.grammar.proofs.ReadBack.{tablesOf}
 use Rattle.grammar.proofs.Root.{root-is-node-0}
 use Rattle.grammar.proofs.Standing.{Holds, Valued}
 use Rattle.meaning.specs.Value.{Value}
@@ -33,9 +35,12 @@ use Rattle.meaning.proofs.Stores.{in-tables}
 use Rattle.meaning.proofs.TheoremB.{none-claimed, at-start}
 use Rattle.meaning.proofs.Unique.{means-value, by-tables}
 
--- What a node means while a value is read, it still means when that value is complete.
-pub meaning-stays : (s : List ℕ) → length s ≤ mostBytes → (t t′ : Need) (st : State) (r : ℕ × State) → Holds s t st → Valued s st t′ r → (n : ℕ) (v : Value) → Means (InState s st) n v → Means (InState s (r .1)) n v
-meaning-stays s small t t′ st r h k n v m = means-on (since-on small h (k .since)) v n m
+-- What a node means before a value is read, it still means when that value is complete.
+pub meaning-stays : (s : List ℕ) (small : length s ≤ mostBytes) (bytes : Bytes s) (fuel depth : ℕ) (t : Need) (st : State) → Holds s t st
+    → Follows (Own s) (λ p. p ≤ length s) (λ t′ r. (n : ℕ) (v : Value) → Means (InState s st) n v → Means (InState s (r .1)) n v) t (value fuel s depth st)
+meaning-stays s small bytes fuel depth t st h =
+    follows-map (Own s) (λ p. p ≤ length s) (Valued s st) (λ t′ r. (n : ℕ) (v : Value) → Means (InState s st) n v → Means (InState s (r .1)) n v) t (value fuel s depth st)
+    (value-keeps s small bytes fuel depth t st h) (λ t′ r k n v m. means-on (since-on small h (k .since)) v n m)
 
 -- A node's value in the stores.
 pub record Meant (s : List ℕ) (nodes entries : ℕ) (r : ℕ × State) (n : ℕ) : Type 0 where

@@ -1,25 +1,23 @@
 -- Theorem B: reading the canonical bytes of a proper value, with anything after them, where depth, nodes and entries fit, consumes exactly
 -- those bytes and leaves stores whose root means that value. By induction on the value. Assumes that the input is bytes, 16 MiB at most.
 use mathlib.Core.Path.{_≡_, refl, sym, ap, subst, _∙_}
-use Prim.Native.Nat.{ℕ, zero, suc, _+_, _≤_, _<_, max, min}
+use Prim.Native.Nat.{ℕ, zero, suc, _+_, _≤_, max, min}
 use native.Mathlib.Omega.{arith}
-use mathlib.Core.Bool.{Bool, true, false, cond}
-use mathlib.Core.List.{List, [], _∷_, _++_, append-nil, append-assoc}
-use lib.ListN.{length, getD, drop}
+use mathlib.Core.List.{List, [], _∷_, _++_, append-nil}
+use lib.ListN.{length, getD}
 use borrow.Author.Tests.{le-ltb}
 use Rattle.refusals.specs.Limits.{mostBytes, mostNesting}
-use Rattle.wtf8.specs.Forms.{wellFormed}
 use Rattle.grammar.specs.Reading.{Kind, level, node, entry, slot, Reading, done, refused, claim, gives}
 use Rattle.grammar.specs.Room.{roomFor, plainly, claims, most}
 use Rattle.grammar.specs.State.{State, start, nodeCapacity, entryCapacity}
 use Rattle.grammar.specs.Answer.{plain, roomsOf, reading}
-use Rattle.grammar.specs.Steps.{Rule, whatever, asBytes, asTuple, asNames, asString, rules, linePart}
+use Rattle.grammar.specs.Steps.{Rule, whatever, asBytes, asTuple, asNames, asString, rules}
 use Rattle.grammar.proofs.Bounded.{Bytes}
 use Rattle.grammar.proofs.Fitting.{exact-where-all-fit, all-fit}
 use Rattle.grammar.proofs.Following.{Need, raise, needOf, follows-gives}
 use Rattle.grammar.proofs.Standing.{Holds}
 use Rattle.grammar.proofs.Root.{root-is-node-0}
-use Rattle.writing.specs.Canonical.{bytes32, words, integerBytes, codeString}
+use Rattle.writing.specs.Canonical.{bytes32, words, codeString}
 use Rattle.writing.specs.Steps as writer
 use Rattle.writing.specs.Steps.{Manner, asValue, asLocals, manners}
 use Rattle.meaning.specs.Value.{Value, Values, nil, more, single, integer, float, complex, bytes as byteString, text, sequence, slice, dict, code, countOf, contentsOf, membersOf}
@@ -29,7 +27,7 @@ use Rattle.meaning.specs.Extent.{depthOf, nodesOf, entriesOf}
 use Rattle.meaning.proofs.Means.{Means}
 use Rattle.meaning.proofs.Standing.{InState}
 use Rattle.meaning.proofs.Goes.{Goes, Never, Anywhere, Wrote, Reads, AllRead}
-use Rattle.meaning.proofs.Loops.{Suited, PartsRead}
+use Rattle.meaning.proofs.Loops.{PartsRead}
 use Rattle.meaning.proofs.Leaves.{single-reads, float-reads, complex-reads, bytes-reads, text-reads, code-string-reads}
 use Rattle.meaning.proofs.Back.{integer-reads, sequence-reads, slice-reads, dict-reads}
 use Rattle.meaning.proofs.Coded.{code-reads}

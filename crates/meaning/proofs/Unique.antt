@@ -1,7 +1,7 @@
 -- A node means one value at most: any valuation that goes by the shapes that P sees gives it, with allowance enough. Of the stores that a
 -- writer is lent that valuation is `valueOf`, and what it gives the node means. Assumes nothing.
-use mathlib.Core.Path.{_≡_, refl, sym, ap, ap₂, subst, _∙_}
-use Prim.Native.Nat.{ℕ, zero, suc, _+_, _≤_, _<_, max}
+use mathlib.Core.Path.{_≡_, refl, sym, ap, ap₂, _∙_}
+use Prim.Native.Nat.{ℕ, zero, suc, _≤_, max}
 use native.Mathlib.Omega.{arith}
 use mathlib.Core.Option.{Option, none, some}
 use mathlib.Core.List.{List, [], _∷_}
@@ -9,16 +9,15 @@ use lib.ListN.{length, getD, take, drop}
 use Rattle.grammar.specs.Letters.{classOf}
 use Rattle.grammar.specs.State.{Entry, State, blank}
 use Rattle.grammar.specs.Steps.{linePart}
-use Rattle.grammar.specs.Record.{Tables, Looked, holds, faulty, look}
+use Rattle.grammar.specs.Record.{Tables}
 use Rattle.grammar.proofs.Links.{Linked, More, childOf, nextOf}
 use Rattle.writing.specs.Canonical.{shownLine}
-use Rattle.writing.specs.Shape as shape
-use Rattle.writing.specs.Shape.{Shape, shapeOf, classed}
+use Rattle.writing.specs.Shape.{Shape, classed}
 use Rattle.meaning.specs.Value.{Value, Values, nil, more, single, integer, float, complex, bytes, text, sequence, slice, dict, code}
 use Rattle.meaning.specs.Extent.{depthOf, depthAll}
 use Rattle.meaning.specs.Meaning.{put, allOf, holding, codeOf, shaped, lookedAs, nowhere, valueOf}
 use Rattle.meaning.proofs.Means.{Sees, Means, MeanAll}
-use Rattle.meaning.proofs.Standing.{Stands, InState}
+use Rattle.meaning.proofs.Standing.{InState}
 use Rattle.meaning.proofs.Emits.{InTables}
 
 -- A valuation that goes by the shapes that P sees.

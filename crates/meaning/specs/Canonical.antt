@@ -2,7 +2,7 @@
 -- 01, 'Writing it back'. Local names stand here in their order in the value; the writer's groups are that order for a value in name order.
 use Prim.Native.Nat.{ℕ, _+_}
 use mathlib.Core.List.{List, [], _∷_, _++_}
-use lib.ListN.{length, getD}
+use lib.ListN.{getD}
 use Rattle.writing.specs.Canonical.{bytes32, bytes64, words, integerBytes, sized, codeString}
 use Rattle.writing.specs.Steps.{Manner, asValue, asNames, asLocals, asString, manners}
 use Rattle.meaning.specs.Value.{Value, Values, nil, more, single, integer, float, complex, bytes, text, sequence, slice, dict, code, countOf, contentsOf, membersOf}

@@ -102,7 +102,7 @@ chain-strings t (suc k) e kids h =
     ap (λ l. isNone (badString t l)) (d .are)
     ∙ go (stringAt (t .input) (t .nodes) (t .usedNodes) v) (d .rest) (chain-strings t k (onto (t .entries) e) (d .rest) (d .more))
     ∙ ap (λ b. (b && stringAt (t .input) (t .nodes) (t .usedNodes) v) && lives (spelt t) (onto (t .entries)) k (onto (t .entries) e))
-      (sym (lt-ltb e (entriesIn (t .entries) (t .usedEntries)) (d .here)))
+    (sym (lt-ltb e (entriesIn (t .entries) (t .usedEntries)) (d .here)))
   where
     go : (b : Bool) (vs : List ℕ) → isNone (badString t vs) ≡ lives (spelt t) (onto (t .entries)) k (onto (t .entries) e)
         → isNone (cond b (badString t vs) (some (entryAt (t .entries) e .child)))
@@ -134,9 +134,9 @@ named-are t count first {room} {steps} has takes h =
       tells = λ kids q.
           h ∙ ap (λ k. lives (spelt t) (onto (t .entries)) k first) (takes ∙ ap (min count) e)
           ∙ cut-walk (spelt t) (onto (t .entries)) (entriesIn (t .entries) (t .usedEntries))
-            (λ e i. ltb-true e (entriesIn (t .entries) (t .usedEntries))
-              (both-left (inside (t .entries) (t .usedEntries) e) (stringAt (t .input) (t .nodes) (t .usedNodes) (entryAt (t .entries) e .child)) i))
-            count first
+          (λ e i. ltb-true e (entriesIn (t .entries) (t .usedEntries))
+          (both-left (inside (t .entries) (t .usedEntries) e) (stringAt (t .input) (t .nodes) (t .usedNodes) (entryAt (t .entries) e .child)) i))
+          count first
           ∙ sym (chain-strings t count first kids q);
     }
   where

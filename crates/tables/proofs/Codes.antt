@@ -356,11 +356,11 @@ module _ (nodes : List ℕ) {a b d a′ b′ d′ : ℕ} (pa : a ≡ a′) (pb :
   ends-so {x} {y} {z} ex ey ez q =
       ap (λ n. eqb (n % 2) 0) (ex ∙ ap (λ v. nodeAt nodes v .size) pa)
       ∙ ap (λ t. t && eqb (nodeAt nodes a′ .size % 2) 0)
-        (sym (eq-eqb (nodeAt nodes b′ .count) (nodeAt nodes d′ .size)
-          (sym (ap (λ v. nodeAt nodes v .count) pb) ∙ sym ey ∙ q ∙ ez ∙ ap (λ v. nodeAt nodes v .size) pd)))
+      (sym (eq-eqb (nodeAt nodes b′ .count) (nodeAt nodes d′ .size)
+      (sym (ap (λ v. nodeAt nodes v .count) pb) ∙ sym ey ∙ q ∙ ez ∙ ap (λ v. nodeAt nodes v .size) pd)))
 
   pub ends-not : {y z : ℕ} → y ≡ nodeAt nodes b .count → z ≡ nodeAt nodes d .size → (y ≡ z → ⊥) → false ≡ evenly nodes a′ b′ d′
   ends-not {y} {z} ey ez q =
       ap (λ t. t && eqb (nodeAt nodes a′ .size % 2) 0)
       (sym (ne-eqb (nodeAt nodes b′ .count) (nodeAt nodes d′ .size)
-        (λ e. q (ey ∙ ap (λ v. nodeAt nodes v .count) pb ∙ e ∙ sym (ez ∙ ap (λ v. nodeAt nodes v .size) pd)))))
+      (λ e. q (ey ∙ ap (λ v. nodeAt nodes v .count) pb ∙ e ∙ sym (ez ∙ ap (λ v. nodeAt nodes v .size) pd)))))

@@ -47,7 +47,7 @@ module _ (s : List ℕ) (a b size : ℕ) (ha : a + size ≤ length s) (hb : b + 
   unfolding sameBytes
   same-step {i} w l =
       sym (ap (λ p. sameBytes p (slice (b + i) (b + size) s)) (part-next s a i (a + size) (omega arith) ha)
-        ∙ ap (sameBytes (getD s (a + i) 0 ∷ slice (a + (i + 1)) (a + size) s)) (part-next s b i (b + size) (omega arith) hb))
+      ∙ ap (sameBytes (getD s (a + i) 0 ∷ slice (a + (i + 1)) (a + size) s)) (part-next s b i (b + size) (omega arith) hb))
       ∙ w .comes
 
   pub same-not : {i : ℕ} → Same s a b size i → i < size → (getD s (a + i) 0 ≡ getD s (b + i) 0 → ⊥) → false ≡ sameBytes (contents s a size) (contents s b size)
@@ -70,9 +70,9 @@ module _ (s : List ℕ) (a b size : ℕ) (ha : a + size ≤ length s) (hb : b + 
       let e : a + i ≡ a + size = omega (arith, w .within) in
       let f : b + i ≡ b + size = omega (arith, w .within) in
       sym (ap (λ k. sameBytes (slice k (a + size) s) (slice (b + i) (b + size) s)) e
-        ∙ ap (λ p. sameBytes p (slice (b + i) (b + size) s)) (slice-empty (a + size) s)
-        ∙ ap (λ k. sameBytes [] (slice k (b + size) s)) f
-        ∙ ap (sameBytes []) (slice-empty (b + size) s))
+      ∙ ap (λ p. sameBytes p (slice (b + i) (b + size) s)) (slice-empty (a + size) s)
+      ∙ ap (λ k. sameBytes [] (slice k (b + size) s)) f
+      ∙ ap (sameBytes []) (slice-empty (b + size) s))
       ∙ w .comes
 
 same-lengths : (xs ys : List ℕ) → sameBytes xs ys ≡ true → length xs ≡ length ys
@@ -189,8 +189,8 @@ along-end t l P {goal} {i} {e} w h =
     let f : l .kinds + i ≡ l .kinds + l .count = omega (arith, w .within) in
     let r = chain-none t e (w .rest) (sym (ap (λ c. chain t c e) n) ∙ w .chained) in
     sym (ap (λ x. P (slice x (l .kinds + l .count) (t .input)) (w .rest)) f
-      ∙ ap (λ ks. P ks (w .rest)) (slice-empty (l .kinds + l .count) (t .input))
-      ∙ ap (P []) r)
+    ∙ ap (λ ks. P ks (w .rest)) (slice-empty (l .kinds + l .count) (t .input))
+    ∙ ap (P []) r)
     ∙ w .comes
 
 -- Whether a name is a Local name.
@@ -258,7 +258,7 @@ module _ (t : Tables) (locals : List ℕ) (bit : ℕ) where
         way =
             along-on t l (sizes n) (sizes (n + m)) x h on
             (ap (λ k. sizes (n + k) later (x .rest)) (is .0 ∙ ap (λ b. cond b 1 0) tells)
-              ∙ sizes-next n (getD (t .input) (l .kinds + i) 0) later v (x .rest));
+            ∙ sizes-next n (getD (t .input) (l .kinds + i) 0) later v (x .rest));
       }
 
   pub counting-all : (l : Locals) {i e n : ℕ} → Counting l i e n → l .count ≤ i → n ≡ length (groupFrom t locals bit (kindsIn t l) (namesIn t l))
@@ -315,5 +315,5 @@ groups-are t l =
     let ks = kindsIn t l in
     let ns = namesIn t l in
     sym (ap (λ x. x ++ groupFrom t (localsIn t l) cellBit ks ns ++ groupFrom t (localsIn t l) freeBit ks ns) (group-having t (localsIn t l) localBit (λ e. omega arith) ks ns)
-      ∙ ap (λ x. having localBit ks ns ++ x ++ groupFrom t (localsIn t l) freeBit ks ns) (group-apart t (localsIn t l) ks ns)
-      ∙ ap (λ x. having localBit ks ns ++ apartFrom t (localsIn t l) (having cellBit ks ns) ++ x) (group-having t (localsIn t l) freeBit (λ e. omega arith) ks ns))
+    ∙ ap (λ x. having localBit ks ns ++ x ++ groupFrom t (localsIn t l) freeBit ks ns) (group-apart t (localsIn t l) ks ns)
+    ∙ ap (λ x. having localBit ks ns ++ apartFrom t (localsIn t l) (having cellBit ks ns) ++ x) (group-having t (localsIn t l) freeBit (λ e. omega arith) ks ns))

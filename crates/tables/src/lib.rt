@@ -338,7 +338,14 @@ fn is_local(s: &[u8], nodes: &[u32], entries: &[u32], used: Used, locals: Locals
     let mut e = locals.first;
     let mut i = 0u32;
     while i < count {
-        if local_is(s, nodes, used.nodes, s[kinds + i as usize], child(entries, e), node) {
+        if local_is(
+            s,
+            nodes,
+            used.nodes,
+            s[kinds + i as usize],
+            child(entries, e),
+            node,
+        ) {
             return true;
         }
         e = next(entries, e);
@@ -348,7 +355,16 @@ fn is_local(s: &[u8], nodes: &[u32], entries: &[u32], used: Used, locals: Locals
 }
 
 // Whether a name of a kind stands in the group of a bit.
-pub fn belongs(s: &[u8], nodes: &[u32], entries: &[u32], used: Used, locals: Locals, bit: u32, kind: u8, node: u32) -> bool
+pub fn belongs(
+    s: &[u8],
+    nodes: &[u32],
+    entries: &[u32],
+    used: Used,
+    locals: Locals,
+    bit: u32,
+    kind: u8,
+    node: u32,
+) -> bool
     requires { ⌜ Listed (lent (now s) (now nodes) (now entries) used) locals × (stringAt (now s) (now nodes) (used .nodes) node ≡ true) × (0 < bit) ⌝ }
     ensures { λ r. ⌜ r ≡ inGroup (lent (now (s .entry)) (now (nodes .entry)) (now (entries .entry)) used) (localsIn (lent (now (s .entry)) (now (nodes .entry)) (now (entries .entry)) used) locals) bit kind node ⌝ }
 {
@@ -371,7 +387,14 @@ fn one_if(so: bool) -> u32
 }
 
 // How many names stand in the group of a bit.
-pub fn count_group(s: &[u8], nodes: &[u32], entries: &[u32], used: Used, locals: Locals, bit: u32) -> u32
+pub fn count_group(
+    s: &[u8],
+    nodes: &[u32],
+    entries: &[u32],
+    used: Used,
+    locals: Locals,
+    bit: u32,
+) -> u32
     requires { ⌜ Listed (lent (now s) (now nodes) (now entries) used) locals × (0 < bit) ⌝ }
     ensures { λ r. ⌜ (r ≡ length (groupIn (lent (now (s .entry)) (now (nodes .entry)) (now (entries .entry)) used) locals bit)) × (r ≤ locals .count) ⌝ }
 {
@@ -382,7 +405,16 @@ pub fn count_group(s: &[u8], nodes: &[u32], entries: &[u32], used: Used, locals:
     let mut n = 0u32;
     while i < count {
         let kind = s[kinds + i as usize];
-        n += one_if(belongs(s, nodes, entries, used, locals, bit, kind, child(entries, e)));
+        n += one_if(belongs(
+            s,
+            nodes,
+            entries,
+            used,
+            locals,
+            bit,
+            kind,
+            child(entries, e),
+        ));
         e = next(entries, e);
         i += 1;
     }
