@@ -1,4 +1,4 @@
--- The loop over a code's parts with its first line and its end, and what a node holds by the kind of its children.
+-- The turns over a code's parts, with the first line before the ninth, and the checks at the code's end.
 -- Assumes nothing.
 use mathlib.Core.Path.{_≡_, refl, sym, ap, ap₂, subst, _∙_}
 use Prim.Native.Nat.{ℕ, suc, _+_, _-_, _≤_, _<_}

@@ -1,5 +1,5 @@
--- The loops over a container's children and over a dict's pairs, on plain values: each turn is one of the laws of `Chains` at the
--- definition's own unrolling. Assumes nothing.
+-- The turns over so many children and over a dict's pairs: each is one of the laws of `Chains` at the definition's own unrolling.
+-- Assumes nothing.
 use mathlib.Core.Path.{_≡_, refl, sym, ap, ap₂, subst, _∙_}
 use Prim.Native.Nat.{ℕ, zero, suc, _+_, _-_, _%_, _≤_, _<_}
 use native.Mathlib.Omega.{arith}
