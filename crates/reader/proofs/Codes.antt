@@ -1,4 +1,4 @@
--- The loop over a code's parts with its first line and its end, and what a node holds by the kind of its children.
+-- The turns over a code's parts, with the first line before the ninth, and the checks at the code's end.
 -- Assumes nothing.
 use mathlib.Core.Path.{_≡_, refl, sym, ap, ap₂, subst, _∙_}
 use Prim.Native.Nat.{ℕ, suc, _+_, _-_, _≤_, _<_}
@@ -71,9 +71,6 @@ code-lists : {s : List ℕ} {room : Room} {allowance : ℕ} (at : ℕ) {line : L
 code-lists {s} {room} {allowance} at some f = lists-inside allowance 1 f (omega arith) (codeOf s at) (λ fuel depth c. refl)
 
 module _ {s : List ℕ} {room : Room} {allowance at : ℕ} {line₀ : Line} {ns₀ es₀ ss₀ ns es ss : List ℕ} {line : Line} {i : ℕ} (some : 0 < allowance) (v : InvCode s room allowance at line₀ ns₀ es₀ ss₀ ns es ss line i) where
-  pub code-stands : Stands s room line₀ ns₀ es₀ ss₀ ns es ss line
-  code-stands = v .inv .stands
-
   -- after the last part: the checks at the end
   module _ (le : codeParts ≤ i) {fault : ℕ} (is : fault ≡ faultIn s ns (at + 1) line) where
     at-end : Inv (Then (partsOf s codeParts 0) (λ fuel depth. ended s at)) (λ fuel depth. ended s at) s room (allowance - 1) line₀ ns₀ es₀ ss₀ ns es ss line

@@ -1,5 +1,5 @@
--- The loops over a container's children and over a dict's pairs, on plain values: each turn is one of the laws of `Chains` at the
--- definition's own unrolling. Assumes nothing.
+-- The turns over so many children and over a dict's pairs: each is one of the laws of `Chains` at the definition's own unrolling.
+-- Assumes nothing.
 use mathlib.Core.Path.{_≡_, refl, sym, ap, ap₂, subst, _∙_}
 use Prim.Native.Nat.{ℕ, zero, suc, _+_, _-_, _%_, _≤_, _<_}
 use native.Mathlib.Omega.{arith}
@@ -32,9 +32,6 @@ kids-start {s} {room} {allowance} {count} safe li =
     record { bound = omega arith; inv = inv-as (inv-start (kidsOf s count) allowance safe li) (kidsOf s (count - 0)) (λ fuel depth c h. ap (λ n. kidsOf s n fuel depth c) e) }
 
 module _ {s : List ℕ} {room : Room} {allowance count : ℕ} {line₀ : Line} {ns₀ es₀ ss₀ ns es ss : List ℕ} {line : Line} {i : ℕ} (v : InvKids s room allowance count line₀ ns₀ es₀ ss₀ ns es ss line i) where
-  pub kids-stands : Stands s room line₀ ns₀ es₀ ss₀ ns es ss line
-  kids-stands = v .inv .stands
-
   pub kids-end : count ≤ i → Lists (kidsOf s count) 0 s room allowance line₀ ns₀ es₀ ss₀ (linked.Line line) ns es ss
   unfolding kids
   kids-end le = let e : count - i ≡ 0 = omega arith in inv-end (v .inv) (λ fuel depth c h. ap (λ n. kidsOf s n fuel depth c) e)

@@ -274,7 +274,7 @@ pub const AS_NAMES: u32 = 3;
 pub const AS_STRING: u32 = 4;
 
 // The rule of the ith part of a code.
-pub fn rule_at(i: u32) -> u32
+fn rule_at(i: u32) -> u32
     ensures { λ r. ⌜ ruleOf r ≡ getD rules i whatever ⌝ }
 {
     match i {
@@ -318,7 +318,7 @@ pub fn suits(rule: u32, nodes: &[u32], entries: &[u32], v: u32) -> bool
 }
 
 // The first line, which stands before the ninth part.
-pub fn first_line(s: &[u8], i: u32, line: Line) -> Linked
+fn first_line(s: &[u8], i: u32, line: Line) -> Linked
     requires { ⌜ (line .walk .at ≤ length (now s)) × (length (now s) ≤ mostBytes) ⌝ }
     ensures { λ r. ⌜ r ≡ firstLined (now (s .entry)) i line ⌝ }
 {
@@ -361,7 +361,7 @@ fn argument_sum(s: &[u8], at: u32) -> u64
 }
 
 // The checks at a code's end: the refusal's number, or ACCEPTED.
-pub fn code_fault(s: &[u8], nodes: &[u32], place: u32, line: Line) -> u32
+fn code_fault(s: &[u8], nodes: &[u32], place: u32, line: Line) -> u32
     requires { ⌜ (place + codeNumbers ≤ length (now s)) × (length (now s) ≤ mostBytes) ⌝ }
     ensures { λ r. ⌜ r ≡ faultIn (now (s .entry)) (now (nodes .entry)) place line ⌝ }
 {

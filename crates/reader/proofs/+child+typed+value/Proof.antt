@@ -91,7 +91,7 @@ child-same-length-3 : (t : ℕ) → child-lts.Need-same-length-3 (child-calls t)
 child-same-length-3 t c = search needs
 
 child-returns : (t : ℕ) → child-lts.Need-returns (child-calls t) (child-at t) child.Post
-child-returns t c = search (child-cut, child-unfit, child-linked, needs)
+child-returns t c = search (child-unfit, needs)
 
 child-attach-requires : (t : ℕ) → child-lts.Need-attach-requires (child-calls t) (child-at t) child.Post
 child-attach-requires t c κs =
@@ -107,7 +107,7 @@ child-same-length-6 : (t : ℕ) → child-lts.Need-same-length-6 (child-calls t)
 child-same-length-6 t c = search needs
 
 child-returns-2 : (t : ℕ) → child-lts.Need-returns-2 (child-calls t) (child-at t) child.Post
-child-returns-2 t c = search (child-cut, child-unfit, child-linked, needs)
+child-returns-2 t c = search (child-cut, needs)
 
 child-same-length-7 : (t : ℕ) → child-lts.Need-same-length-7 (child-calls t) (child-at t) child.Post
 child-same-length-7 t c = search needs
@@ -134,7 +134,7 @@ typed-below-requires t c κs =
     λ q. c .before .before .before .before .pre .1 .3 q .0
 
 typed-loop-holds : (t : ℕ) → typed-lts.Need-loop-holds (typed-calls t) (typed-at t) typed.Post typed-Inv-loop typed-μ-loop
-typed-loop-holds t c = search (body-start, body-done, body-refused, body-cut, body-next, body-less, needs)
+typed-loop-holds t c = search (body-start, needs)
 
 typed-next-child-requires : (t : ℕ) → typed-lts.Need-next-child-requires (typed-calls t) (typed-at t) typed.Post typed-Inv-loop typed-μ-loop
 typed-next-child-requires t c κs =
@@ -258,13 +258,13 @@ value-same-length : (t : ℕ) → value-lts.Need-same-length (value-calls t) (va
 value-same-length t c = search needs
 
 value-returns : (t : ℕ) → value-lts.Need-returns (value-calls t) (value-at t) value.Post
-value-returns t c = search (value-refused, value-known, value-cut, value-whole, needs)
+value-returns t c = search (value-refused, needs)
 
 value-same-length-2 : (t : ℕ) → value-lts.Need-same-length-2 (value-calls t) (value-at t) value.Post
 value-same-length-2 t c = search needs
 
 value-returns-2 : (t : ℕ) → value-lts.Need-returns-2 (value-calls t) (value-at t) value.Post
-value-returns-2 t c = search (value-refused, value-known, value-cut, value-whole, needs)
+value-returns-2 t c = search (value-known, needs)
 
 value-same-length-3 : (t : ℕ) → value-lts.Need-same-length-3 (value-calls t) (value-at t) value.Post
 value-same-length-3 t c = search needs

@@ -21,10 +21,10 @@ enum-known-behind-2 : tie.Need-enum-known-behind-2
 enum-known-behind-2 c = search needs
 
 returns-2 : tie.Need-returns-2
-returns-2 c = search (node-cut, node-opened, needs)
+returns-2 c = search (node-cut, needs)
 
 returns-3 : tie.Need-returns-3
-returns-3 c = search (node-cut, node-opened, needs)
+returns-3 c = search (node-opened, needs)
 
 pub open-node-spec : {M : Type 1} → statement M
 open-node-spec =
