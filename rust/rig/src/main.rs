@@ -1,6 +1,8 @@
 //! The rig: holds the port, called as a static library, to the Rust it carries over, to what CPython says of its own
 //! code, and to lists of answers kept in the repository. `rig --help` says how to call it.
 mod cpython;
+#[cfg(carried)]
+mod leaf;
 mod lent;
 mod limits;
 mod linetable;
@@ -150,7 +152,7 @@ fn all<const N: usize>(held: [bool; N]) -> bool {
 #[cfg(carried)]
 mod beside_the_rust {
     use super::{
-        LineTables, LocalNames, Reads, Varints, all, contents, cpython, linetable, localsplus, values, varint,
+        LineTables, LocalNames, Reads, Varints, all, contents, cpython, leaf, linetable, localsplus, values, varint,
     };
     use crate::subject::{compare as compare_all, write_list};
     use linetable::carried_side::Extent;
@@ -187,6 +189,7 @@ mod beside_the_rust {
             compare_all::<Varints>(varint::carried_side::asks(sizes.varints)),
             compare_all::<LineTables>(linetable::carried_side::asks(sizes.tables, cpython::tables(&text))),
             compare_all::<LocalNames>(localsplus::carried_side::asks(sizes.lists.0, sizes.lists.1)),
+            leaf::hold(values::random_inputs(12, sizes.values.random / 4)),
             compare_all::<Reads>(values::asks(sizes.values, cpython::modules(&text))),
         ]))
     }
@@ -194,7 +197,9 @@ mod beside_the_rust {
     pub fn compare_values(long: bool, tables: Option<String>) -> Result<bool, String> {
         let text = text_of(tables)?;
         let modules = cpython::modules(&text);
-        Ok(compare_all::<Reads>(values::asks(if long { LONG } else { SHORT }.values, modules)))
+        let extent = if long { LONG } else { SHORT }.values;
+        let leaves = leaf::hold(values::random_inputs(12, extent.random / 4));
+        Ok(all([leaves, compare_all::<Reads>(values::asks(extent, modules))]))
     }
 
     pub fn write_fixed(folder: &str, tables: Option<String>) -> Result<bool, String> {

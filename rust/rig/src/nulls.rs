@@ -1,6 +1,7 @@
 //! A null pointer with length 0 is an empty slice: every exported function, called so, answers as for no bytes and no room.
 use crate::tally::Tally;
-use sillgarland_sys::{Found, Located, Split, Written, refusals};
+use sillgarland_sys::{Found, Leaf, Located, Read, Split, Written, refusals};
+use sillgarland_sys::{sill_leaf, sill_locate_node, sill_read};
 use sillgarland_sys::{sill_locate, sill_locations, sill_read_varint, sill_read_varint_with_start, sill_split};
 use sillgarland_sys::{
     sill_write_signed_varint, sill_write_varint, sill_write_varint_be, sill_write_varint_with_start,
@@ -14,6 +15,8 @@ pub fn hold() -> bool {
     let none = Found { found: 0, value: 0, whole: 0, pad: 0, next: 0 };
     let no_instructions = Located { refusal: refusals::ACCEPTED, place: 0, from_entries: 0, whole: 1 };
     let no_names = Split { refusal: refusals::ACCEPTED, place: 0, locals: 0, cells: 0, frees: 0, present: 0 };
+    let no_object = Read { refusal: refusals::EOF_OBJECT, place: 0, consumed: 0, nodes: 0, entries: 0, slots: 0 };
+    let no_node = Leaf { refusal: refusals::BAD_TABLE, place: 0, kind: 0, pad: 0, first: 0, second: 0 };
     // SAFETY: null with length 0 is what the functions promise to take.
     unsafe {
         let (n, m, w) = (null(), null_mut(), null_mut());
@@ -27,6 +30,15 @@ pub fn hold() -> bool {
         count(&mut tally, "sill_locations", sill_locations(n, 0, 1, 0, w, 0, null_mut(), 0), no_instructions);
         let split = sill_split(n, 0, 0, 0, 0, 0, w, 0, w, 0, w, 0, w, 0, w, 0);
         count(&mut tally, "sill_split", split, no_names);
+        count(&mut tally, "sill_read", sill_read(n, 0, w, 0, w, 0, w, 0, 1), no_object);
+        count(&mut tally, "sill_leaf", sill_leaf(n, 0, null(), 0, 0, 0), no_node);
+        let located = sill_locate_node(n, 0, null(), 0, 0, 0, 1, 0, w, 0);
+        count(
+            &mut tally,
+            "sill_locate_node",
+            located,
+            Located { refusal: refusals::BAD_TABLE, whole: 0, ..no_instructions },
+        );
     }
     tally.finish()
 }

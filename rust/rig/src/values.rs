@@ -155,7 +155,7 @@ fn large_inputs() -> impl Iterator<Item = Ask> {
 }
 
 /// Values by the grammar; two of three damaged; some with bytes after them.
-fn random_inputs(seed: u64, count: usize) -> impl Iterator<Item = Ask> {
+pub fn random_inputs(seed: u64, count: usize) -> impl Iterator<Item = Ask> {
     let mut random = Random::new(seed);
     (0..count).map(move |_| {
         let mut maker = Maker { random: &mut random, out: Vec::new(), slots: Vec::new() };

@@ -1,0 +1,174 @@
+//! The leaf question on stores that no reading made: records with a letter, place, size or count changed, and counts that
+//! do not fit the store. The Rust has no such question, so the answer is told here, from document 01's list of what a
+//! record must be.
+use crate::lent::{Lent, Part};
+use crate::random::Random;
+use crate::read::Ask;
+use crate::reading::{ample, read};
+use crate::stores::leaf;
+use crate::tally::Tally;
+use crate::text::{hex, numbers};
+use sillgarland_sys::{Leaf, Located, refusals, sill_locate_node};
+
+/// A store to ask about, and how many of its nodes are said to be used.
+struct Store<'a> {
+    input: &'a [u8],
+    nodes: Vec<u32>,
+    used: u32,
+}
+
+pub fn hold(asks: impl Iterator<Item = Ask>) -> bool {
+    let mut tally = Tally::new("leaf");
+    let mut random = Random::new(11);
+    for ask in asks {
+        let part = Part::new(&ask.input);
+        let reading = read(&part, ask.nesting, ample(&ask.input));
+        if reading.answer.refusal != refusals::ACCEPTED {
+            continue;
+        }
+        let used = reading.answer.nodes;
+        let nodes = reading.stores[0].cells()[..5 * used as usize].to_vec();
+        let mut store = Store { input: part.bytes(), nodes, used };
+        for _ in 0..random.below(4) {
+            damage(&mut random, &mut store);
+        }
+        for node in 0..used.min(20) + 2 {
+            let (class, held) = hold_node(&part, &store, node);
+            tally.count(class, held);
+        }
+    }
+    tally.finish()
+}
+
+fn hold_node(part: &Part, store: &Store, node: u32) -> (&'static str, Result<(), String>) {
+    let expected = expected(store, node);
+    let lent = Lent::of(&store.nodes);
+    let answered = leaf(part, &lent, store.used, node);
+    let mut held = Ok(());
+    if answered != expected {
+        let (input, nodes) = (hex(store.input), numbers(&store.nodes));
+        held = Err(format!("leaf {input} {nodes} {} {node}: {answered:?} and not {expected:?}", store.used));
+    } else if expected.refusal != refusals::ACCEPTED || store.nodes[5 * node as usize] != u32::from(b's') {
+        held = hold_no_table(part, &lent, store.used, node);
+    }
+    (if expected.refusal == refusals::ACCEPTED { "nodes answered" } else { "nodes refused 16" }, held)
+}
+
+/// What is no bytes node has no line table.
+fn hold_no_table(part: &Part, store: &Lent<u32>, used: u32, node: u32) -> Result<(), String> {
+    let (input, nodes, mut records) = (part.bytes(), store.cells(), Lent::new(4));
+    // SAFETY: input and stores are lent for their lengths.
+    let located = unsafe {
+        let (nodes, len) = (nodes.as_ptr(), nodes.len());
+        sill_locate_node(input.as_ptr(), input.len(), nodes, len, used, node, 1, 1, records.pointer(), records.len())
+    };
+    let expected = Located { refusal: refusals::BAD_TABLE, place: node, from_entries: 0, whole: 0 };
+    if located != expected {
+        return Err(format!("sill_locate_node {node}: {located:?}"));
+    }
+    records.holds("records", &[])
+}
+
+fn damage(random: &mut Random, store: &mut Store) {
+    let count = store.nodes.len();
+    let near = [0, 1, 2, 3, 4, 5, 10, 20, 255, 256, u32::MAX, u32::MAX - 3, store.input.len() as u32];
+    let letters = b"NFTS.iIlgyutaAzZs([<>):{c0rfx\x01";
+    match random.below(12) {
+        0 => store.used = random.one_of(&near),
+        1 => store.nodes.truncate(random.below(count + 1)),
+        2 => store.nodes.push(7),
+        sort => {
+            let at = 5 * random.below(count.max(5) / 5);
+            let cell = if sort < 6 { 0 } else { random.below(5) };
+            let Some(old) = store.nodes.get(at + cell).copied() else { return };
+            store.nodes[at + cell] = match random.below(4) {
+                _ if cell == 0 => u32::from(random.one_of(letters)) + 256 * u32::from(random.below(30) == 0),
+                0 => old.wrapping_add(1),
+                1 => old.wrapping_sub(1),
+                2 => random.one_of(&near),
+                _ => random.below(store.input.len() + 2) as u32,
+            };
+        }
+    }
+}
+
+/// The answer by document 01.
+fn expected(store: &Store, node: u32) -> Leaf {
+    let none = Leaf { refusal: refusals::ACCEPTED, place: 0, kind: 0, pad: 0, first: 0, second: 0 };
+    let within = (store.nodes.len() / 5).min(store.used as usize).min(refusals::MOST_RECORDS as usize);
+    let record = store.nodes.chunks(5).take(within).nth(node as usize);
+    match record.and_then(|record| kind_of(store.input, record)) {
+        None => Leaf { refusal: refusals::BAD_TABLE, place: node, ..none },
+        Some((kind, first, second)) => Leaf { kind, first, second, ..none },
+    }
+}
+
+/// Kind and values, if the record is as it must be.
+fn kind_of(input: &[u8], record: &[u32]) -> Option<(u32, u64, u64)> {
+    let [letter, place, size, _, count] = record.iter().map(|cell| *cell as usize).collect::<Vec<_>>()[..] else {
+        return None;
+    };
+    let span = input.get(place..place + size)?;
+    let length = |at: usize| Some(u32::from_le_bytes(input.get(at..at + 4)?.try_into().ok()?));
+    let eight = |at: usize| Some(u64::from_le_bytes(span.get(at..at + 8)?.try_into().ok()?));
+    let letter = u8::try_from(letter).ok()?;
+    let (fits, kind) = match letter {
+        b'N' => (size == 0, (1, 0, 0)),
+        b'F' | b'T' => (size == 0, (2, u64::from(letter == b'T'), 0)),
+        b'.' => (size == 0, (3, 0, 0)),
+        b'S' => (size == 0, (4, 0, 0)),
+        b'i' => (size == 4, (5, i64::from(length(place)? as i32) as u64, 0)),
+        b'I' => (size == 8, (5, eight(0)?, 0)),
+        b'g' => (size == 8, (6, eight(0)?, 0)),
+        b'y' => (size == 16, (7, eight(0)?, eight(8)?)),
+        b'l' => (true, long(span)?),
+        b's' => (true, (0, 0, 0)),
+        b'u' | b't' | b'a' | b'A' => (is_text(span), (0, 0, 0)),
+        b'z' | b'Z' => (is_text(span) && size < 256, (0, 0, 0)),
+        b'(' | b'[' | b'<' | b'>' => {
+            return (size == 4 && length(place)? as usize == count && count < 1 << 31).then_some((0, 0, 0));
+        }
+        b')' => return (size == 1 && usize::from(span[0]) == count).then_some((0, 0, 0)),
+        b'{' => return (size == 0 && count % 2 == 0).then_some((0, 0, 0)),
+        b':' => return (size == 0 && count == 3).then_some((0, 0, 0)),
+        b'c' => {
+            let _first_line = length(place + size)?;
+            let numbers = [0, 8, 16].map(|at| length(place + at).map(u64::from));
+            let [Some(args), Some(kwonly), Some(flags)] = numbers else { return None };
+            let sum = args + kwonly + (flags >> 2 & 1) + (flags >> 3 & 1);
+            return (size >= 20 && count == 10 && sum < 1 << 32).then_some((0, 0, 0));
+        }
+        _ => return None,
+    };
+    (fits && count == 0).then_some(kind)
+}
+
+/// A long's digits, judged and put together: whole within 64 bits, else wide.
+fn long(span: &[u8]) -> Option<(u32, u64, u64)> {
+    let count = i32::from_le_bytes(span.get(..4)?.try_into().ok()?);
+    let digits: Vec<u16> =
+        span[4..].chunks(2).map(|two| Some(u16::from_le_bytes(two.try_into().ok()?))).collect::<Option<_>>()?;
+    if digits.len() != count.unsigned_abs() as usize
+        || digits.last() == Some(&0)
+        || digits.iter().any(|digit| *digit > 0x7FFF)
+    {
+        return None;
+    }
+    if digits.len() > 5 {
+        return Some((8, 0, 0));
+    }
+    let magnitude = digits.iter().rev().fold(0i128, |sum, digit| sum << 15 | i128::from(*digit));
+    let value = if count < 0 { -magnitude } else { magnitude };
+    Some(i64::try_from(value).map_or((8, 0, 0), |value| (5, value as u64, 0)))
+}
+
+/// UTF-8, but for surrogates, which may stand as three bytes.
+fn is_text(mut bytes: &[u8]) -> bool {
+    while let Err(error) = std::str::from_utf8(bytes) {
+        bytes = match &bytes[error.valid_up_to()..] {
+            [0xED, 0xA0..=0xBF, 0x80..=0xBF, rest @ ..] => rest,
+            _ => return false,
+        };
+    }
+    true
+}
