@@ -1,6 +1,6 @@
 //! Line tables: linetable_to_locations, which makes a new slice of locations at each call, and the port's two functions,
 //! which fill stores lent to them.
-use crate::timing::{Way, side_by_side};
+use crate::timing::{Way, side_by_side, timed};
 use carried::marshal::linetable_to_locations;
 use sillgarland_sys::{Located, Location, sill_locate, sill_locations};
 use std::hint::black_box;
@@ -87,9 +87,9 @@ fn compare(title: &str, tables: &[Table]) {
         &format!("{title}, {instructions} instructions"),
         (instructions, "an instruction"),
         vec![
-            Way { name: "the Rust", work: Box::new(rust) },
-            Way { name: "the port, numbers", work: Box::new(port) },
-            Way { name: "the port, structs", work: Box::new(port_structs) },
+            Way { name: "the Rust", work: timed(rust) },
+            Way { name: "the port, numbers", work: timed(port) },
+            Way { name: "the port, structs", work: timed(port_structs) },
         ],
     );
 }

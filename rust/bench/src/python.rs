@@ -2,9 +2,10 @@
 use std::io::{BufRead, BufReader, Write};
 use std::path::PathBuf;
 use std::process::{Child, ChildStdin, ChildStdout, Command, Stdio};
+use std::time::Duration;
 
 const SCRIPT: &str = "\
-import gc, marshal, sys
+import gc, marshal, sys, time
 data = open(sys.argv[1], 'rb').read()
 sizes = list(map(int, sys.argv[2].split(',')))
 parts, at = [], 0
@@ -14,9 +15,10 @@ for size in sizes:
 gc.disable()
 print('ready', flush=True)
 for _ in sys.stdin:
+    start = time.thread_time_ns()
     for part in parts:
         marshal.loads(part)
-    print('done', flush=True)
+    print(time.thread_time_ns() - start, flush=True)
 ";
 
 pub struct Python {
@@ -46,11 +48,12 @@ impl Python {
         line.trim_end().to_string()
     }
 
-    pub fn load_all(&mut self) {
+    /// Loads everything once; the processor time that took, as the child says.
+    pub fn load_all(&mut self) -> Duration {
         if let Some(asked) = &mut self.asked {
             let _ = asked.write_all(b"\n").and_then(|()| asked.flush());
         }
-        assert_eq!(self.line(), "done", "CPython refuses");
+        Duration::from_nanos(self.line().parse().expect("CPython refuses"))
     }
 }
 

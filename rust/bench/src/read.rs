@@ -2,7 +2,7 @@
 //! bags (the crate's own BasicBag, one that builds a tree, one that keeps nothing) and CPython's marshal.loads. What the
 //! Rust and CPython make is thrown away within the time.
 use crate::python::Python;
-use crate::timing::{Way, side_by_side};
+use crate::timing::{Way, side_by_side, timed};
 use bags::{NothingBag, TreeBag};
 use carried::bytecode::BasicBag;
 use carried::marshal::{MarshalBag, deserialize_value};
@@ -124,11 +124,11 @@ fn compare(title: &str, inputs: &[Vec<u8>]) {
     let mut ways = Vec::new();
     // The crate's own bag makes no lists.
     if by_the_rust(&inputs[..1], BasicBag) {
-        ways.push(Way { name: "the Rust, BasicBag", work: Box::new(|| assert!(by_the_rust(inputs, BasicBag))) });
+        ways.push(Way { name: "the Rust, BasicBag", work: timed(|| assert!(by_the_rust(inputs, BasicBag))) });
     }
-    ways.push(Way { name: "the Rust, a tree", work: Box::new(|| assert!(by_the_rust(inputs, TreeBag::default()))) });
-    ways.push(Way { name: "the Rust, nothing", work: Box::new(|| assert!(by_the_rust(inputs, NothingBag))) });
-    ways.push(Way { name: "the port", work: Box::new(port) });
+    ways.push(Way { name: "the Rust, a tree", work: timed(|| assert!(by_the_rust(inputs, TreeBag::default()))) });
+    ways.push(Way { name: "the Rust, nothing", work: timed(|| assert!(by_the_rust(inputs, NothingBag))) });
+    ways.push(Way { name: "the port", work: timed(port) });
     if let Some(python) = &mut python {
         ways.push(Way { name: "CPython's loads", work: Box::new(|| python.load_all()) });
     }
