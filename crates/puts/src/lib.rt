@@ -41,7 +41,7 @@ fn store_slice(out: &mut [u8], at: usize, s: &[u8], from: usize, size: usize)
     }
 }
 
-// A letter alone, or with a number of 32 bits behind it.
+// A letter alone, a number of 32 bits alone, or one behind a letter.
 pub fn write_u8(out: &mut [u8], at: u32, letter: u8) -> Wrote
     requires { ⌜ Open at (now out) ⌝ }
     ensures { λ r. ⌜ Puts (emit (letter ∷ []) ended) at (now (out .entry)) r (now (out .exit)) ⌝ }
@@ -53,6 +53,19 @@ pub fn write_u8(out: &mut [u8], at: u32, letter: u8) -> Wrote
     }
     out[place] = letter;
     Wrote::Done(at + 1)
+}
+
+pub fn write_u32(out: &mut [u8], at: u32, x: u32) -> Wrote
+    requires { ⌜ Open at (now out) ⌝ }
+    ensures { λ r. ⌜ Puts (emit (bytes32 x) ended) at (now (out .entry)) r (now (out .exit)) ⌝ }
+{
+    let room = out.len();
+    let place = at as usize;
+    if room - place < 4 {
+        return Wrote::Refused(refusals::NO_ROOM, room as u32);
+    }
+    store_u32(out, place, x);
+    Wrote::Done(at + 4)
 }
 
 pub fn write_len(out: &mut [u8], at: u32, letter: u8, len: u32) -> Wrote

@@ -246,7 +246,7 @@ found-code l ((x, k) ∷ ls) o h = go k (eqb l x) refl (found-code l ls) o h
     go (refuses f) false p more o h = more o h
     go codes false p more o h = more (o .1) h
 
-only-code : (l : ℕ) → classOf l ≡ codes → l ≡ 0x63
+pub only-code : (l : ℕ) → classOf l ≡ codes → l ≡ 0x63
 unfolding classOf letters
 only-code l h = found-code l letters (refl, tt) h
 

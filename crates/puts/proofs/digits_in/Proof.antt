@@ -2,11 +2,8 @@
 use Rattle.writing.proofs.Digits.{three-digits, four-digits, five-digits}
 use mathlib.Core.Path.{sym}
 use native.Mathlib.Omega.{arith}
-use borrow.Author.Needs.{needs}
 use Rattle.puts.proofs.digits_in.Statement.{statement}
 use Rattle.puts.proofs.digits_in.Tie as tie
-use Rattle.puts.proofs.digits_in.Reads as reads
-use Rattle.puts.proofs.digits_in.Lts as lts
 
 returns : tie.Need-returns
 returns c = (sym (three-digits (c .before .args .magnitude) (omega arith) (omega arith)), omega arith, omega arith)

@@ -4,9 +4,6 @@ use native.Mathlib.Omega.{arith}
 use borrow.Author.Needs.{needs}
 use Rattle.puts.proofs.few_digits.Statement.{statement}
 use Rattle.puts.proofs.few_digits.Tie as tie
-use Rattle.puts.proofs.few_digits.Reads as reads
-use Rattle.puts.proofs.few_digits.Lts as lts
-use Rattle.fields.proofs.le16.Reads as le16-reads
 
 returns : tie.Need-returns
 returns c = digits-0 (c .before .before .args .s .now) (c .before .before .args .count) (c .before .before .args .at) (omega arith)

@@ -4,8 +4,6 @@ use Prim.Native.Nat.{_-_}
 use borrow.Author.Needs.{needs}
 use Rattle.puts.proofs.is_ascii.Statement.{statement}
 use Rattle.puts.proofs.is_ascii.Tie as tie
-use Rattle.puts.proofs.is_ascii.Reads as reads
-use Rattle.puts.proofs.is_ascii.Lts as lts
 
 abbrev Inv-loop : tie.InvT-loop
 Inv-loop s from size i₀ i = Plain s from size i

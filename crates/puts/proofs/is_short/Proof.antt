@@ -4,9 +4,6 @@ use native.Mathlib.Omega.{arith}
 use borrow.Author.Needs.{needs}
 use Rattle.puts.proofs.is_short.Statement.{statement}
 use Rattle.puts.proofs.is_short.Tie as tie
-use Rattle.puts.proofs.is_short.Reads as reads
-use Rattle.puts.proofs.is_short.Lts as lts
-use Rattle.puts.proofs.is_ascii.Reads as is-ascii-reads
 
 returns : tie.Need-returns
 returns c = short-long _ _ _ (c .before .before .pre) (omega arith)

@@ -1,11 +1,9 @@
-use mathlib.Core.Path.{refl}
 -- By the sign. Assumes nothing.
+use mathlib.Core.Path.{refl}
 use native.Mathlib.Omega.{arith}
 use borrow.Author.Needs.{needs}
 use Rattle.puts.proofs.signed_count.Statement.{statement}
 use Rattle.puts.proofs.signed_count.Tie as tie
-use Rattle.puts.proofs.signed_count.Reads as reads
-use Rattle.puts.proofs.signed_count.Lts as lts
 
 sub-result : tie.Need-sub-result
 sub-result c = search needs

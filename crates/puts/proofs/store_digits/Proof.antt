@@ -5,8 +5,6 @@ use native.Mathlib.Omega.{arith}
 use borrow.Author.Needs.{needs}
 use Rattle.puts.proofs.store_digits.Statement.{statement}
 use Rattle.puts.proofs.store_digits.Tie as tie
-use Rattle.puts.proofs.store_digits.Reads as reads
-use Rattle.puts.proofs.store_digits.Lts as lts
 
 abbrev Inv-loop : tie.InvT-loop
 Inv-loop out₀ at magnitude left₀ place₀ out left place = Digiting out₀ at magnitude out left place

@@ -5,8 +5,6 @@ use Prim.Native.Nat.{_-_}
 use borrow.Author.Needs.{needs}
 use Rattle.puts.proofs.store_slice.Statement.{statement}
 use Rattle.puts.proofs.store_slice.Tie as tie
-use Rattle.puts.proofs.store_slice.Reads as reads
-use Rattle.puts.proofs.store_slice.Lts as lts
 
 abbrev Inv-loop : tie.InvT-loop
 Inv-loop out₀ at s from size i₀ out i = Storing out₀ at s from size out i

@@ -6,8 +6,6 @@ use native.Mathlib.Omega.{arith}
 use borrow.Author.Needs.{needs}
 use Rattle.puts.proofs.store_u32.Statement.{statement}
 use Rattle.puts.proofs.store_u32.Tie as tie
-use Rattle.puts.proofs.store_u32.Reads as reads
-use Rattle.puts.proofs.store_u32.Lts as lts
 
 cast-out : tie.Need-cast-out
 cast-out c = search needs

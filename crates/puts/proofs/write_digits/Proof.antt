@@ -6,12 +6,6 @@ use mathlib.Core.Path.{_∙_}
 use borrow.Author.Needs.{needs}
 use Rattle.puts.proofs.write_digits.Statement.{statement}
 use Rattle.puts.proofs.write_digits.Tie as tie
-use Rattle.puts.proofs.write_digits.Reads as reads
-use Rattle.puts.proofs.write_digits.Lts as lts
-use Rattle.puts.proofs.digits_in.Reads as digits-in-reads
-use Rattle.puts.proofs.signed_count.Reads as signed-count-reads
-use Rattle.puts.proofs.store_digits.Reads as store-digits-reads
-use Rattle.puts.proofs.store_u32.Reads as store-u32-reads
 
 digits-in-requires : tie.Need-digits-in-requires
 digits-in-requires c κs = search needs

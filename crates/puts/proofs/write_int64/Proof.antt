@@ -9,11 +9,6 @@ use mathlib.Core.Path.{_≡_, sym, ap, _∙_}
 use borrow.Author.Needs.{needs}
 use Rattle.puts.proofs.write_int64.Statement.{statement}
 use Rattle.puts.proofs.write_int64.Tie as tie
-use Rattle.puts.proofs.write_int64.Reads as reads
-use Rattle.puts.proofs.write_int64.Lts as lts
-use Rattle.fields.proofs.le64.Reads as le64-reads
-use Rattle.puts.proofs.write_digits.Reads as write-digits-reads
-use Rattle.puts.proofs.write_slice.Reads as write-slice-reads
 
 le64-requires : tie.Need-le64-requires
 le64-requires c κs = search needs

@@ -1,5 +1,5 @@
-use Rattle.writing.specs.Canonical.{bytes32}
 -- Carried by the laws of room. Assumes nothing.
+use Rattle.writing.specs.Canonical.{bytes32}
 use Rattle.puts.proofs.Laws.{full, placed, sets-first}
 use lib.ListN.{length-set}
 use native.Mathlib.Omega.{arith}
@@ -8,9 +8,6 @@ use mathlib.Core.Path.{_∙_}
 use borrow.Author.Needs.{needs}
 use Rattle.puts.proofs.write_len.Statement.{statement}
 use Rattle.puts.proofs.write_len.Tie as tie
-use Rattle.puts.proofs.write_len.Reads as reads
-use Rattle.puts.proofs.write_len.Lts as lts
-use Rattle.puts.proofs.store_u32.Reads as store-u32-reads
 
 sub-if1 : tie.Need-sub-if1
 sub-if1 c = search needs

@@ -4,11 +4,6 @@ use native.Mathlib.Omega.{arith}
 use borrow.Author.Needs.{needs}
 use Rattle.puts.proofs.write_marshal_str.Statement.{statement}
 use Rattle.puts.proofs.write_marshal_str.Tie as tie
-use Rattle.puts.proofs.write_marshal_str.Reads as reads
-use Rattle.puts.proofs.write_marshal_str.Lts as lts
-use Rattle.puts.proofs.is_short.Reads as is-short-reads
-use Rattle.puts.proofs.write_short.Reads as write-short-reads
-use Rattle.puts.proofs.write_vec.Reads as write-vec-reads
 
 is-short-requires : tie.Need-is-short-requires
 is-short-requires c κs = search needs

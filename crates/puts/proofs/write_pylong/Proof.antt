@@ -5,12 +5,6 @@ use native.Mathlib.Omega.{arith}
 use borrow.Author.Needs.{needs}
 use Rattle.puts.proofs.write_pylong.Statement.{statement}
 use Rattle.puts.proofs.write_pylong.Tie as tie
-use Rattle.puts.proofs.write_pylong.Reads as reads
-use Rattle.puts.proofs.write_pylong.Lts as lts
-use Rattle.fields.proofs.le32.Reads as le32-reads
-use Rattle.puts.proofs.few_digits.Reads as few-digits-reads
-use Rattle.puts.proofs.write_len.Reads as write-len-reads
-use Rattle.puts.proofs.write_slice.Reads as write-slice-reads
 
 write-slice-requires : tie.Need-write-slice-requires
 write-slice-requires c κs = (c .before .before .before .before .pre .0, long-within (c .before .before .before .before .args .s .now) (λ i. omega (arith, c .before .before .shared-slice-known .given i)) (c .before .before .before .before .args .place) (c .before .before .before .before .args .size) (c .before .before .before .before .pre .1))

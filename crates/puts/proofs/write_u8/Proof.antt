@@ -5,8 +5,6 @@ use mathlib.Core.Path.{refl}
 use borrow.Author.Needs.{needs}
 use Rattle.puts.proofs.write_u8.Statement.{statement}
 use Rattle.puts.proofs.write_u8.Tie as tie
-use Rattle.puts.proofs.write_u8.Reads as reads
-use Rattle.puts.proofs.write_u8.Lts as lts
 
 sub-if1 : tie.Need-sub-if1
 sub-if1 c = search needs

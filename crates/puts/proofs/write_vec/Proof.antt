@@ -6,10 +6,6 @@ use mathlib.Core.Path.{_∙_}
 use borrow.Author.Needs.{needs}
 use Rattle.puts.proofs.write_vec.Statement.{statement}
 use Rattle.puts.proofs.write_vec.Tie as tie
-use Rattle.puts.proofs.write_vec.Reads as reads
-use Rattle.puts.proofs.write_vec.Lts as lts
-use Rattle.puts.proofs.store_slice.Reads as store-slice-reads
-use Rattle.puts.proofs.store_u32.Reads as store-u32-reads
 
 sub-if1 : tie.Need-sub-if1
 sub-if1 c = search needs

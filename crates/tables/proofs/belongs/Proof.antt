@@ -7,10 +7,6 @@ use native.Mathlib.Omega.{arith}
 use borrow.Author.Needs.{needs}
 use Rattle.tables.proofs.belongs.Statement.{statement}
 use Rattle.tables.proofs.belongs.Tie as tie
-use Rattle.tables.proofs.belongs.Reads as reads
-use Rattle.tables.proofs.belongs.Lts as lts
-use Rattle.tables.proofs.has.Reads as has-reads
-use Rattle.tables.proofs.is_local.Reads as is-local-reads
 
 has-requires : tie.Need-has-requires
 has-requires c κs = search needs

@@ -7,12 +7,6 @@ use Prim.Native.Nat.{_-_}
 use borrow.Author.Needs.{needs}
 use Rattle.tables.proofs.count_group.Statement.{statement}
 use Rattle.tables.proofs.count_group.Tie as tie
-use Rattle.tables.proofs.count_group.Reads as reads
-use Rattle.tables.proofs.count_group.Lts as lts
-use Rattle.tables.proofs.belongs.Reads as belongs-reads
-use Rattle.tables.proofs.child.Reads as child-reads
-use Rattle.tables.proofs.next.Reads as next-reads
-use Rattle.tables.proofs.one_if.Reads as one-if-reads
 
 abbrev Inv-loop : tie.InvT-loop
 Inv-loop s nodes entries used locals bit kinds count e₀ i₀ n₀ e i n = let t = lent s nodes entries used in Counting t (localsIn t locals) bit locals i e n

@@ -7,10 +7,6 @@ use mathlib.Core.Path.{ap, sym, _∙_}
 use borrow.Author.Needs.{needs}
 use Rattle.tables.proofs.ends_fit.Statement.{statement}
 use Rattle.tables.proofs.ends_fit.Tie as tie
-use Rattle.tables.proofs.ends_fit.Reads as reads
-use Rattle.tables.proofs.ends_fit.Lts as lts
-use Rattle.tables.proofs.node_at.Reads as node-at-reads
-use Rattle.tables.proofs.part_at.Reads as part-at-reads
 
 part-at-requires : tie.Need-part-at-requires
 part-at-requires c κs = search needs

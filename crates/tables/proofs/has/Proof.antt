@@ -4,8 +4,6 @@ use Rattle.localsplus.specs.Kind.{has}
 use borrow.Author.Needs.{needs}
 use Rattle.tables.proofs.has.Statement.{statement}
 use Rattle.tables.proofs.has.Tie as tie
-use Rattle.tables.proofs.has.Reads as reads
-use Rattle.tables.proofs.has.Lts as lts
 
 div-result : tie.Need-div-result
 div-result c = search needs

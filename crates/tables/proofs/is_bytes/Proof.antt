@@ -3,11 +3,8 @@ use Rattle.tables.proofs.Codes.{not-among}
 use Rattle.grammar.specs.Letters.{isBytes}
 use mathlib.Core.List.{[], _∷_}
 use mathlib.Core.Path.{sym, ap}
-use borrow.Author.Needs.{needs}
 use Rattle.tables.proofs.is_bytes.Statement.{statement}
 use Rattle.tables.proofs.is_bytes.Tie as tie
-use Rattle.tables.proofs.is_bytes.Reads as reads
-use Rattle.tables.proofs.is_bytes.Lts as lts
 
 returns : tie.Need-returns
 returns c = sym (ap isBytes (c .match .keys1))

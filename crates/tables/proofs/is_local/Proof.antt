@@ -7,11 +7,6 @@ use Prim.Native.Nat.{_-_}
 use borrow.Author.Needs.{needs}
 use Rattle.tables.proofs.is_local.Statement.{statement}
 use Rattle.tables.proofs.is_local.Tie as tie
-use Rattle.tables.proofs.is_local.Reads as reads
-use Rattle.tables.proofs.is_local.Lts as lts
-use Rattle.tables.proofs.child.Reads as child-reads
-use Rattle.tables.proofs.local_is.Reads as local-is-reads
-use Rattle.tables.proofs.next.Reads as next-reads
 
 abbrev Inv-loop : tie.InvT-loop
 Inv-loop s nodes entries used node kinds count e₀ i₀ e i = let t = lent s nodes entries used in Along t (record { first = e₀; count = count; kinds = kinds }) (asks t (contentsOf t node)) (answer t (contentsOf t node) (record { first = e₀; count = count; kinds = kinds })) i e

@@ -3,11 +3,8 @@ use Rattle.tables.proofs.Codes.{not-among}
 use Rattle.grammar.specs.Letters.{isString}
 use mathlib.Core.List.{[], _∷_}
 use mathlib.Core.Path.{sym, ap}
-use borrow.Author.Needs.{needs}
 use Rattle.tables.proofs.is_string.Statement.{statement}
 use Rattle.tables.proofs.is_string.Tie as tie
-use Rattle.tables.proofs.is_string.Reads as reads
-use Rattle.tables.proofs.is_string.Lts as lts
 
 returns : tie.Need-returns
 returns c = sym (ap isString (c .match .keys1))

@@ -3,11 +3,8 @@ use Rattle.tables.proofs.Codes.{not-among}
 use Rattle.grammar.specs.Letters.{isTuple}
 use mathlib.Core.List.{[], _∷_}
 use mathlib.Core.Path.{sym, ap}
-use borrow.Author.Needs.{needs}
 use Rattle.tables.proofs.is_tuple.Statement.{statement}
 use Rattle.tables.proofs.is_tuple.Tie as tie
-use Rattle.tables.proofs.is_tuple.Reads as reads
-use Rattle.tables.proofs.is_tuple.Lts as lts
 
 returns : tie.Need-returns
 returns c = sym (ap isTuple (c .match .keys1))

@@ -5,11 +5,6 @@ use Prim.Native.Nat.{_-_}
 use borrow.Author.Needs.{needs}
 use Rattle.tables.proofs.linked.Statement.{statement}
 use Rattle.tables.proofs.linked.Tie as tie
-use Rattle.tables.proofs.linked.Reads as reads
-use Rattle.tables.proofs.linked.Lts as lts
-use Rattle.tables.proofs.entries_in.Reads as entries-in-reads
-use Rattle.tables.proofs.lesser.Reads as lesser-reads
-use Rattle.tables.proofs.next.Reads as next-reads
 
 abbrev Inv-loop : tie.InvT-loop
 Inv-loop entries used first count room steps e₀ i₀ e i = Walking (inside entries used) (onto entries) steps first i e

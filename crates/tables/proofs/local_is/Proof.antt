@@ -8,10 +8,6 @@ use mathlib.Core.Path.{ap, sym, _∙_}
 use borrow.Author.Needs.{needs}
 use Rattle.tables.proofs.local_is.Statement.{statement}
 use Rattle.tables.proofs.local_is.Tie as tie
-use Rattle.tables.proofs.local_is.Reads as reads
-use Rattle.tables.proofs.local_is.Lts as lts
-use Rattle.tables.proofs.has.Reads as has-reads
-use Rattle.tables.proofs.same_name.Reads as same-name-reads
 
 has-requires : tie.Need-has-requires
 has-requires c κs = search needs

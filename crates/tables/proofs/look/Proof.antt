@@ -10,12 +10,6 @@ use mathlib.Core.Path.{ap, sym, _∙_}
 use borrow.Author.Needs.{needs}
 use Rattle.tables.proofs.look.Statement.{statement}
 use Rattle.tables.proofs.look.Tie as tie
-use Rattle.tables.proofs.look.Reads as reads
-use Rattle.tables.proofs.look.Lts as lts
-use Rattle.tables.proofs.ends_fit.Reads as ends-fit-reads
-use Rattle.tables.proofs.node_at.Reads as node-at-reads
-use Rattle.tables.proofs.parts_fit.Reads as parts-fit-reads
-use Rattle.tables.proofs.whole.Reads as whole-reads
 
 whole-requires : tie.Need-whole-requires
 whole-requires c κs = search needs

@@ -8,13 +8,6 @@ use Prim.Native.Nat.{_-_}
 use borrow.Author.Needs.{needs}
 use Rattle.tables.proofs.named.Statement.{statement}
 use Rattle.tables.proofs.named.Tie as tie
-use Rattle.tables.proofs.named.Reads as reads
-use Rattle.tables.proofs.named.Lts as lts
-use Rattle.tables.proofs.child.Reads as child-reads
-use Rattle.tables.proofs.entries_in.Reads as entries-in-reads
-use Rattle.tables.proofs.lesser.Reads as lesser-reads
-use Rattle.tables.proofs.next.Reads as next-reads
-use Rattle.tables.proofs.string_at.Reads as string-at-reads
 
 abbrev Inv-loop : tie.InvT-loop
 Inv-loop s nodes entries used first count room steps e₀ i₀ e i = Walking (spelt (lent s nodes entries used)) (onto entries) steps first i e

@@ -7,11 +7,6 @@ use mathlib.Core.Path.{ap}
 use borrow.Author.Needs.{needs}
 use Rattle.tables.proofs.names_fit.Statement.{statement}
 use Rattle.tables.proofs.names_fit.Tie as tie
-use Rattle.tables.proofs.names_fit.Reads as reads
-use Rattle.tables.proofs.names_fit.Lts as lts
-use Rattle.tables.proofs.is_tuple.Reads as is-tuple-reads
-use Rattle.tables.proofs.named.Reads as named-reads
-use Rattle.tables.proofs.node_at.Reads as node-at-reads
 
 node-at-requires : tie.Need-node-at-requires
 node-at-requires c κs = search needs

@@ -3,9 +3,6 @@ use mathlib.Core.Path.{_≡_}
 use borrow.Author.Needs.{needs}
 use Rattle.tables.proofs.node_at.Statement.{statement}
 use Rattle.tables.proofs.node_at.Tie as tie
-use Rattle.tables.proofs.node_at.Reads as reads
-use Rattle.tables.proofs.node_at.Lts as lts
-use Rattle.tables.proofs.word_at.Reads as word-at-reads
 
 mul-at : tie.Need-mul-at
 mul-at c = search needs

@@ -5,10 +5,6 @@ use Prim.Native.Nat.{_-_}
 use borrow.Author.Needs.{needs}
 use Rattle.tables.proofs.part_at.Statement.{statement}
 use Rattle.tables.proofs.part_at.Tie as tie
-use Rattle.tables.proofs.part_at.Reads as reads
-use Rattle.tables.proofs.part_at.Lts as lts
-use Rattle.tables.proofs.child.Reads as child-reads
-use Rattle.tables.proofs.next.Reads as next-reads
 
 abbrev Inv-loop : tie.InvT-loop
 Inv-loop entries first part e₀ i₀ e i = Reaching entries first part i e

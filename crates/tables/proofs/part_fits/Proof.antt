@@ -11,14 +11,6 @@ use mathlib.Core.Path.{ap, sym, _∙_}
 use borrow.Author.Needs.{needs}
 use Rattle.tables.proofs.part_fits.Statement.{statement}
 use Rattle.tables.proofs.part_fits.Tie as tie
-use Rattle.tables.proofs.part_fits.Reads as reads
-use Rattle.tables.proofs.part_fits.Lts as lts
-use Rattle.tables.proofs.is_bytes.Reads as is-bytes-reads
-use Rattle.tables.proofs.is_string.Reads as is-string-reads
-use Rattle.tables.proofs.is_tuple.Reads as is-tuple-reads
-use Rattle.tables.proofs.names_fit.Reads as names-fit-reads
-use Rattle.tables.proofs.whole.Reads as whole-reads
-use Rattle.tables.proofs.word_at.Reads as word-at-reads
 
 whole-requires : tie.Need-whole-requires
 whole-requires c κs = search needs

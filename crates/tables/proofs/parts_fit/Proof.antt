@@ -7,11 +7,6 @@ use Prim.Native.Nat.{_-_}
 use borrow.Author.Needs.{needs}
 use Rattle.tables.proofs.parts_fit.Statement.{statement}
 use Rattle.tables.proofs.parts_fit.Tie as tie
-use Rattle.tables.proofs.parts_fit.Reads as reads
-use Rattle.tables.proofs.parts_fit.Lts as lts
-use Rattle.tables.proofs.child.Reads as child-reads
-use Rattle.tables.proofs.next.Reads as next-reads
-use Rattle.tables.proofs.part_fits.Reads as part-fits-reads
 
 abbrev Inv-loop : tie.InvT-loop
 Inv-loop s nodes entries used first e₀ part₀ e part = Fitting (lent s nodes entries used) first part e

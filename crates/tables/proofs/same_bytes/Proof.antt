@@ -5,8 +5,6 @@ use Prim.Native.Nat.{_-_}
 use borrow.Author.Needs.{needs}
 use Rattle.tables.proofs.same_bytes.Statement.{statement}
 use Rattle.tables.proofs.same_bytes.Tie as tie
-use Rattle.tables.proofs.same_bytes.Reads as reads
-use Rattle.tables.proofs.same_bytes.Lts as lts
 
 abbrev Inv-loop : tie.InvT-loop
 Inv-loop s a b size i₀ i = Same s a b size i

@@ -6,10 +6,6 @@ use mathlib.Core.Path.{ap, sym, _∙_}
 use borrow.Author.Needs.{needs}
 use Rattle.tables.proofs.same_name.Statement.{statement}
 use Rattle.tables.proofs.same_name.Tie as tie
-use Rattle.tables.proofs.same_name.Reads as reads
-use Rattle.tables.proofs.same_name.Lts as lts
-use Rattle.tables.proofs.node_at.Reads as node-at-reads
-use Rattle.tables.proofs.same_bytes.Reads as same-bytes-reads
 
 node-at-requires : tie.Need-node-at-requires
 node-at-requires c κs = search needs

@@ -7,11 +7,6 @@ use mathlib.Core.Path.{_≡_, ap, sym, _∙_}
 use borrow.Author.Needs.{needs}
 use Rattle.tables.proofs.string_at.Statement.{statement}
 use Rattle.tables.proofs.string_at.Tie as tie
-use Rattle.tables.proofs.string_at.Reads as reads
-use Rattle.tables.proofs.string_at.Lts as lts
-use Rattle.records.proofs.sound_at.Reads as sound-at-reads
-use Rattle.tables.proofs.is_string.Reads as is-string-reads
-use Rattle.tables.proofs.word_at.Reads as word-at-reads
 
 sound-at-requires : tie.Need-sound-at-requires
 sound-at-requires c κs = search needs

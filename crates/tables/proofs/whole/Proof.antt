@@ -7,11 +7,6 @@ use mathlib.Core.Path.{ap}
 use borrow.Author.Needs.{needs}
 use Rattle.tables.proofs.whole.Statement.{statement}
 use Rattle.tables.proofs.whole.Tie as tie
-use Rattle.tables.proofs.whole.Reads as reads
-use Rattle.tables.proofs.whole.Lts as lts
-use Rattle.records.proofs.sound_at.Reads as sound-at-reads
-use Rattle.tables.proofs.linked.Reads as linked-reads
-use Rattle.tables.proofs.node_at.Reads as node-at-reads
 
 sound-at-requires : tie.Need-sound-at-requires
 sound-at-requires c κs = search needs

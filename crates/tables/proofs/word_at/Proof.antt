@@ -5,8 +5,6 @@ use mathlib.Core.Path.{sym}
 use borrow.Author.Needs.{needs}
 use Rattle.tables.proofs.word_at.Statement.{statement}
 use Rattle.tables.proofs.word_at.Tie as tie
-use Rattle.tables.proofs.word_at.Reads as reads
-use Rattle.tables.proofs.word_at.Lts as lts
 
 mul-result : tie.Need-mul-result
 mul-result c = search needs

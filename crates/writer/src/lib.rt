@@ -1,0 +1,619 @@
+// The writing of a node of lent stores, whatever stands in them: `serialize_value` with code objects.
+// A writer of values and writers of children and parts call one another, and the nesting allowance falls each time.
+ghost use mathlib.Core.Path.{_≡_};
+ghost use mathlib.Core.Bool.{true, cond};
+ghost use mathlib.Core.Option.{none};
+ghost use mathlib.Core.List.{_∷_};
+ghost use lib.Dec.{eqb};
+ghost use Prim.Native.Nat.{_+_, _≤_, _<_, min};
+ghost use lib.ListN.{length};
+ghost use Rattle.refusals.specs.Limits.{mostBytes};
+ghost use Rattle.grammar.specs.Steps.{asNames};
+ghost use Rattle.grammar.specs.Letters.{classOf};
+ghost use Rattle.grammar.specs.Fields.{le64};
+ghost use Rattle.fields.specs.Classes.{classAt};
+ghost use Rattle.records.specs.Nodes.{nodeOf};
+ghost use Rattle.grammar.specs.Record;
+ghost use Rattle.writing.specs.Writing.{ended, emit, each};
+ghost use Rattle.writing.specs.Canonical.{bytes64, ofBits, integerBytes, shownLine};
+ghost use Rattle.writing.specs.Names.{contentsOf, inGroups};
+ghost use Rattle.writing.specs.Steps.{stringPart, namesPart, kidsOf, writing, parted};
+ghost use Rattle.puts.specs.Puts.{Open, Puts};
+ghost use Rattle.tables.specs.Looking.{lent, isSome, stringAt, Held};
+ghost use Rattle.tables.specs.Groups.{inGroup, groupIn, localsIn, kindsIn, namesIn, Listed};
+ghost use Rattle.writing.specs.Answer.{mostOutput, written};
+ghost use Rattle.writer.specs.Entry.{tablesOf, Serialized};
+ghost use Rattle.writer.specs.Heads.{kidsFrom, Localed, wholeOf, rowOf, pairsOf, partsOf, Fronts, Heads, Levels, PartIn, linedPart, Coded, rowOfNode, lineOf};
+
+// What stands in front of a node's children: it is refused, or whole already; or its children, a dict's pairs, or a code's parts come next.
+pub enum Opened {
+    Refused(u32, u32),
+    Done(u32),
+    Row(u32),
+    Pairs(u32),
+    Parts(u32),
+}
+
+// A code string.
+fn write_string(
+    s: &[u8],
+    nodes: &[u32],
+    entries: &[u32],
+    out: &mut [u8],
+    used: tables::Used,
+    allowance: u32,
+    node: u32,
+    at: u32,
+) -> puts::Wrote
+    requires { ⌜ Open at (now out) × (stringAt (now s) (now nodes) (used .nodes) node ≡ true) ⌝ }
+    ensures { λ r. ⌜ Puts (stringPart (lent (now (s .entry)) (now (nodes .entry)) (now (entries .entry)) used) allowance node) at (now (out .entry)) r (now (out .exit)) ⌝ }
+{
+    if allowance == 0 {
+        return puts::Wrote::Refused(refusals::TOO_DEEP, node);
+    }
+    let n = tables::node_at(nodes, node);
+    puts::write_marshal_str(out, at, s, n.place, n.size)
+}
+
+// The names of a chain, one after another.
+fn write_names(
+    s: &[u8],
+    nodes: &[u32],
+    entries: &[u32],
+    out: &mut [u8],
+    used: tables::Used,
+    allowance: u32,
+    first: u32,
+    count: u32,
+    at: u32,
+) -> puts::Wrote
+    requires { ⌜ Open at (now out) × (isSome (Record.chain (lent (now s) (now nodes) (now entries) used) count first) ≡ true) × (Record.badString (lent (now s) (now nodes) (now entries) used) (kidsFrom (lent (now s) (now nodes) (now entries) used) count first) ≡ none) ⌝ }
+    ensures { λ r. ⌜ Puts (each (stringPart (lent (now (s .entry)) (now (nodes .entry)) (now (entries .entry)) used) allowance) (kidsFrom (lent (now (s .entry)) (now (nodes .entry)) (now (entries .entry)) used) count first)) at (now (out .entry)) r (now (out .exit)) ⌝ }
+{
+    let mut e = first;
+    let mut i = 0u32;
+    let mut p = at;
+    while i < count {
+        let name = tables::child(entries, e);
+        match write_string(s, nodes, entries, out, used, allowance, name, p) {
+            puts::Wrote::Refused(number, place) => {
+                return puts::Wrote::Refused(number, place);
+            }
+            puts::Wrote::Done(a) => {
+                p = a;
+            }
+        }
+        e = tables::next(entries, e);
+        i += 1;
+    }
+    puts::Wrote::Done(p)
+}
+
+// A tuple of names.
+fn write_marshal_name_tuple(
+    s: &[u8],
+    nodes: &[u32],
+    entries: &[u32],
+    out: &mut [u8],
+    used: tables::Used,
+    allowance: u32,
+    node: u32,
+    at: u32,
+) -> puts::Wrote
+    requires { ⌜ Open at (now out) × (Record.suited (lent (now s) (now nodes) (now entries) used) asNames node (Record.whole (lent (now s) (now nodes) (now entries) used) node) ≡ none) ⌝ }
+    ensures { λ r. ⌜ Puts (namesPart (lent (now (s .entry)) (now (nodes .entry)) (now (entries .entry)) used) allowance node (kidsOf (lent (now (s .entry)) (now (nodes .entry)) (now (entries .entry)) used) node)) at (now (out .entry)) r (now (out .exit)) ⌝ }
+{
+    if allowance == 0 {
+        return puts::Wrote::Refused(refusals::TOO_DEEP, node);
+    }
+    let n = tables::node_at(nodes, node);
+    match puts::write_len(out, at, 0x28, n.count) {
+        puts::Wrote::Refused(number, place) => puts::Wrote::Refused(number, place),
+        puts::Wrote::Done(a) => write_names(
+            s,
+            nodes,
+            entries,
+            out,
+            used,
+            allowance - 1,
+            n.first,
+            n.count,
+            a,
+        ),
+    }
+}
+
+// A name, if it stands in the group of a bit.
+fn write_member(
+    s: &[u8],
+    nodes: &[u32],
+    entries: &[u32],
+    out: &mut [u8],
+    used: tables::Used,
+    allowance: u32,
+    locals: tables::Locals,
+    bit: u32,
+    kind: u8,
+    node: u32,
+    at: u32,
+) -> puts::Wrote
+    requires { ⌜ Open at (now out) × Listed (lent (now s) (now nodes) (now entries) used) locals × (stringAt (now s) (now nodes) (used .nodes) node ≡ true) × (0 < bit) ⌝ }
+    ensures { λ r. ⌜ Puts (cond (inGroup (lent (now (s .entry)) (now (nodes .entry)) (now (entries .entry)) used) (localsIn (lent (now (s .entry)) (now (nodes .entry)) (now (entries .entry)) used) locals) bit kind node) (stringPart (lent (now (s .entry)) (now (nodes .entry)) (now (entries .entry)) used) allowance node) ended) at (now (out .entry)) r (now (out .exit)) ⌝ }
+{
+    if !tables::belongs(s, nodes, entries, used, locals, bit, kind, node) {
+        return puts::Wrote::Done(at);
+    }
+    write_string(s, nodes, entries, out, used, allowance, node, at)
+}
+
+// The names in the group of a bit.
+fn write_group(
+    s: &[u8],
+    nodes: &[u32],
+    entries: &[u32],
+    out: &mut [u8],
+    used: tables::Used,
+    allowance: u32,
+    locals: tables::Locals,
+    bit: u32,
+    at: u32,
+) -> puts::Wrote
+    requires { ⌜ Open at (now out) × Listed (lent (now s) (now nodes) (now entries) used) locals × (0 < bit) ⌝ }
+    ensures { λ r. ⌜ Puts (each (stringPart (lent (now (s .entry)) (now (nodes .entry)) (now (entries .entry)) used) allowance) (groupIn (lent (now (s .entry)) (now (nodes .entry)) (now (entries .entry)) used) locals bit)) at (now (out .entry)) r (now (out .exit)) ⌝ }
+{
+    let kinds = locals.kinds as usize;
+    let count = locals.count;
+    let mut e = locals.first;
+    let mut i = 0u32;
+    let mut p = at;
+    while i < count {
+        let kind = s[kinds + i as usize];
+        let name = tables::child(entries, e);
+        match write_member(
+            s,
+            nodes,
+            entries,
+            out,
+            used,
+            allowance,
+            locals,
+            bit,
+            kind,
+            name,
+            p,
+        ) {
+            puts::Wrote::Refused(number, place) => {
+                return puts::Wrote::Refused(number, place);
+            }
+            puts::Wrote::Done(a) => {
+                p = a;
+            }
+        }
+        e = tables::next(entries, e);
+        i += 1;
+    }
+    puts::Wrote::Done(p)
+}
+
+// The three groups of local names: Local, Cell whose name equals no Local name, Free.
+fn write_groups(
+    s: &[u8],
+    nodes: &[u32],
+    entries: &[u32],
+    out: &mut [u8],
+    used: tables::Used,
+    allowance: u32,
+    locals: tables::Locals,
+    at: u32,
+) -> puts::Wrote
+    requires { ⌜ Open at (now out) × Listed (lent (now s) (now nodes) (now entries) used) locals ⌝ }
+    ensures { λ r. ⌜ Puts (each (stringPart (lent (now (s .entry)) (now (nodes .entry)) (now (entries .entry)) used) allowance) (inGroups (lent (now (s .entry)) (now (nodes .entry)) (now (entries .entry)) used) (kindsIn (lent (now (s .entry)) (now (nodes .entry)) (now (entries .entry)) used) locals) (namesIn (lent (now (s .entry)) (now (nodes .entry)) (now (entries .entry)) used) locals))) at (now (out .entry)) r (now (out .exit)) ⌝ }
+{
+    match write_group(
+        s,
+        nodes,
+        entries,
+        out,
+        used,
+        allowance,
+        locals,
+        tables::LOCAL,
+        at,
+    ) {
+        puts::Wrote::Refused(number, place) => puts::Wrote::Refused(number, place),
+        puts::Wrote::Done(a) => match write_group(
+            s,
+            nodes,
+            entries,
+            out,
+            used,
+            allowance,
+            locals,
+            tables::CELL,
+            a,
+        ) {
+            puts::Wrote::Refused(number, place) => puts::Wrote::Refused(number, place),
+            puts::Wrote::Done(b) => write_group(
+                s,
+                nodes,
+                entries,
+                out,
+                used,
+                allowance,
+                locals,
+                tables::FREE,
+                b,
+            ),
+        },
+    }
+}
+
+// The tuple of local names, in their groups; the kinds stand in another part.
+fn write_locals(
+    s: &[u8],
+    nodes: &[u32],
+    entries: &[u32],
+    out: &mut [u8],
+    used: tables::Used,
+    allowance: u32,
+    kinds: u32,
+    node: u32,
+    at: u32,
+) -> puts::Wrote
+    requires { ⌜ Open at (now out) × Localed (lent (now s) (now nodes) (now entries) used) kinds node × (length (now s) ≤ mostBytes) ⌝ }
+    ensures { λ r. ⌜ Puts (namesPart (lent (now (s .entry)) (now (nodes .entry)) (now (entries .entry)) used) allowance node (inGroups (lent (now (s .entry)) (now (nodes .entry)) (now (entries .entry)) used) (contentsOf (lent (now (s .entry)) (now (nodes .entry)) (now (entries .entry)) used) kinds) (kidsOf (lent (now (s .entry)) (now (nodes .entry)) (now (entries .entry)) used) node))) at (now (out .entry)) r (now (out .exit)) ⌝ }
+{
+    if allowance == 0 {
+        return puts::Wrote::Refused(refusals::TOO_DEEP, node);
+    }
+    let n = tables::node_at(nodes, node);
+    let k = tables::node_at(nodes, kinds);
+    let locals = tables::Locals {
+        first: n.first,
+        count: n.count,
+        kinds: k.place,
+    };
+    let local = tables::count_group(s, nodes, entries, used, locals, tables::LOCAL);
+    let cell = tables::count_group(s, nodes, entries, used, locals, tables::CELL);
+    let free = tables::count_group(s, nodes, entries, used, locals, tables::FREE);
+    match puts::write_len(out, at, 0x28, local + cell + free) {
+        puts::Wrote::Refused(number, place) => puts::Wrote::Refused(number, place),
+        puts::Wrote::Done(a) => write_groups(
+            s,
+            nodes,
+            entries,
+            out,
+            used,
+            allowance - 1,
+            locals,
+            a,
+        ),
+    }
+}
+
+fn whole(wrote: puts::Wrote) -> Opened
+    ensures { λ r. ⌜ r ≡ wholeOf wrote ⌝ }
+{
+    match wrote {
+        puts::Wrote::Done(a) => Opened::Done(a),
+        puts::Wrote::Refused(number, place) => Opened::Refused(number, place),
+    }
+}
+
+fn with_row(wrote: puts::Wrote) -> Opened
+    ensures { λ r. ⌜ r ≡ rowOf wrote ⌝ }
+{
+    match wrote {
+        puts::Wrote::Done(a) => Opened::Row(a),
+        puts::Wrote::Refused(number, place) => Opened::Refused(number, place),
+    }
+}
+
+fn with_pairs(wrote: puts::Wrote) -> Opened
+    ensures { λ r. ⌜ r ≡ pairsOf wrote ⌝ }
+{
+    match wrote {
+        puts::Wrote::Done(a) => Opened::Pairs(a),
+        puts::Wrote::Refused(number, place) => Opened::Refused(number, place),
+    }
+}
+
+fn with_parts(wrote: puts::Wrote) -> Opened
+    ensures { λ r. ⌜ r ≡ partsOf wrote ⌝ }
+{
+    match wrote {
+        puts::Wrote::Done(a) => Opened::Parts(a),
+        puts::Wrote::Refused(number, place) => Opened::Refused(number, place),
+    }
+}
+
+// Eight bytes: a float, or a whole number.
+fn write_eight(s: &[u8], out: &mut [u8], letter: u32, place: u32, at: u32) -> puts::Wrote
+    requires { ⌜ Open at (now out) × (place + 8 ≤ length (now s)) ⌝ }
+    ensures { λ r. ⌜ Puts (emit (cond (eqb letter 0x67) (0x67 ∷ bytes64 (le64 (now (s .entry)) place)) (integerBytes (ofBits 9223372036854775808 (le64 (now (s .entry)) place)))) ended) at (now (out .entry)) r (now (out .exit)) ⌝ }
+{
+    if letter == 0x67 {
+        return puts::write_slice(out, at, 0x67, s, place, 8);
+    }
+    puts::write_int64(out, at, s, place)
+}
+
+// A node's own bytes, in front of its children.
+fn write_front(s: &[u8], out: &mut [u8], n: records::Node, class: u32, at: u32) -> Opened
+    requires { ⌜ Open at (now out) × (length (now s) ≤ mostBytes) × (Record.sound (now s) (nodeOf n) ≡ true) × (classAt class ≡ classOf (n .letter)) ⌝ }
+    ensures { λ r. ⌜ Fronts (now (s .entry)) (nodeOf n) (classOf (n .letter)) at (now (out .entry)) r (now (out .exit)) ⌝ }
+{
+    match class {
+        fields::SINGLE => whole(puts::write_u8(out, at, n.letter as u8)),
+        fields::FIXED4 => whole(puts::write_slice(out, at, 0x69, s, n.place, 4)),
+        fields::FIXED8 => whole(write_eight(s, out, n.letter, n.place, at)),
+        fields::DOUBLE => whole(puts::write_slice(out, at, 0x79, s, n.place, 16)),
+        fields::LONG => whole(puts::write_pylong(out, at, s, n.place, n.size)),
+        fields::SEQUENCE => with_row(puts::write_len(out, at, n.letter as u8, n.count)),
+        fields::FEW => with_row(puts::write_len(out, at, 0x28, n.count)),
+        fields::SLICE => with_row(puts::write_u8(out, at, 0x3A)),
+        fields::DICT => with_pairs(puts::write_u8(out, at, 0x7B)),
+        fields::BYTES => whole(puts::write_vec(out, at, 0x73, s, n.place, n.size)),
+        fields::TEXT => whole(puts::write_vec(out, at, 0x75, s, n.place, n.size)),
+        fields::SHORT => whole(puts::write_vec(out, at, 0x75, s, n.place, n.size)),
+        _ => with_parts(puts::write_slice(out, at, 0x63, s, n.place, 20)),
+    }
+}
+
+// Whether no level is left for a node, or for the body of a code.
+fn too_deep(nodes: &[u32], used: u32, allowance: u32, node: u32) -> bool
+    ensures { λ r. ⌜ Levels (now (nodes .entry)) used allowance node r ⌝ }
+{
+    if allowance == 0 {
+        return true;
+    }
+    if allowance != 1 {
+        return false;
+    }
+    if records::nodes_in(nodes, used) <= node {
+        return false;
+    }
+    let n = tables::node_at(nodes, node);
+    n.letter == 0x63
+}
+
+// A node up to its children: its levels, its record, and its own bytes.
+fn open_node(
+    s: &[u8],
+    nodes: &[u32],
+    entries: &[u32],
+    out: &mut [u8],
+    used: tables::Used,
+    allowance: u32,
+    node: u32,
+    at: u32,
+) -> Opened
+    requires { ⌜ Open at (now out) × (length (now s) ≤ mostBytes) ⌝ }
+    ensures { λ r. ⌜ Heads (lent (now (s .entry)) (now (nodes .entry)) (now (entries .entry)) used) allowance node at (now (out .entry)) r (now (out .exit)) ⌝ }
+{
+    if too_deep(nodes, used.nodes, allowance, node) {
+        return Opened::Refused(refusals::TOO_DEEP, node);
+    }
+    if !tables::look(s, nodes, entries, used, node) {
+        return Opened::Refused(refusals::BAD_TABLE, node);
+    }
+    let n = tables::node_at(nodes, node);
+    write_front(s, out, n, fields::class_of(n.letter), at)
+}
+
+// A first line of 0 or less is written as 0.
+fn shown(line: u32) -> u32
+    ensures { λ r. ⌜ r ≡ shownLine line ⌝ }
+{
+    if line < 0x8000_0000 {
+        return line;
+    }
+    0
+}
+
+// A value.
+fn write_value(
+    s: &[u8],
+    nodes: &[u32],
+    entries: &[u32],
+    out: &mut [u8],
+    used: tables::Used,
+    allowance: u32,
+    node: u32,
+    at: u32,
+) -> puts::Wrote
+    requires { ⌜ Open at (now out) × (length (now s) ≤ mostBytes) ⌝ }
+    ensures { λ r. ⌜ Puts (writing allowance (lent (now (s .entry)) (now (nodes .entry)) (now (entries .entry)) used) node) at (now (out .entry)) r (now (out .exit)) ⌝ }
+{
+    match open_node(s, nodes, entries, out, used, allowance, node, at) {
+        Opened::Refused(number, place) => puts::Wrote::Refused(number, place),
+        Opened::Done(a) => puts::Wrote::Done(a),
+        Opened::Row(a) => write_children(s, nodes, entries, out, used, allowance - 1, node, a),
+        Opened::Pairs(a) => match write_children(
+            s,
+            nodes,
+            entries,
+            out,
+            used,
+            allowance - 1,
+            node,
+            a,
+        ) {
+            puts::Wrote::Refused(number, place) => puts::Wrote::Refused(number, place),
+            puts::Wrote::Done(b) => puts::write_u8(out, b, 0x30),
+        },
+        Opened::Parts(a) => write_parts(s, nodes, entries, out, used, allowance - 2, node, a),
+    }
+}
+
+// The children of a container, one after another, each with the allowance that is left to them.
+fn write_children(
+    s: &[u8],
+    nodes: &[u32],
+    entries: &[u32],
+    out: &mut [u8],
+    used: tables::Used,
+    allowance: u32,
+    node: u32,
+    at: u32,
+) -> puts::Wrote
+    requires { ⌜ Open at (now out) × (length (now s) ≤ mostBytes) × Held (lent (now s) (now nodes) (now entries) used) node ⌝ }
+    ensures { λ r. ⌜ Puts (each (writing allowance (lent (now (s .entry)) (now (nodes .entry)) (now (entries .entry)) used)) (rowOfNode (lent (now (s .entry)) (now (nodes .entry)) (now (entries .entry)) used) node)) at (now (out .entry)) r (now (out .exit)) ⌝ }
+{
+    let n = tables::node_at(nodes, node);
+    let count = n.count;
+    let mut e = n.first;
+    let mut i = 0u32;
+    let mut p = at;
+    while i < count {
+        let child = tables::child(entries, e);
+        match write_value(s, nodes, entries, out, used, allowance, child, p) {
+            puts::Wrote::Refused(number, place) => {
+                return puts::Wrote::Refused(number, place);
+            }
+            puts::Wrote::Done(a) => {
+                p = a;
+            }
+        }
+        e = tables::next(entries, e);
+        i += 1;
+    }
+    puts::Wrote::Done(p)
+}
+
+// A part of a code: as any value is, as names, as local names, or as a code string; the first line comes before the ninth.
+fn write_part(
+    s: &[u8],
+    nodes: &[u32],
+    entries: &[u32],
+    out: &mut [u8],
+    used: tables::Used,
+    allowance: u32,
+    line: u32,
+    kinds: u32,
+    part: u32,
+    node: u32,
+    at: u32,
+) -> puts::Wrote
+    requires { ⌜ Open at (now out) × (length (now s) ≤ mostBytes) × PartIn (lent (now s) (now nodes) (now entries) used) kinds part node ⌝ }
+    ensures { λ r. ⌜ Puts (linedPart (lent (now (s .entry)) (now (nodes .entry)) (now (entries .entry)) used) allowance line (contentsOf (lent (now (s .entry)) (now (nodes .entry)) (now (entries .entry)) used) kinds) part node) at (now (out .entry)) r (now (out .exit)) ⌝ }
+{
+    match part {
+        2 => write_marshal_name_tuple(s, nodes, entries, out, used, allowance, node, at),
+        3 => write_locals(s, nodes, entries, out, used, allowance, kinds, node, at),
+        5 => write_string(s, nodes, entries, out, used, allowance, node, at),
+        6 => write_string(s, nodes, entries, out, used, allowance, node, at),
+        7 => write_string(s, nodes, entries, out, used, allowance, node, at),
+        8 => match puts::write_u32(out, at, shown(line)) {
+            puts::Wrote::Refused(number, place) => puts::Wrote::Refused(number, place),
+            puts::Wrote::Done(a) => write_value(s, nodes, entries, out, used, allowance, node, a),
+        },
+        _ => write_value(s, nodes, entries, out, used, allowance, node, at),
+    }
+}
+
+// The ten parts of a code.
+fn write_parts(
+    s: &[u8],
+    nodes: &[u32],
+    entries: &[u32],
+    out: &mut [u8],
+    used: tables::Used,
+    allowance: u32,
+    node: u32,
+    at: u32,
+) -> puts::Wrote
+    requires { ⌜ Open at (now out) × (length (now s) ≤ mostBytes) × Coded (lent (now s) (now nodes) (now entries) used) node ⌝ }
+    ensures { λ r. ⌜ Puts (parted (lent (now (s .entry)) (now (nodes .entry)) (now (entries .entry)) used) allowance (writing allowance (lent (now (s .entry)) (now (nodes .entry)) (now (entries .entry)) used)) (lineOf (lent (now (s .entry)) (now (nodes .entry)) (now (entries .entry)) used) node) (rowOfNode (lent (now (s .entry)) (now (nodes .entry)) (now (entries .entry)) used) node)) at (now (out .entry)) r (now (out .exit)) ⌝ }
+{
+    let n = tables::node_at(nodes, node);
+    let line = fields::le32(s, n.place as usize + n.size as usize);
+    let kinds = tables::part_at(entries, n.first, 4);
+    let mut e = n.first;
+    let mut part = 0u32;
+    let mut p = at;
+    while part < 10 {
+        let child = tables::child(entries, e);
+        match write_part(
+            s,
+            nodes,
+            entries,
+            out,
+            used,
+            allowance,
+            line,
+            kinds,
+            part,
+            child,
+            p,
+        ) {
+            puts::Wrote::Refused(number, place) => {
+                return puts::Wrote::Refused(number, place);
+            }
+            puts::Wrote::Done(a) => {
+                p = a;
+            }
+        }
+        e = tables::next(entries, e);
+        part += 1;
+    }
+    puts::Wrote::Done(p)
+}
+
+fn lesser(a: u32, b: u32) -> u32
+    ensures { λ r. ⌜ r ≡ min a b ⌝ }
+{
+    if a < b { a } else { b }
+}
+
+// How many bytes of an output count.
+fn counted(room: usize) -> usize
+    ensures { λ r. ⌜ (r ≡ min room mostOutput) × (r ≤ room) × (r ≤ mostOutput) ⌝ }
+{
+    if room < refusals::NOTHING as usize {
+        return room;
+    }
+    refusals::NOTHING as usize
+}
+
+// Writes the value of node `root` into `out`, for any input, stores, counts, nesting and output.
+// After the value come zeros; on a refusal `out` is all zero.
+pub fn serialize_value(
+    input: &[u8],
+    nodes: &[u32],
+    entries: &[u32],
+    used_nodes: u32,
+    used_entries: u32,
+    root: u32,
+    nesting: u32,
+    out: &mut [u8],
+) -> puts::Wrote
+    ensures { λ r. ⌜ Serialized (written (tablesOf (now (input .entry)) (now (nodes .entry)) (now (entries .entry)) «used_nodes» «used_entries») root nesting (length (now (out .entry)))) (length (now (out .entry))) r (now (out .exit)) ⌝ }
+{
+    lent::clear_bytes(out);
+    if (refusals::MOST_BYTES as usize) < input.len() {
+        return puts::Wrote::Refused(refusals::INPUT_TOO_LONG, 0);
+    }
+    let used = tables::Used {
+        nodes: used_nodes,
+        entries: used_entries,
+    };
+    let allowance = lesser(nesting, refusals::MOST_NESTING);
+    let room = counted(out.len());
+    match write_value(
+        input,
+        nodes,
+        entries,
+        &mut out[..room],
+        used,
+        allowance,
+        root,
+        0,
+    ) {
+        puts::Wrote::Done(a) => puts::Wrote::Done(a),
+        puts::Wrote::Refused(number, place) => {
+            lent::clear_bytes(out);
+            puts::Wrote::Refused(number, place)
+        }
+    }
+}
