@@ -1,3 +1,4 @@
 pub mod Numbers
 pub mod Digits
 pub mod Into
+pub mod Alike
