@@ -2,7 +2,7 @@
 use mathlib.Core.Path.{_≡_, refl, sym, ap, subst, _∙_}
 use Prim.Native.Nat.{ℕ, zero, suc, _+_, _≤_, _<_}
 use native.Mathlib.Omega.{arith}
-use mathlib.Core.Bool.{Bool, true, false, cond, _&&_}
+use mathlib.Core.Bool.{Bool, true, false, _&&_}
 use mathlib.Core.Option.{Option, none, some}
 use mathlib.Core.List.{List, [], _∷_}
 use lib.ListN.{length, getD}
@@ -13,7 +13,7 @@ use Rattle.grammar.specs.Fields.{codeNumbers, sumAt}
 use Rattle.grammar.specs.State.{Node, entryAt}
 use Rattle.grammar.specs.Steps.{Rule, whatever, asBytes, asTuple, asNames, asString, rules, codeParts}
 use Rattle.grammar.specs.Record.{ruled, sound, nodesIn, entriesIn, soundAt, Tables, put, chain, whole, nodeOf, unless, suited, orElse, badPart, badEnd, holds, faulty, judged, lookedAs, lookedOf, look}
-use Rattle.grammar.proofs.Tests.{never, none-some, same-some, both-true, cond-some}
+use Rattle.grammar.proofs.Tests.{none-some, same-some, both-true, cond-some}
 
 -- A record.
 

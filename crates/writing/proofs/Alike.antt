@@ -3,7 +3,7 @@
 use mathlib.Core.Path.{_≡_, refl, sym, ap, ap₂, _∙_}
 use Prim.Native.Nat.{ℕ, zero, suc, _+_, _*_, _≤_, _<_}
 use native.Mathlib.Omega.{arith}
-use mathlib.Core.Bool.{Bool, true, false, cond, not, _&&_}
+use mathlib.Core.Bool.{Bool, true, false, cond}
 use mathlib.Core.List.{List, [], _∷_}
 use lib.ListN.{length, getD}
 use lib.Seq.{slice}
@@ -15,10 +15,10 @@ use Rattle.grammar.specs.Letters.{Form, Class, refers, keeps, contains, codes, 
 use Rattle.grammar.specs.Fields.{Fields, le16, le32, le64, contents, notNegative, digitCount, digits, lastDigit, pylong, codeNumbers, sumAt, fields}
 use Rattle.grammar.specs.Leaf.{magnitude}
 use Rattle.grammar.specs.State.{Node}
-use Rattle.grammar.specs.Record.{readsAs, containing, ruled, sound}
-use Rattle.grammar.proofs.Tests.{never, both-true, each-way, both-agree}
+use Rattle.grammar.specs.Record.{readsAs, ruled, sound}
+use Rattle.grammar.proofs.Tests.{never, both-true, each-way}
 use Rattle.grammar.proofs.Lettered.{class-passes}
-use Rattle.writing.specs.Shape.{Shape, classed, formed}
+use Rattle.writing.specs.Shape.{classed, formed}
 use Rattle.writing.specs.Unread.{SameFrom, SameBytes}
 
 -- a record whose chain begins at another entry
@@ -172,7 +172,7 @@ reads-on s s′ long first form n h e =
     ∙ sym (reads-linked first (fields s form (n .place)) n) ∙ e
 
 module _ (s s′ : List ℕ) (long : length s ≡ length s′) (first : ℕ) (n : Node) where
-  numbers-sum : SameFrom s s′ (n .place) codeNumbers → sumAt s (n .place) ≡ sumAt s′ (n .place)
+  pub numbers-sum : SameFrom s s′ (n .place) codeNumbers → sumAt s (n .place) ≡ sumAt s′ (n .place)
   numbers-sum h =
       let word : (i : ℕ) → i ≤ 16 → le32 s (n .place + i) ≡ le32 s′ (n .place + i) = λ i l. same-le32 s s′ long (n .place) codeNumbers h (n .place + i) (omega arith) (omega arith) in
       rw (same-le32 s s′ long (n .place) codeNumbers h (n .place) (omega arith) (omega arith), word 8 (omega arith), word 16 (omega arith)) refl
