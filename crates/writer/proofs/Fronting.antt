@@ -1,40 +1,37 @@
 -- A node's own bytes, letter by letter: what a sound record says of the input, and what each class is written as. Assumes nothing.
-use mathlib.Core.Path.{_≡_, refl, sym, ap, subst, _∙_}
+use mathlib.Core.Path.{_≡_, refl, sym, ap, _∙_}
 use Prim.Native.Nat.{ℕ, zero, suc, _+_, _-_, _*_, _≤_, _<_}
 use native.Mathlib.Omega.{arith}
-use mathlib.Core.Bool.{Bool, true, false, cond, not, _&&_}
-use mathlib.Core.List.{List, [], _∷_, _++_}
-use lib.ListN.{length, getD, take, drop}
+use mathlib.Core.Bool.{Bool, true, false, cond, _&&_}
+use mathlib.Core.List.{List, [], _∷_}
+use lib.ListN.{length, getD}
 use lib.Dec.{leb, ltb, eqb}
-use borrow.Author.Tests.{lt-ltb, le-ltb, eq-eqb, ne-eqb, ltb-true, ltb-false, leb-true, eqb-true, eqb-false}
+use borrow.Author.Tests.{eq-eqb, ltb-true, ltb-false, leb-true, eqb-true}
 use Rattle.refusals.specs.Numbers.{unknownType, dataTooShort, invalidBytecode}
 use Rattle.grammar.specs.Reading.{Answer, gives, stops}
 use Rattle.grammar.specs.Letters as letter
-use Rattle.grammar.specs.Letters.{Class, refers, keeps, contains, codes, refuses, classOf, found, letters}
-use Rattle.grammar.specs.Fields.{Fields, items, span, field, fields, pylong, digits, lastDigit, digitCount, le16, le32, le64, contents, codeNumbers, sumAt}
+use Rattle.grammar.specs.Letters.{Class, keeps, contains, codes, refuses, classOf, found, letters}
+use Rattle.grammar.specs.Fields.{Fields, items, span, fields, pylong, digits, lastDigit, digitCount, le16, le32, le64, contents, codeNumbers, sumAt}
 use Rattle.grammar.specs.State.{Node}
 use Rattle.grammar.specs.Record.{sound, ruled, readsAs, counted}
+use Rattle.grammar.proofs.Tests.{never}
 use Rattle.fields.specs.Classes.{classes, classAt}
-use Rattle.records.proofs.Soundness.{fixed-held, double-held}
-use Rattle.writing.specs.Writing.{Writing, ended, refused, emit, then, each, into}
-use Rattle.writing.specs.Canonical.{bytes32, bytes64, words, sized, integerBytes, ofBits}
+use Rattle.writing.specs.Writing.{Writing, ended, emit, then, each}
+use Rattle.writing.specs.Canonical.{bytes32, bytes64, sized, integerBytes, ofBits}
 use Rattle.writing.specs.Shape as shape
-use Rattle.writing.specs.Shape.{numbersAt, longAt, classed}
+use Rattle.writing.specs.Shape.{longAt, classed}
 use Rattle.writing.specs.Steps.{shaped}
 use Rattle.writing.proofs.Numbers.{word-bytes, word-below, long-bytes, two-bytes, numbers-bytes, small-positive, small-negative, not-negative, is-negative}
 use Rattle.puts.specs.declared.Wrote.{Wrote}
 use Rattle.puts.specs.declared.Wrote.the-variants as wrote
-use Rattle.puts.specs.Puts.{Open, Agrees, Puts}
+use Rattle.puts.specs.Puts.{Puts}
 use Rattle.tables.proofs.Round.{both-left, both-right}
 use Rattle.writer.specs.declared.Opened.{Opened}
 use Rattle.writer.specs.declared.Opened.the-variants as opened
 use Rattle.writer.specs.Onward.{Onward}
 use Rattle.writer.specs.Heads.{closed, wholeOf, rowOf, pairsOf, partsOf, FrontAs, Fronts}
-use Rattle.writer.proofs.Under.{start, left-as, done, refused-in, written-in, last}
+use Rattle.writer.proofs.Under.{start, left-as, refused-in, written-in}
 use Rattle.writer.proofs.Naming.{puts-equal}
-
-never : {X : Type 0} → _≡_ {A = Bool} false true → X
-never e = let apart : _≡_ {A = ℕ} 0 1 = cc in absurd (omega arith)
 
 -- How a front is answered: the node is whole with its own bytes; or its row, or its parts, come next.
 module _ {s : List ℕ} {n : Node} {class : Class} {at : ℕ} {o o′ : List ℕ} {r : Wrote} where
