@@ -57,7 +57,7 @@ loop-again : tie.Need-loop-again Inv-loop μ-loop
 loop-again c =
     let a = c .before .before .before .before .before .before .before .before .before .before .before .before .before .before .before .args in
     let t = lent (a .s .now) (a .nodes .now) (a .entries .now) (a .used) in
-    row-more (row-turn (c .before .before .before .before .before .before .before .before .before .before .loop .inv) (c .before .before .before .before .before .before .before .before .before .loop-test .taken) (c .before .before .before .before .before .before .before .before .child .ensures)) (texts-later t (c .before .before .before .before .before .before .before .before .child .result)) (c .before .before .before .before .before .before .before .before .before .loop-test .taken) (c .next .ensures)
+    row-more {w₀ = each (stringPart t (a .allowance)) (kidsFrom t (a .count) (a .first))} (row-turn (c .before .before .before .before .before .before .before .before .before .before .loop .inv) (c .before .before .before .before .before .before .before .before .before .loop-test .taken) (c .before .before .before .before .before .before .before .before .child .ensures)) (texts-later t (c .before .before .before .before .before .before .before .before .child .result)) (c .before .before .before .before .before .before .before .before .before .loop-test .taken) (c .next .ensures)
     (c .before .before .before .before .before .before .write-string .ensures) (c .before .before .a .given .1)
 
 same-length-2 : tie.Need-same-length-2 Inv-loop μ-loop

@@ -52,9 +52,17 @@ enum-known-a m c = search needs
 write-value-requires : (m : ℕ) → lts.Need-write-value-requires (calls m) (at m) Post
 write-value-requires m c κs =
     let a = c .before .before .before .before .before .before .before .before .before .before .before .before .before .before .args in
-    let t = lent (a .s .now) (a .nodes .now) (a .entries .now) (a .used) in
-    let line = line-first t (a .allowance) (a .line) (contentsOf t (a .kinds)) (a .part) (a .node) (c .before .before .before .before .before .before .before .before .before .match .keys6) (c .before .before .before .before .before .before .before .shown .ensures) (c .before .before .before .before .before .before .before .before .before .before .before .before .before .before .pre .1 .0 .inside) in
-    (omega (arith, c .before .before .before .before .before .before .before .before .before .before .before .before .before .before .pre .0), (opens (written-in line (c .before .before .before .before .before .before .write-u32 .ensures) (c .before .before .a .given .1)) (c .before .before .before .before .before .before .before .before .before .before .before .before .before .before .pre .1 .0 .counts), c .before .before .before .before .before .before .before .before .before .before .before .before .before .before .pre .1 .1))
+    let t = lent (a .s .now) (a .nodes .now) (a .entries .now) (a .used) in (
+      omega (arith, c .before .before .before .before .before .before .before .before .before .before .before .before .before .before .pre .0),
+      (
+        opens
+            (written-in
+            (line-first t (a .allowance) (a .line) (contentsOf t (a .kinds)) (a .part) (a .node) (c .before .before .before .before .before .before .before .before .before .match .keys6) (c .before .before .before .before .before .before .before .shown .ensures) (c .before .before .before .before .before .before .before .before .before .before .before .before .before .before .pre .1 .0 .inside))
+            (c .before .before .before .before .before .before .write-u32 .ensures) (c .before .before .a .given .1))
+            (c .before .before .before .before .before .before .before .before .before .before .before .before .before .before .pre .1 .0 .counts),
+        c .before .before .before .before .before .before .before .before .before .before .before .before .before .before .pre .1 .1,
+      ),
+    )
 
 write-value-requires-2 : (m : ℕ) → lts.Need-write-value-requires-2 (calls m) (at m) Post
 write-value-requires-2 m c κs =
@@ -123,7 +131,7 @@ returns-8 m c =
     let a = c .before .before .before .before .before .before .before .before .before .args in
     let t = lent (a .s .now) (a .nodes .now) (a .entries .now) (a .used) in
     let others = c .before .before .before .before .match .rest in
-    puts-equal (c .before .before .write-value2 .ensures)
+    puts-equal {w = writing (a .allowance) t (a .node)} (c .before .before .write-value2 .ensures)
     (value-part t (a .allowance) (a .line) (contentsOf t (a .kinds)) (a .part) (a .node) (c .before .before .before .before .before .before .before .before .before .pre .1 .2 .below) (others .0 .0 .0 .0 .0 .1) (others .0 .0 .0 .0 .1) (others .0 .0 .0 .1) (others .0 .0 .1)
     (others .0 .1) (others .1))
 
