@@ -19,6 +19,7 @@ use Rattle.grammar.specs.Steps.{fresh, kids, couples, body, enter, value}
 use Rattle.grammar.proofs.Following.{Need, follows-map}
 use Rattle.grammar.proofs.Bounded.{Bytes}
 use Rattle.grammar.proofs.Standing.{Chained, closing}
+use Rattle.grammar.proofs.Lettered.{among-each}
 use Rattle.writing.specs.Canonical.{Integer, bytes16, bytes32, bitsOf, inSigned32, digitsOf, digitBytes, longBytes, integerBytes}
 use Rattle.writing.specs.Shape as shape
 use Rattle.writing.specs.Shape.{classed, longAt}
@@ -29,7 +30,6 @@ use Rattle.meaning.proofs.Means.{Means}
 use Rattle.meaning.proofs.At.{byte-first, length-at, drop-at, half-at, word-at, Digits, digits-below, total, digits-total, lastOf, digits-last, magnitude-at}
 use Rattle.meaning.proofs.Goes.{Goes, Never, Anywhere, WroteKids, Reads, AllRead, kids-go}
 use Rattle.meaning.proofs.Loops.{WroteBody, Whatever, all-children, couples-go, node-goes}
-use Rattle.meaning.proofs.Inversion.{among-each}
 use Rattle.meaning.proofs.Leaves.{kept-front, reads-node, short-reads, leaf-goes}
 
 -- A long.
