@@ -20,7 +20,7 @@ add-if2 : tie.Need-add-if2
 add-if2 c = search needs
 
 record-at-requires-2 : tie.Need-record-at-requires-2
-record-at-requires-2 c κs = search needs
+record-at-requires-2 c κs = c .if2 .taken
 
 returns-2 : tie.Need-returns-2
 returns-2 c = search needs
