@@ -17,3 +17,7 @@ pub mod Tables
 pub mod Writer
 pub mod Locate
 pub mod Sillgarland
+pub mod Numbers
+pub mod Reading
+pub mod Demand2
+pub mod Demand3

@@ -52,6 +52,10 @@ sill-read-agrees κs a asked r r′ ws ws′ p p′ = (
   λ i. (tt, (one (p .holds-nodes) (p′ .holds-nodes) i, (one (p .holds-entries) (p′ .holds-entries) i, (one (p .holds-slots) (p′ .holds-slots) i, (tt, tt))))),
 )
 
+pub sill-write-agrees : Agree sillgarland.values.sill_write.ended sillgarland.values.sill_write.Reads.Asked sillgarland.values.sill_write.Reads.Learnt
+sill-write-agrees κs a asked r r′ ws ws′ p p′ =
+    (one (p .numbers) (p′ .numbers), λ i. (tt, (tt, (tt, (tt, (tt, (tt, (tt, (one (p .holds) (p′ .holds) i, tt)))))))))
+
 pub sill-write-varint-agrees : Agree sillgarland.varints.sill_write_varint.ended sillgarland.varints.sill_write_varint.Reads.Asked sillgarland.varints.sill_write_varint.Reads.Learnt
 sill-write-varint-agrees κs a asked r r′ ws ws′ p p′ = (λ i. one p p′ i .0, λ i. (one p p′ i .1, (tt, tt)))
 

@@ -1,1 +1,5 @@
 pub mod Agreement
+pub mod Calls
+pub mod Demand1
+pub mod Demand2
+pub mod Demand3
