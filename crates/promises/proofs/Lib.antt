@@ -19,5 +19,6 @@ pub mod Locate
 pub mod Sillgarland
 pub mod Numbers
 pub mod Reading
+pub mod Demand1
 pub mod Demand2
 pub mod Demand3
