@@ -13,15 +13,8 @@ use Rattle.puts.specs.declared.Wrote.the-variants as wrote
 use Rattle.puts.specs.Puts.{Puts}
 use Rattle.puts.proofs as puts
 use Rattle.promises.specs.Agreement.{AgreeAs}
+use Rattle.promises.specs.Partly.{whereDone}
 use Rattle.promises.proofs.Same.{one}
-
-abbrev Accepted : Wrote → Type 0
-Accepted (wrote.Done at) = Unit
-Accepted (wrote.Refused number place) = ⊥
-
--- the same answer; and the same contents, where it accepts
-abbrev whereDone : {W : Type 0} → (r r′ : Wrote) → (ws ws′ : W) → Type 0
-whereDone r r′ ws ws′ = (r ≡ r′) × (Accepted r → ws ≡ ws′)
 
 -- an answer gives bytes, or stops with number and place, and not both
 abbrev bytesIn : Answer (List ℕ) → List ℕ

@@ -1,7 +1,7 @@
 -- One answer for each call of the functions of `steps`: by an equation, or in the grammar's words. Two leave a part open: what `attach` leaves in the entries where
 -- there is no room, and which of the numbers of one rule `next_child` gives.
 use mathlib.Core.Path.{_≡_, refl, sym, _∙_, ap}
-use Prim.Native.Nat.{ℕ, _<_}
+use Prim.Native.Nat.{ℕ}
 use mathlib.Core.Bool.{Bool, true, false}
 use mathlib.Core.List.{List}
 use lib.Dec.{ltb}
@@ -21,7 +21,8 @@ use Rattle.steps.specs.declared.Linked.the-variants as linked
 use Rattle.steps.specs.declared.Next.{Next}
 use Rattle.steps.specs.declared.Next.the-variants as next
 use Rattle.steps.proofs as steps
-use Rattle.promises.specs.Agreement.{Compares, Agree, AgreeAs}
+use Rattle.promises.specs.Agreement.{Agree, AgreeAs}
+use Rattle.promises.specs.Partly.{whereRoom, NextAlike, byRule}
 use Rattle.promises.proofs.Same.{one, retold}
 use Rattle.promises.proofs.Fields.{kidsFrom, kids-back}
 
@@ -39,11 +40,7 @@ front-back (opened.Refused number place) = refl
 pub front-agrees : Agree steps.front.ended steps.front.Reads.Asked steps.front.Reads.Learnt
 front-agrees κs a asked r r′ ws ws′ p p′ = (retold frontOf frontFrom front-back (p .exact 0) (p′ .exact 0), refl)
 
--- where there is no room for an entry, nothing is said of the store
-abbrev attached-alike : Compares steps.attach.ended
-attached-alike κs a r r′ ws ws′ = (r ≡ r′) × (a .1 .1 .1 .1 .1 .0 .entries < a .1 .0 → ws ≡ ws′)
-
-pub attach-agrees : AgreeAs steps.attach.ended attached-alike steps.attach.Reads.Asked steps.attach.Reads.Learnt
+pub attach-agrees : AgreeAs steps.attach.ended whereRoom steps.attach.Reads.Asked steps.attach.Reads.Learnt
 attach-agrees κs a asked r r′ ws ws′ p p′ =
     (one (p .answer) (p′ .answer), λ room i. (one (p .entries room) (p′ .entries room) i, (tt, (tt, (tt, (tt, (tt, tt)))))))
 
@@ -59,18 +56,7 @@ suits-agrees κs a asked r r′ ws ws′ p p′ = (one p p′, refl)
 pub node-size-agrees : Agree steps.node_size.ended steps.node_size.Reads.Asked steps.node_size.Reads.Learnt
 node-size-agrees κs a asked r r′ ws ws′ p p′ = (one p p′, refl)
 
--- a rule is compared by what it is, since several numbers stand for the last of the rules
-abbrev NextAlike : Next → Next → Type 0
-NextAlike (next.Child m rule) (next.Child m′ rule′) = (m ≡ m′) × (ruleOf rule ≡ ruleOf rule′)
-NextAlike (next.Child m rule) (next.Done m′) = ⊥
-NextAlike (next.Child m rule) (next.Refused n′ p′) = ⊥
-NextAlike (next.Done m) (next.Child m′ rule′) = ⊥
-NextAlike (next.Done m) (next.Done m′) = m ≡ m′
-NextAlike (next.Done m) (next.Refused n′ p′) = ⊥
-NextAlike (next.Refused n p) (next.Child m′ rule′) = ⊥
-NextAlike (next.Refused n p) (next.Done m′) = ⊥
-NextAlike (next.Refused n p) (next.Refused n′ p′) = (n ≡ n′) × (p ≡ p′)
-
+-- What comes next, by the kind of the children.
 items-alike : (count : ℕ) (l : Line) (r r′ : Next) → ItemNext count l r → ItemNext count l r′ → NextAlike r r′
 items-alike count l (next.Child m rule) (next.Child m′ rule′) h h′ = (one (h .0) (h′ .0), ap ruleOf (one (h .1) (h′ .1)))
 items-alike count l (next.Child m rule) (next.Done m′) h h′ = let a = h .2 in let b = h′ .1 in omega (arith, a, b)
@@ -134,7 +120,7 @@ next-alike s ns (kind.Items count) at l r r′ h h′ = items-alike count l r r�
 next-alike s ns kind.Pairs at l r r′ h h′ = pairs-alike s l r r′ h h′
 next-alike s ns kind.Parts at l r r′ h h′ = parts-alike s ns at l r r′ h h′
 
-pub next-child-agrees : AgreeAs steps.next_child.ended (λ κs a r r′ ws ws′. NextAlike r r′) steps.next_child.Reads.Asked steps.next_child.Reads.Learnt
+pub next-child-agrees : AgreeAs steps.next_child.ended byRule steps.next_child.Reads.Asked steps.next_child.Reads.Learnt
 next-child-agrees κs a asked r r′ ws ws′ p p′ = next-alike _ _ (a .1 .1 .0) _ _ r r′ (p .is) (p′ .is)
 
 pub below-agrees : Agree steps.below.ended steps.below.Reads.Asked steps.below.Reads.Learnt

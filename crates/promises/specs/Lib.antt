@@ -1,4 +1,5 @@
 pub mod Agreement
+pub mod Partly
 pub mod Calls
 pub mod Demand1
 pub mod Demand2
