@@ -1,6 +1,6 @@
 -- DEMAND 1: no export asks anything; each call returns; and it ends in its answer, or in a refusal of 01's table with every store lent for
 -- writing all zero. By cases of the definition that each contract cites, with Numbers. Of `sill_read` it assumes that the input is bytes.
-use mathlib.Core.Path.{_≡_, refl, sym, ap, _∙_}
+use mathlib.Core.Path.{_≡_, refl, ap, _∙_}
 use Prim.Native.Nat.{ℕ, _/_, min}
 use mathlib.Core.Bool.{Bool}
 use mathlib.Core.List.{List}
@@ -8,20 +8,17 @@ use lib.ListN.{length, replicate}
 use mir.Syntax.{w32}
 use mir.Val.{ofZ}
 use base.Logic.{emp, id⊢}
-use contract.Monad.{fact, fact-mono}
+use contract.Monad.{fact-mono}
 use denote.Ref.{now}
-use denote.Triple.Clauses.{Lasts, atExit}
-use Rattle.lent.specs.Lent.{zeros}
 use Rattle.grammar.specs.Reading.{Answer, gives, stops}
 use Rattle.grammar.specs.State.{State}
-use Rattle.grammar.specs.Answer.{Counts, Outcome, outcomeOf, reading, readOf}
+use Rattle.grammar.specs.Answer.{outcomeOf, reading, readOf}
 use Rattle.grammar.specs.Leaf.{Leaf, leafOf}
 use Rattle.grammar.proofs.Bounded.{Bytes}
 use Rattle.leaf.specs.Answers.{toldOf, answeredOf}
 use Rattle.leaf.specs.declared.Answered.the-variants as leaf
 use Rattle.lineentry.specs.declared.Location.{Location}
 use Rattle.linetable.specs.Walk as table
-use Rattle.linetable.specs.declared.Located.the-variants as lines
 use Rattle.linetable.specs.Answer.{located, firstLine, answer, recordsOf, locationsOf, blank}
 use Rattle.locate.specs.Part.{locatedAt}
 use Rattle.localsplus.specs.declared.Split.{Split}
@@ -35,21 +32,19 @@ use Rattle.varint.specs.declared.Written.the-variants as varint
 use Rattle.varint.specs.Writing.{littleEndian, bigEndian, bigEndianWithStart}
 use Rattle.varint.specs.Answers.{stored, storedSigned}
 use Rattle.puts.specs.declared.Wrote.the-variants as wrote
-use Rattle.writer.specs.Entry.{wroteOf}
-use Rattle.writing.specs.Answer.{written, outputHeld}
 use Rattle.sillgarland.specs.Leaves.{leafStruct}
-use Rattle.sillgarland.specs.Locals.{splitStruct, SplitAs}
+use Rattle.sillgarland.specs.Locals.{splitStruct}
 use Rattle.sillgarland.specs.Locations.{locatedStruct}
 use Rattle.sillgarland.specs.Values.{readStruct, ReadAs, wroteStruct, WroteAs}
-use Rattle.sillgarland.specs.Varints.{writtenStruct, writtenAs}
+use Rattle.sillgarland.specs.Varints.{writtenAs}
 use Rattle.sillgarland.specs.declared.leaves.SillLeaf.{SillLeaf}
 use Rattle.sillgarland.specs.declared.locals.SillSplit.{SillSplit}
 use Rattle.sillgarland.specs.declared.locations.SillLocated.{SillLocated}
 use Rattle.sillgarland.specs.declared.values.SillRead.{SillRead}
 use Rattle.sillgarland.specs.declared.varints.SillWritten.{SillWritten}
 use Rattle.sillgarland.proofs as sillgarland
-use Rattle.promises.specs.Calls.{Call, sillWrite}
-use Rattle.promises.specs.Demand1.{InTable, Ends, answers, refuses, Zero, LocateEnds, VarintEnds, Demand1}
+use Rattle.promises.specs.Calls.{sillWrite}
+use Rattle.promises.specs.Demand1.{Ends, answers, refuses, Zero, LocateEnds, VarintEnds, Demand1}
 use Rattle.promises.proofs.Reading.{writtenBy}
 use Rattle.promises.proofs.Numbers.{Tabled, reading-in-table, leaf-in-table, TabledLines, located-in-table, located-at-in-table, TabledSplit, split-in-table, TabledStore, stored-in-table, signed-in-table, written-in-table}
 

@@ -1,20 +1,16 @@
 -- DEMAND 2: what either reader reads means a value, either writer writes it back as its canonical bytes, and these read as the same value.
 -- From meaning's RoundTrip. Assumes nothing but bytes for input.
-use mathlib.Core.Path.{_≡_, refl, sym, ap, subst, _∙_}
-use Prim.Native.Nat.{ℕ, _≤_, _-_, min}
-use native.Mathlib.Omega.{arith}
-use mathlib.Core.Option.{some}
-use mathlib.Core.List.{List, _++_}
+use mathlib.Core.Path.{_≡_, sym, ap, subst, _∙_}
+use Prim.Native.Nat.{_≤_, _-_, min}
 use lib.ListN.{length, take}
 use lib.Seq.{take-append-seam}
 use Rattle.refusals.specs.Limits.{mostBytes, mostNesting}
 use Rattle.lent.specs.Lent.{zeros, padded}
 use Rattle.grammar.specs.Reading.{gives}
-use Rattle.grammar.specs.Answer.{Counts, Outcome, readOf}
+use Rattle.grammar.specs.Answer.{Counts}
 use Rattle.writing.specs.Answer.{written, outputHeld}
 use Rattle.meaning.specs.Value.{Value}
 use Rattle.meaning.specs.Canonical.{canonical}
-use Rattle.meaning.specs.Extent.{depthOf, nodesOf, entriesOf}
 use Rattle.meaning.specs.Order.{InOrder}
 use Rattle.meaning.specs.Meaning.{valueOf, tablesAfter}
 use Rattle.meaning.specs.Round.{IsRead, countsFor}
@@ -23,7 +19,7 @@ use Rattle.meaning.proofs.TheoremA.{answer-gives}
 use Rattle.meaning.proofs.AnyStores.{found-in-order-is-written}
 use Rattle.meaning.proofs.RoundTrip.{RoundTrip, round-trip, reads-whole}
 use Rattle.promises.specs.Calls.{Reader, Writer, deserializeValue, sillRead, serializeValue, sillWrite}
-use Rattle.promises.specs.Demand2.{ReadAs, Hands, WriteFits, ReadFits, WrittenBack, Demand2}
+use Rattle.promises.specs.Demand2.{ReadAs, Hands, WriteFits, WrittenBack, Demand2}
 use Rattle.promises.proofs.Reading.{Exactly, Exact, writtenBy, lengthIn, deserialize-exactly, sill-read-exactly, serialize-exact, sill-write-exact}
 
 module _ (R : Reader) (exactly : Exactly R) where

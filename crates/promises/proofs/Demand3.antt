@@ -1,11 +1,6 @@
 -- DEMAND 3: both readers give the plain reading's answer where all four counts fit, and the first room refusal otherwise; more room changes no
 -- other answer, and bytes at the end only refusals 1 and 2. From grammar's Exactness and Appended. Assumes nothing but bytes for input.
 use mathlib.Core.Path.{_≡_, sym, ap, _∙_}
-use Prim.Native.Nat.{ℕ, _≤_}
-use mathlib.Core.List.{List, _++_}
-use lib.ListN.{length}
-use Rattle.refusals.specs.Limits.{mostBytes}
-use Rattle.grammar.specs.Reading.{stops}
 use Rattle.grammar.specs.Answer.{outcomeOf, reading, answered, readOf}
 use Rattle.grammar.proofs.Exactness.{exact-where-it-fits, first-over-refuses, fits-or-over, more-room-same-answer}
 use Rattle.grammar.proofs.Appended.{appended-same-outcome}

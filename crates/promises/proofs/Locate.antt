@@ -1,5 +1,4 @@
 -- One answer for each call of the functions of `locate`: answer and records, by an equation each.
-use mathlib.Core.Path.{refl}
 use Rattle.locate.proofs as locate
 use Rattle.promises.specs.Agreement.{Agree}
 use Rattle.promises.proofs.Same.{one}

@@ -1,22 +1,22 @@
 -- Every refusal that a definition gives has a number of 01's table, so that no refusal can be taken for an answer. Of the reading by what
 -- grammar proves of its refusals, of the others by going through their definitions. Of the reading it assumes that the input is bytes.
 use mathlib.Core.Path.{_≡_, refl, sym, ap, _∙_}
-use Prim.Native.Nat.{ℕ, zero, suc, _<_, _≤_, _-_, _+_, _^_, min}
+use Prim.Native.Nat.{ℕ, zero, suc, _≤_, _-_, _+_, _^_, min}
 use native.Mathlib.Omega.{arith}
 use mathlib.Core.Bool.{Bool, true, false, cond, not, _&&_}
 use mathlib.Core.List.{List, [], _∷_, _++_}
 use lib.ListN.{length, getD, take, drop, replicate}
 use lib.Dec.{leb, ltb, eqb}
-use borrow.Author.Tests.{eqb-true, ltb-true, ltb-false}
-use Rattle.refusals.specs.Numbers.{inputTooLong, noRoom, tooDeep, badTable, numberRange}
+use borrow.Author.Tests.{eqb-true, leb-true, ltb-true, ltb-false}
+use Rattle.refusals.specs.Numbers.{accepted, tooDeep, numberRange}
 use Rattle.refusals.specs.Limits.{mostBytes, mostNesting}
-use Rattle.lent.specs.Lent.{zeros, padded}
+use Rattle.lent.specs.Lent.{zeros}
 use Rattle.grammar.specs.Reading.{Kind, level, node, entry, slot, Answer, gives, stops}
 use Rattle.grammar.specs.Letters.{among}
-use Rattle.grammar.specs.Room.{Rooms, run, numberOf}
+use Rattle.grammar.specs.Room.{Rooms, numberOf}
 use Rattle.grammar.specs.Steps.{kindsPart, linePart}
 use Rattle.grammar.specs.Answer.{plain, roomsOf, reading}
-use Rattle.grammar.specs.Leaf.{Leaf, leafOf, leafAs}
+use Rattle.grammar.specs.Leaf.{leafOf}
 use Rattle.grammar.specs.Record.{Tables, Looked, holds, faulty, look, soundAt}
 use Rattle.grammar.proofs.Bounded.{Bytes, refused-in}
 use Rattle.grammar.proofs.Exactness.{claimsOf, too-long, within-room}
@@ -59,16 +59,26 @@ if-tabled true x y h k = h
 if-tabled false x y h k = k
 
 -- The reading.
-abbrev AllInTable : (ns : List ℕ) → Type 0
-AllInTable [] = Unit
-AllInTable (n ∷ ns) = InTable n × AllInTable ns
+abbrev inTable : List ℕ → Bool
+inTable [] = true
+inTable (n ∷ ns) = (ltb accepted n && leb n numberRange) && inTable ns
 
-among-in-table : (n : ℕ) (ns : List ℕ) → AllInTable ns → among n ns ≡ true → InTable n
+both : (a b : Bool) → a && b ≡ true → (a ≡ true) × (b ≡ true)
+both true true e = (refl, refl)
+both true false e = let z : _≡_ {A = ℕ} 0 1 = cc in absurd (omega arith)
+both false b e = let z : _≡_ {A = ℕ} 0 1 = cc in absurd (omega arith)
+
+among-in-table : (n : ℕ) (ns : List ℕ) → inTable ns ≡ true → among n ns ≡ true → InTable n
 among-in-table n [] h e = let z : _≡_ {A = ℕ} 0 1 = cc in absurd (omega arith)
-among-in-table n (m ∷ ms) h e = go (eqb n m) refl e (λ k. among-in-table n ms (h .1) k)
+among-in-table n (m ∷ ms) h e = go (eqb n m) refl e (λ k. among-in-table n ms (both (ltb accepted m && leb m numberRange) (inTable ms) h .1) k)
   where
+    own : (ltb accepted m ≡ true) × (leb m numberRange ≡ true)
+    own = both (ltb accepted m) (leb m numberRange) (both (ltb accepted m && leb m numberRange) (inTable ms) h .0)
+
     go : (b : Bool) → eqb n m ≡ b → cond b true (among n ms) ≡ true → (among n ms ≡ true → InTable n) → InTable n
-    go true q k more = let i = eqb-true n m q in (omega (arith, i, h .0 .0), omega (arith, i, h .0 .1))
+    go true q k more =
+        let i = eqb-true n m q in
+        (omega (arith, i, ltb-true accepted m (own .0)), omega (arith, i, leb-true m numberRange (own .1)))
     go false q k more = more k
 
 kind-in-table : (k : Kind) → InTable (numberOf k)
@@ -92,8 +102,7 @@ reading-in-table s bytes nodes entries slots nesting n p e = go (ltb mostBytes (
 
     at-fit : length s ≤ mostBytes → Fitted R (claimsOf s) → InTable n
     at-fit small (all h) =
-        among-in-table n ofInput
-        ((omega arith, omega arith), ((omega arith, omega arith), ((omega arith, omega arith), ((omega arith, omega arith), ((omega arith, omega arith), ((omega arith, omega arith), ((omega arith, omega arith), ((omega arith, omega arith), ((omega arith, omega arith), ((omega arith, omega arith), ((omega arith, omega arith), tt)))))))))))
+        among-in-table n ofInput refl
         (refused-in s small bytes n p (sym (exact-where-all-fit R (plain s) h) ∙ (sym (within-room s nodes entries slots nesting small) ∙ e)) .0)
     at-fit small (some-over o) =
         stops-number (sym (refused-where-one-is-over R (plain s) o) ∙ (sym (within-room s nodes entries slots nesting small) ∙ e)) (kind-in-table (o .first .kind))

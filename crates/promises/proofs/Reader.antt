@@ -1,4 +1,5 @@
--- One answer for each call of the functions of `reader`: x
+-- One answer for each call of the functions of `reader`: the answer in the grammar's words, and the three stores, by an
+-- equation each.
 use mathlib.Core.Path.{_≡_, refl}
 use Rattle.grammar.specs.Reading.{Answer, gives, stops}
 use Rattle.grammar.specs.Answer.{Counts}

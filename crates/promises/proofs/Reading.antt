@@ -1,6 +1,6 @@
 -- The calls of both readers end as the definition says, and the calls of both writers: their contracts, in the words of the definitions. That
 -- a struct's numbers say which answer it is rests on Numbers: no refusal has number 0. Assumes nothing.
-use mathlib.Core.Path.{_≡_, refl, sym, ap, _∙_}
+use mathlib.Core.Path.{_≡_, refl, ap, _∙_}
 use Prim.Native.Nat.{ℕ}
 use native.Mathlib.Omega.{arith}
 use mathlib.Core.List.{List}
@@ -9,7 +9,7 @@ use borrow.Author.Tests.{ne-eqb}
 use Rattle.refusals.specs.Numbers.{accepted}
 use Rattle.grammar.specs.Reading.{Answer, gives, stops}
 use Rattle.grammar.specs.State.{State}
-use Rattle.grammar.specs.Answer.{Counts, Outcome, answered, reading, readOf}
+use Rattle.grammar.specs.Answer.{Counts, answered, reading, readOf}
 use Rattle.grammar.proofs.Bounded.{Bytes}
 use Rattle.writing.specs.Answer.{written, outputHeld}
 use Rattle.writer.specs.Entry.{wroteOf}

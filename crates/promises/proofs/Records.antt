@@ -1,4 +1,4 @@
--- One answer for each call of the functions of `records`: x
+-- One answer for each call of the functions of `records`: the answer, by an equation, a node in the grammar's words.
 use mathlib.Core.Path.{refl}
 use Rattle.grammar.specs.State as state
 use Rattle.records.specs.declared.Node.{Node}

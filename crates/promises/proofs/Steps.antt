@@ -1,5 +1,5 @@
--- One answer for each call of the functions of `steps`: by an equation, or in the grammar's words. Two leave a part open: what `attach` leaves in the entries where
--- there is no room, and which of the numbers of one rule `next_child` gives.
+-- One answer for each call of the functions of `steps`: by an equation, or in the grammar's words. Two leave a part open: what `attach`
+-- leaves in the entries where there is no room, and which of the numbers of one rule `next_child` gives.
 use mathlib.Core.Path.{_≡_, refl, sym, _∙_, ap}
 use Prim.Native.Nat.{ℕ}
 use mathlib.Core.Bool.{Bool, true, false}

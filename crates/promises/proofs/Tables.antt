@@ -1,4 +1,5 @@
--- One answer for each call of the functions of `tables`: x
+-- One answer for each call of the functions of `tables`: the answer, by an equation; of the record test, since a node
+-- that holds its children is not faulty.
 use mathlib.Core.Path.{_≡_, refl, sym, ap}
 use Prim.Native.Nat.{ℕ}
 use mathlib.Core.Bool.{Bool, true, false}

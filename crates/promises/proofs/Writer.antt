@@ -1,5 +1,4 @@
 -- One answer for each call of the functions of `writer`: answer and output, by an equation each.
-use mathlib.Core.Path.{refl}
 use Rattle.writer.proofs as writer
 use Rattle.promises.specs.Agreement.{Agree}
 use Rattle.promises.proofs.Same.{one}

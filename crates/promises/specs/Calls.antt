@@ -1,6 +1,5 @@
 -- A call of a function as its contract describes it, and the calls of the readers and writers in the words of the definitions. 01: "Where an
 -- answer is an enum, a definition provides this paper's number and values for each case, and the promises use that definition."
-use mathlib.Core.Path.{_≡_}
 use Prim.Native.Nat.{ℕ}
 use mathlib.Core.Bool.{cond}
 use mathlib.Core.List.{List}

@@ -4,7 +4,6 @@
 use mathlib.Core.Path.{_≡_}
 use Prim.Native.Nat.{ℕ, _≤_, min}
 use mathlib.Core.Option.{some}
-use mathlib.Core.List.{List}
 use lib.ListN.{length, take}
 use Rattle.refusals.specs.Limits.{mostBytes, mostNesting}
 use Rattle.lent.specs.Lent.{padded}

@@ -1,6 +1,6 @@
 -- The contracts that leave a part open, and what any two ends of a call then have in common. docs/EXCEPTIONS.md lists the functions, and why.
 use mathlib.Core.Path.{_≡_}
-use Prim.Native.Nat.{ℕ, _<_}
+use Prim.Native.Nat.{_<_}
 use Rattle.puts.specs.declared.Wrote.{Wrote}
 use Rattle.puts.specs.declared.Wrote.the-variants as wrote
 use Rattle.steps.specs.Linking.{ruleOf}
