@@ -21,4 +21,5 @@ pub mod Numbers
 pub mod Reading
 pub mod Demand1
 pub mod Demand2
+pub mod Lines
 pub mod Demand3

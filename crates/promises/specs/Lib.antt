@@ -3,4 +3,5 @@ pub mod Partly
 pub mod Calls
 pub mod Demand1
 pub mod Demand2
+pub mod Lines
 pub mod Demand3
