@@ -37,6 +37,19 @@ pub fn asks_to_list() -> impl Iterator<Item = Ask> {
         .chain(random_inputs(8, 3000).filter(|ask| ask.input.len() < 250))
 }
 
+/// Of the above, what may be read and so written; a short input that starts otherwise is not whole.
+pub fn asks_of_the_writer(extent: Extent, modules: Vec<Ask>) -> impl Iterator<Item = Ask> {
+    let Extent { of_each_length, random } = extent;
+    let may_be_whole = |ask: &Ask| ask.input.first().is_some_and(|byte| b"NFTS.zZ){".contains(&(byte & 0x7F)));
+    sheets()
+        .chain(code_faults())
+        .chain(short_inputs().filter(may_be_whole))
+        .chain((4..=6).flat_map(move |len| over_alphabet(len, of_each_length)))
+        .chain(deep_inputs(&[1990, 1999, 2000]))
+        .chain(random_inputs(14, random))
+        .chain(of_modules(modules))
+}
+
 /// P1 to P12 of document 01.
 fn sheets() -> impl Iterator<Item = Ask> {
     let sheet = |nesting, input: &[u8]| Ask { input: input.to_vec(), nesting };
