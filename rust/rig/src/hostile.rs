@@ -21,9 +21,14 @@ struct Case {
     nesting: u32,
 }
 
-/// Some tens of cases from each reading, till there are so many.
 pub fn hold(count: usize) -> bool {
     let mut tally = Tally::new("hostile stores");
+    ask(&mut tally, |class| class, count);
+    tally.finish()
+}
+
+/// Some cases from each reading, till there are so many; each is counted as `counted` says of its class.
+pub fn ask(tally: &mut Tally, counted: fn(&'static str) -> &'static str, count: usize) {
     let mut random = Random::new(15);
     let mut asks = random_inputs(16, usize::MAX);
     let mut tried = 0;
@@ -32,10 +37,12 @@ pub fn hold(count: usize) -> bool {
         let Some(made) = made else { continue };
         for _ in 0..12 {
             let case = damaged(&mut random, &made);
-            tried += hold_case(&mut tally, &mut random, case);
+            for (class, held) in answers(&mut random, case) {
+                tally.count(counted(class), held);
+                tried += 1;
+            }
         }
     }
-    tally.finish()
 }
 
 /// The stores of a reading, every record used.
@@ -151,8 +158,10 @@ fn number(random: &mut Random, case: &Case, within: usize) -> u32 {
     if random.below(4) == 0 { random.one_of(&near) } else { random.below(within.max(1)) as u32 }
 }
 
+type Held = (&'static str, Result<(), String>);
+
 /// One case, in an output of some size; of few bytes, in outputs of every size.
-fn hold_case(tally: &mut Tally, random: &mut Random, case: Case) -> usize {
+fn answers(random: &mut Random, case: Case) -> Vec<Held> {
     let Case { input, nodes, entries, used, root, nesting } = &case;
     let store = Store { input, nodes, entries, used: *used };
     let source = Source::new(&store);
@@ -160,15 +169,14 @@ fn hold_case(tally: &mut Tally, random: &mut Random, case: Case) -> usize {
     let len = model::write(&store, *root, *nesting, room).map_or(0, |bytes| bytes.len());
     let every = len < 80 && random.below(8) == 0;
     let rooms = if every { (0..=len + 2).collect() } else { vec![room.max(random.below(len + 2))] };
-    let count = rooms.len();
-    for room in rooms {
+    let answer = |room: usize| {
         let (class, held) = hold_one(&source, (*root, *nesting, room));
-        tally.count(class, held.map_err(|fault| format!("{}; {fault}", case.row(room))));
-    }
-    count
+        (class, held.map_err(|fault| format!("{}; {fault}", case.row(room))))
+    };
+    rooms.into_iter().map(answer).collect()
 }
 
-fn hold_one(source: &Source, asked: (u32, u32, usize)) -> (&'static str, Result<(), String>) {
+fn hold_one(source: &Source, asked: (u32, u32, usize)) -> Held {
     let (root, nesting, room) = asked;
     let expected = model::write(&source.store(), root, nesting, room);
     let class = match expected {

@@ -20,6 +20,12 @@ struct Store<'a> {
 
 pub fn hold(asks: impl Iterator<Item = Ask>) -> bool {
     let mut tally = Tally::new("leaf");
+    ask(&mut tally, |class| class, asks);
+    tally.finish()
+}
+
+/// Every case is counted as `counted` says of its class.
+pub fn ask(tally: &mut Tally, counted: fn(&'static str) -> &'static str, asks: impl Iterator<Item = Ask>) {
     let mut random = Random::new(11);
     for ask in asks {
         let part = Part::new(&ask.input);
@@ -35,10 +41,9 @@ pub fn hold(asks: impl Iterator<Item = Ask>) -> bool {
         }
         for node in 0..used.min(20) + 2 {
             let (class, held) = hold_node(&part, &store, node);
-            tally.count(class, held);
+            tally.count(counted(class), held);
         }
     }
-    tally.finish()
 }
 
 fn hold_node(part: &Part, store: &Store, node: u32) -> (&'static str, Result<(), String>) {

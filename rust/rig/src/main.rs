@@ -2,6 +2,8 @@
 //! code, and to lists of answers kept in the repository. `rig --help` says how to call it.
 mod cpython;
 #[cfg(carried)]
+mod guard;
+#[cfg(carried)]
 mod hostile;
 #[cfg(carried)]
 mod leaf;
@@ -10,6 +12,7 @@ mod limits;
 mod linetable;
 mod localsplus;
 mod marshalled;
+mod memory;
 mod nested;
 mod nulls;
 mod numbers;
@@ -53,6 +56,7 @@ const USAGE: &str = "\
 usage: rig [--long] [--tables FILE]              compare with the carried Rust, then replay the lists
        rig --values [--long] [--tables FILE]     compare the reading of values with the carried Rust, nothing else
        rig --writes [--long] [--tables FILE]     compare the writing of values with the carried Rust, nothing else
+       rig --guard                               ask all between pages that fault, nothing else
        rig --replay                              replay the lists only: tests/fixed and tests/vectors
        rig --cpython FILE                        hold the port to what CPython says
        rig --write-fixed FOLDER [--tables FILE]  write the carried Rust's answers as lists into FOLDER
@@ -66,6 +70,7 @@ struct Options {
     replay: bool,
     values: bool,
     writes: bool,
+    guard: bool,
     tables: Option<String>,
     cpython: Option<String>,
     write_fixed: Option<String>,
@@ -108,6 +113,7 @@ fn options(mut words: impl Iterator<Item = String>) -> Result<Options, String> {
             "--replay" => options.replay = true,
             "--values" => options.values = true,
             "--writes" => options.writes = true,
+            "--guard" => options.guard = true,
             "--tables" => options.tables = file()?,
             "--cpython" => options.cpython = file()?,
             "--write-fixed" => options.write_fixed = file()?,
@@ -119,6 +125,7 @@ fn options(mut words: impl Iterator<Item = String>) -> Result<Options, String> {
         options.replay,
         options.values,
         options.writes,
+        options.guard,
         options.cpython.is_some(),
         options.write_fixed.is_some(),
     ];
@@ -147,6 +154,9 @@ fn run(options: Options) -> Result<bool, String> {
     if options.writes {
         return beside_the_rust::compare_writes(options.long, options.tables);
     }
+    if options.guard {
+        return beside_the_rust::guard();
+    }
     match options.write_fixed {
         Some(folder) => beside_the_rust::write_fixed(&folder, options.tables),
         None => Ok(all([beside_the_rust::compare(options.long, options.tables)?, replay_lists()])),
@@ -173,8 +183,8 @@ fn all<const N: usize>(held: [bool; N]) -> bool {
 #[cfg(carried)]
 mod beside_the_rust {
     use super::{
-        LineTables, LocalNames, Reads, Varints, Writes, all, contents, cpython, hostile, leaf, linetable, localsplus,
-        read, values, varint, write,
+        LineTables, LocalNames, Reads, Varints, Writes, all, contents, cpython, guard, hostile, leaf, linetable,
+        localsplus, read, values, varint, write,
     };
     use crate::subject::{compare as compare_all, write_list};
     use linetable::carried_side::Extent;
@@ -194,7 +204,7 @@ mod beside_the_rust {
         tables: Extent { of_three: 1, random: 500_000 },
         lists: (3, 200_000),
         values: values::Extent { of_each_length: 2_000_000, random: 1_000_000 },
-        written: values::Extent { of_each_length: 500_000, random: 500_000 },
+        written: values::Extent { of_each_length: 500_000, random: 1_000_000 },
         hostile: 1_500_000,
     };
     const LONG: Sizes = Sizes {
@@ -220,6 +230,7 @@ mod beside_the_rust {
             leaf::hold(values::random_inputs(12, sizes.values.random / 4)),
             compare_all::<Reads>(values::asks(sizes.values, cpython::modules(&text))),
             writes(sizes.written, cpython::modules(&text), sizes.hostile),
+            guard::hold(),
         ]))
     }
 
@@ -235,6 +246,10 @@ mod beside_the_rust {
         let modules = cpython::modules(&text_of(tables)?);
         let sizes = if long { LONG } else { SHORT };
         Ok(writes(sizes.written, modules, sizes.hostile))
+    }
+
+    pub fn guard() -> Result<bool, String> {
+        Ok(guard::hold())
     }
 
     fn writes(extent: values::Extent, modules: Vec<read::Ask>, damaged: usize) -> bool {
@@ -265,6 +280,10 @@ mod beside_the_rust {
 
     pub fn compare_writes(long: bool, tables: Option<String>) -> Result<bool, String> {
         compare(long, tables)
+    }
+
+    pub fn guard() -> Result<bool, String> {
+        compare(false, None)
     }
 
     pub fn write_fixed(_folder: &str, _tables: Option<String>) -> Result<bool, String> {

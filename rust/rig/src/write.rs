@@ -204,6 +204,7 @@ pub mod carried_side {
     use crate::trace::Trace;
     use crate::values;
     use bags::{CodeBytes, Notes, written};
+    use carried::bytecode::CodeUnits;
     use sillgarland_sys::refusals;
 
     impl Carried for Writes {
@@ -234,13 +235,43 @@ pub mod carried_side {
         read(&Part::new(&ask.input), ask.nesting, ample(&ask.input)).answer.refusal == refusals::ACCEPTED
     }
 
-    /// The questions of the readers that the port reads.
+    /// The questions of the readers that the port reads; and those with code once more, with instructions that the Rust
+    /// writes as they are.
     pub fn asks(extent: values::Extent, modules: Vec<Ask>) -> impl Iterator<Item = Ask> {
-        values::asks_of_the_writer(extent, modules).filter(is_read)
+        twice(values::asks_of_the_writer(extent, modules))
     }
 
     /// A selection of the above for the list in the repository.
     pub fn asks_to_list() -> impl Iterator<Item = Ask> {
-        values::asks_to_list().filter(is_read)
+        twice(values::asks_to_list())
+    }
+
+    pub fn random_asks(seed: u64, count: usize) -> impl Iterator<Item = Ask> {
+        twice(values::random_inputs(seed, count))
+    }
+
+    fn twice(asks: impl Iterator<Item = Ask>) -> impl Iterator<Item = Ask> {
+        let kept: Vec<u8> = (0..=255).filter(|opcode| is_kept(&[*opcode, 0])).collect();
+        asks.filter(is_read).flat_map(move |ask| [with_instructions(&ask, &kept), Some(ask)]).flatten()
+    }
+
+    fn is_kept(bytes: &[u8]) -> bool {
+        CodeUnits::try_from(bytes).is_ok_and(|units| units.original_bytes() == bytes)
+    }
+
+    /// Each opcode of a code's bytes replaced by one of these; none where nothing changes, or where what changes served as
+    /// something else as well and is read no more.
+    fn with_instructions(ask: &Ask, kept: &[u8]) -> Option<Ask> {
+        let reading = read(&Part::new(&ask.input), ask.nesting, ample(&ask.input));
+        let [nodes, entries, _] = reading.stores.each_ref().map(|store| store.cells());
+        let mut changed = ask.clone();
+        for code in nodes.chunks(5).filter(|node| node[0] == u32::from(b'c')) {
+            let bytes = &nodes[5 * entries[2 * code[3] as usize] as usize..][..5];
+            let span = bytes[1] as usize..(bytes[1] + bytes[2]) as usize;
+            for unit in changed.input[span].chunks_mut(2).filter(|unit| !is_kept(unit)) {
+                unit[0] = kept[usize::from(unit[0]) % kept.len()];
+            }
+        }
+        (changed.input != ask.input && is_read(&changed)).then_some(changed)
     }
 }
