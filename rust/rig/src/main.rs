@@ -39,6 +39,7 @@ mod value;
 mod values;
 mod varint;
 mod write;
+mod write_again;
 mod write_model;
 mod write_same;
 mod writing;
@@ -58,7 +59,9 @@ usage: rig [--long] [--tables FILE]              compare with the carried Rust, 
        rig --writes [--long] [--tables FILE]     compare the writing of values with the carried Rust, nothing else
        rig --guard                               ask all between pages that fault, nothing else
        rig --replay                              replay the lists only: tests/fixed and tests/vectors
+       rig --exact                               the same lists, in memory just as long as is lent: for valgrind
        rig --cpython FILE                        hold the port to what CPython says
+       rig --write-again FILE OUT                read and write what CPython marshals, for CPython to load from OUT
        rig --write-fixed FOLDER [--tables FILE]  write the carried Rust's answers as lists into FOLDER
 FILE is what tools/cpython-tables writes. Runs from the repository's root.
 Exit status: 0 no differences, 1 differences or a file that cannot be used, 2 called wrongly.";
@@ -71,9 +74,11 @@ struct Options {
     values: bool,
     writes: bool,
     guard: bool,
+    exact: bool,
     tables: Option<String>,
     cpython: Option<String>,
     write_fixed: Option<String>,
+    write_again: Option<(String, String)>,
 }
 
 fn main() -> ExitCode {
@@ -114,9 +119,11 @@ fn options(mut words: impl Iterator<Item = String>) -> Result<Options, String> {
             "--values" => options.values = true,
             "--writes" => options.writes = true,
             "--guard" => options.guard = true,
+            "--exact" => options.exact = true,
             "--tables" => options.tables = file()?,
             "--cpython" => options.cpython = file()?,
             "--write-fixed" => options.write_fixed = file()?,
+            "--write-again" => options.write_again = file()?.zip(file()?),
             _ => return Err(format!("unknown option {word}")),
         }
     }
@@ -126,8 +133,10 @@ fn options(mut words: impl Iterator<Item = String>) -> Result<Options, String> {
         options.values,
         options.writes,
         options.guard,
+        options.exact,
         options.cpython.is_some(),
         options.write_fixed.is_some(),
+        options.write_again.is_some(),
     ];
     if tasks.iter().filter(|asked| **asked).count() > 1 {
         return Err("one task at a time".to_string());
@@ -142,6 +151,13 @@ fn run(options: Options) -> Result<bool, String> {
     }
     if let Some(file) = options.cpython {
         return Ok(cpython::hold(&contents(&file)?));
+    }
+    if let Some((file, out)) = options.write_again {
+        return write_again::write_all(&contents(&file)?, &out);
+    }
+    if options.exact {
+        memory::lend(memory::Mode::Exact);
+        return Ok(all([nulls::hold(), replay_answers()]));
     }
     if options.replay {
         return Ok(replay_lists());
@@ -168,12 +184,16 @@ fn contents(file: &str) -> Result<String, String> {
 }
 
 fn replay_lists() -> bool {
+    all([numbers::hold(), nulls::hold(), limits::hold(), stack::hold(), replay_answers()])
+}
+
+fn replay_answers() -> bool {
     let replay_all =
         |folder| all([replay::<Varints>(folder), replay::<LineTables>(folder), replay::<LocalNames>(folder)]);
     let fixed = all([replay_all("fixed"), replay::<Reads>("fixed"), replay::<Writes>("fixed")]);
     let vectors = all([replay_all("vectors"), replay::<ReadStores>("vectors"), replay::<Leaves>("vectors")]);
     let written = replay::<WriteStores>("vectors");
-    all([numbers::hold(), nulls::hold(), limits::hold(), stack::hold(), fixed, vectors, written])
+    all([fixed, vectors, written])
 }
 
 fn all<const N: usize>(held: [bool; N]) -> bool {
