@@ -17,6 +17,9 @@ pub fn run(modules: Vec<Vec<u8>>) {
             compare(&format!("1 MiB of {kind} strings of {size} bytes, letter {}", letter as char), &[input]);
         }
     }
+    for size in [16, 1024] {
+        compare(&format!("1 MiB of bytes objects of {size} bytes"), &[strings(b's', &"b".repeat(size))]);
+    }
     compare("a list of a million small integers", &[small_integers(b'[')]);
     compare("a tuple of a million small integers", &[small_integers(b'(')]);
     for names in [1, 100, 1_000] {
