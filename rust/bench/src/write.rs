@@ -1,5 +1,5 @@
 //! Writing values: the port into an output just long enough, which it clears itself, beside the Rust's serialize_value into
-//! bytes that are kept from one time to the next and so never grow; and, for strings, beside the least that 01's rules ask
+//! bytes that are kept from one time to the next and so never grow, and into new ones each time; and, for strings, beside the least that 01's rules ask
 //! for: each string checked and copied, with and without the output cleared first.
 use crate::read::{NESTING, Stores, sharing, small_integers, strings, text_of, with_plain_instructions};
 use crate::timing::{Way, side_by_side, timed};
@@ -157,6 +157,16 @@ fn compare(title: &str, inputs: &[Vec<u8>]) {
             work: timed(|| {
                 for (value, out) in values.iter().zip(&mut outs) {
                     value.write(black_box(out));
+                }
+            }),
+        },
+        Way {
+            name: "the Rust, growing",
+            work: timed(|| {
+                for value in &values {
+                    let mut out = Vec::new();
+                    value.write(&mut out);
+                    black_box(out);
                 }
             }),
         },
