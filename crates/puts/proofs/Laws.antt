@@ -4,25 +4,25 @@ use mathlib.Core.Path.{_≡_, refl, sym, ap, _∙_}
 use Prim.Native.Nat.{ℕ, zero, suc, _+_, _-_, _*_, _/_, _%_, _≤_, _<_}
 use native.Mathlib.Omega.{arith}
 use native.Mathlib.Numerals.{add-one, add-two}
-use mathlib.Core.Bool.{Bool, true, false, cond, not, _&&_}
+use mathlib.Core.Bool.{Bool, true, false, not}
 use mathlib.Core.List.{List, [], _∷_, _++_}
 use lib.ListN.{length, getD, set, take, drop, length-append, length-set}
-use lib.Seq.{length-take-le, sets, sets-eq, length-sets, take-at, drop-at, slice, slice-empty, slice-cons, length-slice}
-use lib.Dec.{leb, ltb}
-use borrow.Author.Tests.{le-leb, lt-leb, lt-ltb, le-ltb, ltb-true}
+use lib.Seq.{length-take-le, sets, sets-eq, length-sets, take-at, drop-at, slice, slice-empty, length-slice}
+use lib.Dec.{ltb}
+use borrow.Author.Tests.{le-leb, lt-leb, lt-ltb, le-ltb}
 use Rattle.refusals.specs.Numbers.{noRoom}
-use Rattle.grammar.specs.Reading.{Answer, gives, stops}
+use Rattle.grammar.specs.Reading.{gives}
 use Rattle.grammar.specs.Letters as letter
 use Rattle.grammar.specs.Fields.{contents, le16, le32, le64, fields, span, items, digitCount}
 use Rattle.grammar.specs.Leaf.{magnitude}
-use Rattle.writing.specs.Writing.{Writing, ended, refused, emit, into}
-use Rattle.writing.specs.Canonical.{bytes32, sized, ascii, codeString, Integer, ofBits, bitsOf, digitsOf, digitBytes, longBytes, integerBytes}
+use Rattle.writing.specs.Writing.{ended, emit, into}
+use Rattle.writing.specs.Canonical.{bytes32, sized, ascii, codeString, ofBits, bitsOf, digitsOf, digitBytes, longBytes, integerBytes}
 use Rattle.writing.specs.Shape.{longAt}
 use Rattle.writing.proofs.Numbers.{part-next, word-bytes, word-below, low-half, high-half, small-positive, small-negative, great-positive, great-negative, not-negative, is-negative}
-use Rattle.writing.proofs.Digits.{digits-none, digits-next, long-within, long-counted, long-as-stored, many-digits, negative-above}
+use Rattle.writing.proofs.Digits.{digit-bytes-length, digits-none, digits-next, long-within, long-counted, long-as-stored, many-digits, negative-above}
 use Rattle.puts.specs.declared.Wrote.{Wrote}
 use Rattle.puts.specs.declared.Wrote.the-variants as wrote
-use Rattle.puts.specs.Puts.{Agrees, Puts, Short}
+use Rattle.puts.specs.Puts.{Puts, Short}
 
 -- Room, or none.
 
@@ -209,11 +209,6 @@ pub puts-as : {bs cs o o′ : List ℕ} {at : ℕ} {r : Wrote} → Puts (emit bs
 puts-as {bs} {cs} {o} {o′} {at} {r} k e = rw e k
 
 -- The digits of a number, two bytes each.
-
-digit-bytes-length : (ds : List ℕ) → length (digitBytes ds) ≡ 2 * length ds
-unfolding digitBytes
-digit-bytes-length [] = refl
-digit-bytes-length (d ∷ ds) = omega (arith, digit-bytes-length ds)
 
 -- some digits are stored, and those of what is left of the number still come to the same output
 pub record Digiting (o₀ : List ℕ) (at m : ℕ) (o : List ℕ) (left place : ℕ) : Type 0 where
