@@ -8,7 +8,6 @@ use std::sync::atomic::{AtomicU8, Ordering::Relaxed};
 pub enum Mode {
     Marked,
     Exact,
-    #[cfg_attr(not(carried), expect(dead_code))]
     AtEnd,
     #[cfg_attr(not(carried), expect(dead_code))]
     AtStart,
