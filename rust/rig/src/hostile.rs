@@ -23,32 +23,8 @@ struct Case {
 
 pub fn hold(count: usize) -> bool {
     let mut tally = Tally::new("hostile stores");
-    for case in single_records() {
-        let (class, held) = case.answer(200);
-        tally.count(class, held);
-    }
     ask(&mut tally, |class| class, count);
     tally.finish()
-}
-
-/// One node of every letter, size and count over a few contents; should it have children, they are none.
-fn single_records() -> impl Iterator<Item = Case> {
-    let sizes = |letter: u32| (0..=24u32).map(move |size| (letter, size));
-    let records =
-        (0..=256).flat_map(sizes).flat_map(|(letter, size)| (0..=11u32).map(move |count| (letter, size, count)));
-    records.flat_map(|(letter, size, count)| {
-        let after = |number: u32, byte: u8| [&number.to_le_bytes()[..], &[byte; 24]].concat();
-        let digits = size.saturating_sub(4) / 2;
-        let (counted, long, negative) = (after(count, 0), after(digits, 1), after(digits.wrapping_neg(), 0x41));
-        [counted, long, negative, vec![0xC3; 28]].map(|input| Case {
-            input,
-            nodes: vec![letter, 0, size, 0, count, u32::from(b'N'), 0, 0, NOTHING, 0],
-            entries: (1..=12).flat_map(|next| [1, if next < 12 { next } else { NOTHING }]).collect(),
-            used: [2, 12],
-            root: 0,
-            nesting: 2000,
-        })
-    })
 }
 
 /// Some cases from each reading, till there are so many; each is counted as `counted` says of its class.
@@ -77,6 +53,30 @@ fn of_reading(ask: crate::read::Ask) -> Option<Case> {
     let (nodes, entries) = (nodes[..5 * used[0] as usize].to_vec(), entries[..2 * used[1] as usize].to_vec());
     let accepted = reading.answer.refusal == refusals::ACCEPTED;
     accepted.then_some(Case { input: ask.input, nodes, entries, used, root: 0, nesting: 0 })
+}
+
+pub fn ask_single_records(tally: &mut Tally, class: &'static str) {
+    single_records().for_each(|case| tally.count(class, case.answer(200).1));
+}
+
+/// One node of every letter, size and count over a few contents; should it have children, they are none.
+fn single_records() -> impl Iterator<Item = Case> {
+    let sizes = |letter: u32| (0..=24u32).map(move |size| (letter, size));
+    let records =
+        (0..=256).flat_map(sizes).flat_map(|(letter, size)| (0..=11u32).map(move |count| (letter, size, count)));
+    records.flat_map(|(letter, size, count)| {
+        let after = |number: u32, byte: u8| [&number.to_le_bytes()[..], &[byte; 24]].concat();
+        let digits = size.saturating_sub(4) / 2;
+        let (counted, long, negative) = (after(count, 0), after(digits, 1), after(digits.wrapping_neg(), 0x41));
+        [counted, long, negative, vec![0xC3; 28]].map(|input| Case {
+            input,
+            nodes: vec![letter, 0, size, 0, count, u32::from(b'N'), 0, 0, NOTHING, 0],
+            entries: (1..=12).flat_map(|next| [1, if next < 12 { next } else { NOTHING }]).collect(),
+            used: [2, 12],
+            root: 0,
+            nesting: 2000,
+        })
+    })
 }
 
 /// Records of letters and small numbers, links among few entries.
