@@ -2,12 +2,17 @@
 //! code, and to lists of answers kept in the repository. `rig --help` says how to call it.
 mod cpython;
 #[cfg(carried)]
+mod guard;
+#[cfg(carried)]
+mod hostile;
+#[cfg(carried)]
 mod leaf;
 mod lent;
 mod limits;
 mod linetable;
 mod localsplus;
 mod marshalled;
+mod memory;
 mod nested;
 mod nulls;
 mod numbers;
@@ -17,6 +22,7 @@ mod panics;
 mod random;
 mod read;
 mod reading;
+mod record;
 #[cfg(carried)]
 mod shape;
 mod stack;
@@ -32,6 +38,11 @@ mod value;
 #[cfg(carried)]
 mod values;
 mod varint;
+mod write;
+mod write_again;
+mod write_model;
+mod write_same;
+mod writing;
 
 use linetable::LineTables;
 use localsplus::LocalNames;
@@ -40,12 +51,17 @@ use std::process::ExitCode;
 use stores::{Leaves, ReadStores};
 use subject::replay;
 use varint::Varints;
+use write::{WriteStores, Writes};
 
 const USAGE: &str = "\
 usage: rig [--long] [--tables FILE]              compare with the carried Rust, then replay the lists
        rig --values [--long] [--tables FILE]     compare the reading of values with the carried Rust, nothing else
+       rig --writes [--long] [--tables FILE]     compare the writing of values with the carried Rust, nothing else
+       rig --guard                               ask all between pages that fault, nothing else
        rig --replay                              replay the lists only: tests/fixed and tests/vectors
+       rig --exact                               the same lists, in memory just as long as is lent: for valgrind
        rig --cpython FILE                        hold the port to what CPython says
+       rig --write-again FILE OUT                read and write what CPython marshals, for CPython to load from OUT
        rig --write-fixed FOLDER [--tables FILE]  write the carried Rust's answers as lists into FOLDER
 FILE is what tools/cpython-tables writes. Runs from the repository's root.
 Exit status: 0 no differences, 1 differences or a file that cannot be used, 2 called wrongly.";
@@ -56,9 +72,13 @@ struct Options {
     long: bool,
     replay: bool,
     values: bool,
+    writes: bool,
+    guard: bool,
+    exact: bool,
     tables: Option<String>,
     cpython: Option<String>,
     write_fixed: Option<String>,
+    write_again: Option<(String, String)>,
 }
 
 fn main() -> ExitCode {
@@ -97,14 +117,27 @@ fn options(mut words: impl Iterator<Item = String>) -> Result<Options, String> {
             "--long" => options.long = true,
             "--replay" => options.replay = true,
             "--values" => options.values = true,
+            "--writes" => options.writes = true,
+            "--guard" => options.guard = true,
+            "--exact" => options.exact = true,
             "--tables" => options.tables = file()?,
             "--cpython" => options.cpython = file()?,
             "--write-fixed" => options.write_fixed = file()?,
+            "--write-again" => options.write_again = file()?.zip(file()?),
             _ => return Err(format!("unknown option {word}")),
         }
     }
-    let tasks =
-        [options.help, options.replay, options.values, options.cpython.is_some(), options.write_fixed.is_some()];
+    let tasks = [
+        options.help,
+        options.replay,
+        options.values,
+        options.writes,
+        options.guard,
+        options.exact,
+        options.cpython.is_some(),
+        options.write_fixed.is_some(),
+        options.write_again.is_some(),
+    ];
     if tasks.iter().filter(|asked| **asked).count() > 1 {
         return Err("one task at a time".to_string());
     }
@@ -119,6 +152,13 @@ fn run(options: Options) -> Result<bool, String> {
     if let Some(file) = options.cpython {
         return Ok(cpython::hold(&contents(&file)?));
     }
+    if let Some((file, out)) = options.write_again {
+        return write_again::write_all(&contents(&file)?, &out);
+    }
+    if options.exact {
+        memory::lend(memory::Mode::Exact);
+        return Ok(all([nulls::hold(), replay_answers()]));
+    }
     if options.replay {
         return Ok(replay_lists());
     }
@@ -126,6 +166,12 @@ fn run(options: Options) -> Result<bool, String> {
     panics::keep_quiet();
     if options.values {
         return beside_the_rust::compare_values(options.long, options.tables);
+    }
+    if options.writes {
+        return beside_the_rust::compare_writes(options.long, options.tables);
+    }
+    if options.guard {
+        return beside_the_rust::guard();
     }
     match options.write_fixed {
         Some(folder) => beside_the_rust::write_fixed(&folder, options.tables),
@@ -138,11 +184,16 @@ fn contents(file: &str) -> Result<String, String> {
 }
 
 fn replay_lists() -> bool {
+    all([numbers::hold(), nulls::hold(), limits::hold(), stack::hold(), replay_answers()])
+}
+
+fn replay_answers() -> bool {
     let replay_all =
         |folder| all([replay::<Varints>(folder), replay::<LineTables>(folder), replay::<LocalNames>(folder)]);
-    let fixed = all([replay_all("fixed"), replay::<Reads>("fixed")]);
+    let fixed = all([replay_all("fixed"), replay::<Reads>("fixed"), replay::<Writes>("fixed")]);
     let vectors = all([replay_all("vectors"), replay::<ReadStores>("vectors"), replay::<Leaves>("vectors")]);
-    all([numbers::hold(), nulls::hold(), limits::hold(), stack::hold(), fixed, vectors])
+    let written = replay::<WriteStores>("vectors");
+    all([fixed, vectors, written])
 }
 
 fn all<const N: usize>(held: [bool; N]) -> bool {
@@ -152,7 +203,8 @@ fn all<const N: usize>(held: [bool; N]) -> bool {
 #[cfg(carried)]
 mod beside_the_rust {
     use super::{
-        LineTables, LocalNames, Reads, Varints, all, contents, cpython, leaf, linetable, localsplus, values, varint,
+        LineTables, LocalNames, Reads, Varints, Writes, all, contents, cpython, guard, hostile, leaf, linetable,
+        localsplus, read, values, varint, write,
     };
     use crate::subject::{compare as compare_all, write_list};
     use linetable::carried_side::Extent;
@@ -163,6 +215,8 @@ mod beside_the_rust {
         tables: Extent,
         lists: (u32, usize),
         values: values::Extent,
+        written: values::Extent,
+        hostile: usize,
     }
 
     const SHORT: Sizes = Sizes {
@@ -170,12 +224,16 @@ mod beside_the_rust {
         tables: Extent { of_three: 1, random: 500_000 },
         lists: (3, 200_000),
         values: values::Extent { of_each_length: 2_000_000, random: 1_000_000 },
+        written: values::Extent { of_each_length: 500_000, random: 1_000_000 },
+        hostile: 1_500_000,
     };
     const LONG: Sizes = Sizes {
         varints: 20_000_000,
         tables: Extent { of_three: 6, random: 20_000_000 },
         lists: (4, 5_000_000),
         values: values::Extent { of_each_length: 60_000_000, random: 50_000_000 },
+        written: values::Extent { of_each_length: 20_000_000, random: 30_000_000 },
+        hostile: 100_000_000,
     };
 
     fn text_of(tables: Option<String>) -> Result<String, String> {
@@ -191,6 +249,8 @@ mod beside_the_rust {
             compare_all::<LocalNames>(localsplus::carried_side::asks(sizes.lists.0, sizes.lists.1)),
             leaf::hold(values::random_inputs(12, sizes.values.random / 4)),
             compare_all::<Reads>(values::asks(sizes.values, cpython::modules(&text))),
+            writes(sizes.written, cpython::modules(&text), sizes.hostile),
+            guard::hold(),
         ]))
     }
 
@@ -202,12 +262,27 @@ mod beside_the_rust {
         Ok(all([leaves, compare_all::<Reads>(values::asks(extent, modules))]))
     }
 
+    pub fn compare_writes(long: bool, tables: Option<String>) -> Result<bool, String> {
+        let modules = cpython::modules(&text_of(tables)?);
+        let sizes = if long { LONG } else { SHORT };
+        Ok(writes(sizes.written, modules, sizes.hostile))
+    }
+
+    pub fn guard() -> Result<bool, String> {
+        Ok(guard::hold())
+    }
+
+    fn writes(extent: values::Extent, modules: Vec<read::Ask>, damaged: usize) -> bool {
+        all([compare_all::<Writes>(write::carried_side::asks(extent, modules)), hostile::hold(damaged)])
+    }
+
     pub fn write_fixed(folder: &str, tables: Option<String>) -> Result<bool, String> {
         let text = text_of(tables)?;
         write_list::<Varints>(folder, varint::carried_side::asks_to_list())?;
         write_list::<LineTables>(folder, linetable::carried_side::asks_to_list(cpython::tables(&text)))?;
         write_list::<LocalNames>(folder, localsplus::carried_side::asks_to_list())?;
         write_list::<Reads>(folder, values::asks_to_list())?;
+        write_list::<Writes>(folder, write::carried_side::asks_to_list())?;
         Ok(true)
     }
 }
@@ -221,6 +296,14 @@ mod beside_the_rust {
 
     pub fn compare_values(long: bool, tables: Option<String>) -> Result<bool, String> {
         compare(long, tables)
+    }
+
+    pub fn compare_writes(long: bool, tables: Option<String>) -> Result<bool, String> {
+        compare(long, tables)
+    }
+
+    pub fn guard() -> Result<bool, String> {
+        compare(false, None)
     }
 
     pub fn write_fixed(_folder: &str, _tables: Option<String>) -> Result<bool, String> {

@@ -37,6 +37,20 @@ pub fn asks_to_list() -> impl Iterator<Item = Ask> {
         .chain(random_inputs(8, 3000).filter(|ask| ask.input.len() < 250))
 }
 
+/// Of the above, what may be read and so written; a short input that starts otherwise is not whole.
+pub fn asks_of_the_writer(extent: Extent, modules: Vec<Ask>) -> impl Iterator<Item = Ask> {
+    let Extent { of_each_length, random } = extent;
+    let may_be_whole = |ask: &Ask| ask.input.first().is_some_and(|byte| b"NFTS.zZ){".contains(&(byte & 0x7F)));
+    sheets()
+        .chain(code_faults())
+        .chain(code_strings())
+        .chain(short_inputs().filter(may_be_whole))
+        .chain((4..=6).flat_map(move |len| over_alphabet(len, of_each_length)))
+        .chain(deep_inputs(&[1990, 1999, 2000]))
+        .chain(random_inputs(14, random))
+        .chain(of_modules(modules))
+}
+
 /// P1 to P12 of document 01.
 fn sheets() -> impl Iterator<Item = Ask> {
     let sheet = |nesting, input: &[u8]| Ask { input: input.to_vec(), nesting };
@@ -98,6 +112,26 @@ fn code_faults() -> impl Iterator<Item = Ask> {
     let referring = codes.clone().into_iter().map(|code| [b")\x02\xCE".as_slice(), &code].concat());
     let inputs: Vec<_> = referring.chain(codes).collect();
     inputs.into_iter().map(|input| Ask { input, nesting: MOST_NESTING })
+}
+
+/// Codes with strings about as long as the short letter holds, ASCII to the end or not, as names, as a local name, as file,
+/// name and qualified name.
+pub fn code_strings() -> impl Iterator<Item = Ask> {
+    let string = |len: usize, last: &str| {
+        let text = "n".repeat(len - last.len()) + last;
+        [b"u", &(len as u32).to_le_bytes()[..], text.as_bytes()].concat()
+    };
+    let lengths = [1, 2, 127, 128, 253, 254, 255, 256, 257, 258, 511, 512];
+    let strings = lengths.into_iter().flat_map(move |len| ["", "m", "\x7f", "\u{80}"].map(|last| (len, last)));
+    let fitting = strings.filter(|(len, last)| *len >= last.len()).map(move |(len, last)| string(len, last));
+    fitting.flat_map(|string| {
+        [2, 3, 5, 6, 7].map(|i| {
+            let tuple = [b")\x01", &string[..]].concat();
+            let mut parts = PARTS;
+            parts[i] = if i < 5 { &tuple } else { &string };
+            Ask { input: code_of([0; 5], parts), nesting: MOST_NESTING }
+        })
+    })
 }
 
 const LETTERS: &[u8] = b"0NFTS.iIlgfxystr()[{cu<>:aAzZ";
