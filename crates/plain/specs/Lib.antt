@@ -1,1 +1,3 @@
-pub mod Plain
+pub mod Fronts
+pub mod Readings
+pub mod Turns

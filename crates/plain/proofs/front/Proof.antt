@@ -1,15 +1,10 @@
 -- `front` is the steps' own front where it takes a value; a law for a reference and one for a leaf.
 -- Assumes nothing.
-use Rattle.plain.proofs.Laws.{front-refers, front-leaf}
+use Rattle.plain.proofs.Fronts.{front-refers, front-leaf}
 use borrow.Author.Needs.{needs}
 use Rattle.plain.proofs.front.Statement.{statement}
 use Rattle.plain.proofs.front.Tie as tie
-use Rattle.plain.proofs.front.Reads as reads
 use Rattle.plain.proofs.front.Lts as lts
-use Rattle.fields.proofs.class_of.Reads as class-of-reads
-use Rattle.plain.proofs.leaf.Reads as leaf-reads
-use Rattle.plain.proofs.reference.Reads as reference-reads
-use Rattle.steps.proofs.byte_at.Reads as byte-at-reads
 
 -- src/lib.rt:75:9
 returns : tie.Need-returns
@@ -56,12 +51,12 @@ returns-5 : tie.Need-returns-5
 returns-5 c = search needs
 
 -- src/lib.rt:93:34
-add-leaf : tie.Need-add-leaf
-add-leaf c = search needs
+add-head : tie.Need-add-head
+add-head c = search needs
 
 -- src/lib.rt:93:5
-leaf-requires : tie.Need-leaf-requires
-leaf-requires c κs = search needs
+head-requires : tie.Need-head-requires
+head-requires c κs = search needs
 
 -- src/lib.rt:69:1
 returns-6 : tie.Need-returns-6
@@ -82,6 +77,6 @@ front-spec =
     add-if4
     returns-4
     returns-5
-    add-leaf
-    leaf-requires
+    add-head
+    head-requires
     returns-6)

@@ -1,69 +1,76 @@
--- `leaf` takes a node that has no children.
+-- `leaf` reads what `front` takes; a law of Leaves for each way out.
 -- Assumes nothing.
-use Rattle.plain.proofs.Laws.{leaf-opened}
+use native.Mathlib.Omega.{arith}
+use Rattle.plain.proofs.Leaves.{leaf-head, takes-none, takes-known, takes-leaf}
 use borrow.Author.Needs.{needs}
 use Rattle.plain.proofs.leaf.Statement.{statement}
 use Rattle.plain.proofs.leaf.Tie as tie
-use Rattle.plain.proofs.leaf.Reads as reads
-use Rattle.plain.proofs.leaf.Lts as lts
-use Rattle.plain.proofs.read_leaf.Reads as read-leaf-reads
 
--- src/lib.rt:48:11
-read-leaf-requires : tie.Need-read-leaf-requires
-read-leaf-requires c κs = search needs
+front-requires : tie.Need-front-requires
+front-requires c κs = search needs
 
--- src/lib.rt:49:42
 enum-told : tie.Need-enum-told
 enum-told c = search needs
 
--- src/lib.rt:50:30
-enum-known-place : tie.Need-enum-known-place
-enum-known-place c = search needs
+enum-known-o : tie.Need-enum-known-o
+enum-known-o c = search needs
 
--- src/lib.rt:51:36
-enum-told-2 : tie.Need-enum-told-2
-enum-told-2 c = search needs
+enum-known-o-2 : tie.Need-enum-known-o-2
+enum-known-o-2 c = search needs
 
--- src/lib.rt:52:36
-enum-told-3 : tie.Need-enum-told-3
-enum-told-3 c = search needs
+add-t17 : tie.Need-add-t17
+add-t17 c = omega (arith, c .before .before .before .before .before .before .before .before .before .pre, (leaf-head (c .before .before .before .before .front .ensures) (c .before .before .o2 .given .1)))
 
--- src/lib.rt:53:33
-enum-known-kids : tie.Need-enum-known-kids
-enum-known-kids c = search needs
+add-t18 : tie.Need-add-t18
+add-t18 c = search needs
 
--- src/lib.rt:55:21
+add-t19 : tie.Need-add-t19
+add-t19 c = omega (arith, c .before .before .before .before .before .before .before .before .before .before .before .pre, (leaf-head (c .before .before .before .before .before .before .front .ensures) (c .before .before .before .before .o2 .given .1)))
+
+write-node-requires : tie.Need-write-node-requires
+write-node-requires c κs = omega (arith, c .before .before .before .before .before .before .before .before .before .before .before .before .pre, (leaf-head (c .before .before .before .before .before .before .before .front .ensures) (c .before .before .before .before .before .o2 .given .1)))
+
+fill-slot-requires : tie.Need-fill-slot-requires
+fill-slot-requires c κs = (omega (arith, c .before .before .before .before .before .before .before .before .before .before .before .before .before .before .before .before .pre, (leaf-head (c .before .before .before .before .before .before .before .before .before .before .before .front .ensures) (c .before .before .before .before .before .before .before .before .before .o2 .given .1))), omega (arith, c .before .before .before .before .before .before .before .before .before .before .before .before .before .before .before .before .pre, (leaf-head (c .before .before .before .before .before .before .before .before .before .before .before .front .ensures) (c .before .before .before .before .before .before .before .before .before .o2 .given .1))))
+
+same-length : tie.Need-same-length
+same-length c = search needs
+
 returns : tie.Need-returns
-returns c = search needs
+returns c = search (takes-none, needs)
 
--- src/lib.rt:44:1
+same-length-2 : tie.Need-same-length-2
+same-length-2 c = search needs
+
 returns-2 : tie.Need-returns-2
-returns-2 c = search needs
+returns-2 c = search (takes-known, needs)
 
--- src/lib.rt:44:1
+same-length-3 : tie.Need-same-length-3
+same-length-3 c = search needs
+
+same-length-4 : tie.Need-same-length-4
+same-length-4 c = search needs
+
 returns-3 : tie.Need-returns-3
-returns-3 c = search needs
-
--- src/lib.rt:44:1
-returns-4 : tie.Need-returns-4
-returns-4 c = search needs
-
--- src/lib.rt:44:1
-returns-5 : tie.Need-returns-5
-returns-5 c = search (leaf-opened, needs)
+returns-3 c = takes-leaf (c .before .before .before .before .before .before .before .before .before .before .before .before .before .before .front .ensures) (c .before .before .before .before .before .before .before .before .before .before .before .before .o2 .given .1) (c .before .before .before .before .before .before .write-node .ensures) (c .before .before .fill-slot .ensures)
 
 pub leaf-spec : {M : Type 1} → statement M
 leaf-spec =
     tie.close
     (tie.spec
-    read-leaf-requires
+    front-requires
     enum-told
-    enum-known-place
-    enum-told-2
-    enum-told-3
-    enum-known-kids
+    enum-known-o
+    enum-known-o-2
+    add-t17
+    add-t18
+    add-t19
+    write-node-requires
+    fill-slot-requires
+    same-length
     returns
+    same-length-2
     returns-2
-    returns-3
-    returns-4
-    returns-5)
+    same-length-3
+    same-length-4
+    returns-3)

@@ -6,16 +6,11 @@ use Rattle.grammar.specs.Fields.{fields}
 use Rattle.fields.specs.Behind.{fieldsOf}
 use Rattle.fields.specs.Classes.{classes, classAt}
 use Rattle.fields.proofs.Laws.{of-class}
-use Rattle.plain.proofs.Laws.{spans-read}
+use Rattle.plain.proofs.Fronts.{spans-read}
 use borrow.Author.Needs.{needs}
 use Rattle.plain.proofs.read_leaf.Statement.{statement}
 use Rattle.plain.proofs.read_leaf.Tie as tie
-use Rattle.plain.proofs.read_leaf.Reads as reads
 use Rattle.plain.proofs.read_leaf.Lts as lts
-use Rattle.fields.proofs.read_bytes.Reads as read-bytes-reads
-use Rattle.fields.proofs.read_fixed.Reads as read-fixed-reads
-use Rattle.fields.proofs.read_short.Reads as read-short-reads
-use Rattle.fields.proofs.read_text.Reads as read-text-reads
 
 -- src/lib.rt:34:27
 read-fixed-requires : tie.Need-read-fixed-requires

@@ -1,12 +1,10 @@
 -- `reference` takes what `resolve_ref` knows.
 -- Assumes nothing.
-use Rattle.plain.proofs.Laws.{refers-known}
+use Rattle.plain.proofs.Fronts.{refers-known}
 use borrow.Author.Needs.{needs}
 use Rattle.plain.proofs.reference.Statement.{statement}
 use Rattle.plain.proofs.reference.Tie as tie
-use Rattle.plain.proofs.reference.Reads as reads
 use Rattle.plain.proofs.reference.Lts as lts
-use Rattle.steps.proofs.resolve_ref.Reads as resolve-ref-reads
 
 -- src/lib.rt:20:11
 resolve-ref-requires : tie.Need-resolve-ref-requires

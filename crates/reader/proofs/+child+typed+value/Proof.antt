@@ -3,10 +3,10 @@
 use lib.ListN.{length}
 use native.Mathlib.Omega.{arith}
 use mathlib.Core.Path.{refl}
-use Rattle.reader.proofs.Chains.{stands-safe}
-use Rattle.reader.proofs.Values.{head-in, inside-safe, inside-line, value-refused, value-known, value-cut, value-whole}
-use Rattle.reader.proofs.Children.{child-cut, child-unfit, child-linked, attach-asks}
-use Rattle.reader.proofs.Bodies.{InvBody, below-le, body-start, body-done, body-refused, body-stands, body-cut, body-next, body-less}
+use Rattle.plain.proofs.Chains.{stands-safe}
+use Rattle.plain.proofs.Values.{head-in, inside-safe, inside-line, value-refused, value-known, value-cut, value-whole}
+use Rattle.plain.proofs.Children.{child-cut, child-unfit, child-linked, attach-asks}
+use Rattle.plain.proofs.Bodies.{InvBody, below-le, body-start, body-done, body-refused, body-stands, body-cut, body-next, body-less}
 use borrow.Author.Needs.{needs}
 use Prim.Native.Nat.{ℕ, _+_, _-_, _*_, _<_}
 use borrow.Fn.Kinds.{In}

@@ -24,7 +24,7 @@ use Rattle.steps.specs.Opening.{References, Opens, Fronts}
 use Rattle.steps.proofs.Fronts.{node-opened, front-known, front-opened}
 use Rattle.plain.specs.declared.Plain.{Plain}
 use Rattle.plain.specs.declared.Plain.the-variants as plain
-use Rattle.plain.specs.Plain.{RefersTo, Refers, SpansOf, Spans, LeafOf, Leafs, FrontOf, Plainly}
+use Rattle.plain.specs.Fronts.{RefersTo, Refers, SpansOf, Spans, LeafOf, Leafs, FrontOf, Plainly}
 
 -- A reference.
 pub refers-known : {s slots : List ℕ} {at : ℕ} {o : Opened} {v a : ℕ} → References s slots at o → o ≡ opened.Known v a → Refers s slots at (plain.Known v a)
