@@ -1,5 +1,5 @@
-// Plain values, a reference or a leaf that a few steps read, and the loop over children as long as they are plain. Most children are:
-// a loop in which no reader calls itself is some five times as fast. What is not plain is left to the reader of any value.
+// Plain values, a reference or a leaf that a few steps read, and the loop over children as long as they are plain. Most children are,
+// and a loop in which no reader calls itself is some five times as fast. What is not plain is left to the reader of any value.
 ghost use mathlib.Core.Path.{_≡_};
 ghost use Prim.Native.Nat.{_+_, _≤_, _<_};
 ghost use lib.ListN.{length};
@@ -29,7 +29,8 @@ fn reference(s: &[u8], slots: &[u32], at: u32) -> Plain
     }
 }
 
-// The fields of the classes that are read in a few steps.
+// The fields of the classes that are read in a few steps. Any other class is answered as fields that are refused are: both are left to
+// others.
 fn read_leaf(s: &[u8], class: u32, at: u32) -> fields::Behind
     requires { ⌜ (at ≤ length (now s)) × (length (now s) ≤ mostBytes) ⌝ }
     ensures { λ r. ⌜ Spans (now (s .entry)) class at r ⌝ }
@@ -150,7 +151,7 @@ fn leaf(
     }
 }
 
-// One child that is plain, as `child` reads it.
+// One child that is plain, as the reader's `child` reads any.
 fn leaf_child(
     s: &[u8],
     nodes: &mut [u32],
@@ -181,8 +182,7 @@ fn leaf_child(
     }
 }
 
-// Plain children one after another: to the first that is not plain, to the last, or to a refusal. No reader calls itself here, and so
-// the loop is short.
+// Plain children one after another: to the first that is not plain, to the last, or to a refusal.
 pub fn run(
     s: &[u8],
     nodes: &mut [u32],

@@ -82,7 +82,7 @@ fn value(
 
 // The children of a container, or the parts of a code, one after another; the Rust's deserialize_value_typed and
 // deserialize_code_value_inner. It has the value's allowance less one, and hands it on to children; a code's body hands its parts one
-// less again.
+// less again. `plain::run` reads those that are plain, `child` any other.
 fn typed(
     s: &[u8],
     nodes: &mut [u32],
