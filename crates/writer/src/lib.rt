@@ -23,6 +23,7 @@ ghost use Rattle.tables.specs.Looking.{lent, isSome, stringAt, Held};
 ghost use Rattle.tables.specs.Groups.{inGroup, groupIn, localsIn, kindsIn, namesIn, Listed};
 ghost use Rattle.writing.specs.Answer.{mostOutput, written};
 ghost use Rattle.writer.specs.Entry.{tablesOf, Serialized};
+ghost use Rattle.writer.specs.Leaves.{textIf, LeafIs, Leaves};
 ghost use Rattle.writer.specs.Heads.{kidsFrom, Localed, wholeOf, rowOf, pairsOf, partsOf, Fronts, Heads, Levels, PartIn, linedPart, Coded, rowOfNode, lineOf};
 
 // What stands in front of a node's children: it is refused, or whole already; or its children, a dict's pairs, or a code's parts come next.
@@ -399,6 +400,64 @@ fn open_node(
     }
     let n = tables::node_at(nodes, node);
     write_front(s, out, n, fields::class_of(n.letter), at)
+}
+
+// How a node without children is written, if it is of a common kind and its record is sound.
+pub enum Leaf {
+    Other,
+    Four,
+    Bytes,
+    Text,
+}
+
+// Whether the contents of a string are well formed.
+fn text_if(formed: bool) -> Leaf
+    ensures { λ r. ⌜ r ≡ textIf formed ⌝ }
+{
+    if formed { Leaf::Text } else { Leaf::Other }
+}
+
+fn leaf_of(s: &[u8], n: records::Node) -> Leaf
+    requires { ⌜ length (now s) ≤ mostBytes ⌝ }
+    ensures { λ r. ⌜ LeafIs (now (s .entry)) (nodeOf n) r ⌝ }
+{
+    if n.count != 0 {
+        return Leaf::Other;
+    }
+    if s.len() < n.place as usize + n.size as usize {
+        return Leaf::Other;
+    }
+    match fields::class_of(n.letter) {
+        fields::FIXED4 => {
+            if n.size != 4 {
+                return Leaf::Other;
+            }
+            Leaf::Four
+        }
+        fields::BYTES => Leaf::Bytes,
+        fields::TEXT => text_if(records::well_formed(s, n.place, n.size)),
+        fields::SHORT => {
+            if 255 < n.size {
+                return Leaf::Other;
+            }
+            text_if(records::well_formed(s, n.place, n.size))
+        }
+        _ => Leaf::Other,
+    }
+}
+
+// The same of a node of the stores that has a level left.
+fn leaf_at(s: &[u8], nodes: &[u32], used: tables::Used, allowance: u32, node: u32) -> Leaf
+    requires { ⌜ length (now s) ≤ mostBytes ⌝ }
+    ensures { λ r. ⌜ Leaves (now (s .entry)) (now (nodes .entry)) used allowance node r ⌝ }
+{
+    if allowance == 0 {
+        return Leaf::Other;
+    }
+    if records::nodes_in(nodes, used.nodes) <= node {
+        return Leaf::Other;
+    }
+    leaf_of(s, records::node_at(nodes, node))
 }
 
 // A first line of 0 or less is written as 0.
