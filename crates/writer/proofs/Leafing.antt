@@ -18,14 +18,20 @@ use Rattle.grammar.specs.State.{Node, nodeAt}
 use Rattle.grammar.specs.Record.{Tables, nodeOf, nodesIn, chain, whole, sound, soundAt, ruled, readsAs}
 use Rattle.writing.specs.Writing.{Writing}
 use Rattle.writing.specs.Steps.{writing, isCode}
+use Rattle.puts.specs.declared.Wrote.{Wrote}
+use Rattle.puts.specs.declared.Wrote.the-variants as wrote
+use Rattle.puts.specs.Puts.{Puts}
 use Rattle.tables.specs.declared.Used.{Used}
 use Rattle.tables.specs.Looking.{Held, lent}
 use Rattle.tables.proofs.Codes.{only-code, code-class, look-plain}
 use Rattle.writer.specs.declared.Leaf.{Leaf}
 use Rattle.writer.specs.declared.Leaf.the-variants as leaf
-use Rattle.writer.specs.Leaves.{Leafed, LeafIs, LeafAt, Leaves, textIf}
+use Rattle.writer.specs.declared.Led.{Led}
+use Rattle.writer.specs.declared.Led.the-variants as led
+use Rattle.writer.specs.Leaves.{Leafed, fourOf, bytesOf, textOf, LeafIs, LeafAt, Leaves, textIf, ledOf, LeadAs, Leads}
 use Rattle.writer.specs.Heads.{outOfLevels}
 use Rattle.writer.proofs.Fronting.{as-four, as-bytes, as-text, as-short}
+use Rattle.writer.proofs.Naming.{puts-equal}
 use Rattle.writer.proofs.Opening.{partsBy, writing-holds}
 
 -- The record of each kind.
@@ -148,3 +154,35 @@ leaf-held s nodes used a n {N} {r} level below is told =
 
 pub leaf-other : (s nodes : List ℕ) (used : Used) (a n : ℕ) → Leaves s nodes used a n leaf.Other
 leaf-other s nodes used a n = record { tells = λ entries. tt }
+
+-- A leaf that was written, by the numbers that were read of it.
+
+module _ {s nodes : List ℕ} {used : Used} {a n : ℕ} {N : Node} (is : N ≡ nodeAt nodes n) {r : Leaf} (told : Leaves s nodes used a n r) where
+  pub four-in : r ≡ leaf.Four → N .place + 4 ≤ length s
+  four-in e = subst (λ (m : Node). m .place + 4 ≤ length s) (sym is) (subst (LeafAt (lent s nodes [] used) a n) e (told .tells []) .1)
+
+  pub bytes-in : r ≡ leaf.Bytes → N .place + N .size ≤ length s
+  bytes-in e = subst (λ (m : Node). m .place + m .size ≤ length s) (sym is) (subst (LeafAt (lent s nodes [] used) a n) e (told .tells []) .1)
+
+  pub text-in : r ≡ leaf.Text → N .place + N .size ≤ length s
+  text-in e = subst (λ (m : Node). m .place + m .size ≤ length s) (sym is) (subst (LeafAt (lent s nodes [] used) a n) e (told .tells []) .1)
+
+  module _ {at : ℕ} {o o′ : List ℕ} {w : Wrote} {q : Led} where
+    leads : ((entries : List ℕ) → Puts (writing a (lent s nodes entries used) n) at o w o′) → q ≡ ledOf w → Leads s nodes used a n at o q o′
+    leads put e = rw e (record { same = put [] .same; tells = λ entries. go (lent s nodes entries used) w (put entries) })
+      where
+        go : (t : Tables) (w : Wrote) → Puts (writing a t n) at o w o′ → LeadAs t a n at o (ledOf w) o′
+        go t (wrote.Done p) k = k
+        go t (wrote.Refused number place) k = k
+
+    pub four-led : r ≡ leaf.Four → Puts (fourOf s N) at o w o′ → q ≡ ledOf w → Leads s nodes used a n at o q o′
+    four-led e put = leads (λ entries. puts-equal put (subst (LeafAt (lent s nodes entries used) a n) e (told .tells entries) .0 ∙ ap (fourOf s) (sym is)))
+
+    pub bytes-led : r ≡ leaf.Bytes → Puts (bytesOf s N) at o w o′ → q ≡ ledOf w → Leads s nodes used a n at o q o′
+    bytes-led e put = leads (λ entries. puts-equal put (subst (LeafAt (lent s nodes entries used) a n) e (told .tells entries) .0 ∙ ap (bytesOf s) (sym is)))
+
+    pub text-led : r ≡ leaf.Text → Puts (textOf s N) at o w o′ → q ≡ ledOf w → Leads s nodes used a n at o q o′
+    text-led e put = leads (λ entries. puts-equal put (subst (LeafAt (lent s nodes entries used) a n) e (told .tells entries) .0 ∙ ap (textOf s) (sym is)))
+
+pub left-led : {s nodes : List ℕ} {used : Used} {a n at : ℕ} {o : List ℕ} → Leads s nodes used a n at o led.Left o
+left-led = record { same = refl; tells = λ entries. refl }

@@ -6,3 +6,4 @@ pub mod Leafing
 pub mod Coding
 pub mod Finishing
 pub mod Unread
+pub mod Leading

@@ -1,22 +1,31 @@
--- A node without children whose record is sound is written at once: which of the common kinds it is, and its bytes.
--- Nothing is said of a node that is left to the writer of values.
+-- A node without children whose record is sound is written at once: which of the common kinds it is, and its bytes; and a row of
+-- children as far as they are such leaves. Nothing is said of a node that is left to the writer of values.
 use mathlib.Core.Path.{_≡_}
-use Prim.Native.Nat.{ℕ, _+_, _≤_}
+use Prim.Native.Nat.{ℕ, _+_, _-_, _≤_}
 use mathlib.Core.Bool.{Bool, true, false}
 use mathlib.Core.List.{List, _∷_}
 use lib.ListN.{length}
 use Rattle.grammar.specs.Letters.{codes, classOf}
 use Rattle.grammar.specs.Fields.{contents}
 use Rattle.grammar.specs.State.{Node}
-use Rattle.grammar.specs.Record.{Tables, nodeOf, sound}
-use Rattle.writing.specs.Writing.{Writing, ended, emit}
+use Rattle.grammar.specs.Record.{Tables, nodeOf, sound, chain}
+use Rattle.writing.specs.Writing.{Writing, ended, emit, each}
 use Rattle.writing.specs.Canonical.{sized}
 use Rattle.writing.specs.Shape.{classed}
 use Rattle.writing.specs.Steps.{shaped, writing}
 use Rattle.tables.specs.declared.Used.{Used}
-use Rattle.tables.specs.Looking.{lent}
+use Rattle.puts.specs.declared.Wrote.{Wrote}
+use Rattle.puts.specs.declared.Wrote.the-variants as wrote
+use Rattle.puts.specs.Puts.{Puts}
+use Rattle.tables.specs.Looking.{lent, isSome}
+use Rattle.writer.specs.Onward.{Onward}
+use Rattle.writer.specs.Heads.{kidsFrom}
 use Rattle.writer.specs.declared.Leaf.{Leaf}
 use Rattle.writer.specs.declared.Leaf.the-variants as leaf
+use Rattle.writer.specs.declared.Led.{Led}
+use Rattle.writer.specs.declared.Led.the-variants as led
+use Rattle.writer.specs.declared.Rowed.{Rowed}
+use Rattle.writer.specs.declared.Rowed.the-variants as rowed
 
 -- a sound record without children, which is written as w
 pub record Leafed (s : List ℕ) (n : Node) (w : Writing) : Type 0 where
@@ -55,3 +64,30 @@ LeafAt t a n leaf.Text = (writing a t n ≡ textOf (t .input) (nodeOf t n)) × (
 -- entries are not asked
 pub record Leaves (s nodes : List ℕ) (used : Used) (a n : ℕ) (r : Leaf) : Type 0 where
   pub tells : (entries : List ℕ) → LeafAt (lent s nodes entries used) a n r
+
+abbrev pub ledOf : Wrote → Led
+ledOf (wrote.Done a) = led.On a
+ledOf (wrote.Refused number place) = led.Refused number place
+
+-- A leaf is written as the value is, or it is left and nothing is written.
+abbrev pub LeadAs : Tables → (allowance node at : ℕ) → (before : List ℕ) → Led → (after : List ℕ) → Type 0
+LeadAs t a n at o (led.On p) o′ = Puts (writing a t n) at o (wrote.Done p) o′
+LeadAs t a n at o (led.Refused number place) o′ = Puts (writing a t n) at o (wrote.Refused number place) o′
+LeadAs t a n at o led.Left o′ = o′ ≡ o
+
+pub record Leads (s nodes : List ℕ) (used : Used) (a n at : ℕ) (o : List ℕ) (r : Led) (o′ : List ℕ) : Type 0 where
+  pub same : length o′ ≡ length o
+  pub tells : (entries : List ℕ) → LeadAs (lent s nodes entries used) a n at o r o′
+
+-- the writing of what is left of a row of so many children, of which some are done
+abbrev pub rowFrom : Tables → (allowance count first done : ℕ) → Writing
+rowFrom t a count first done = each (writing a t) (kidsFrom t (count - done) first)
+
+abbrev pub RowAs : Tables → (allowance count first done at : ℕ) → (before : List ℕ) → Rowed → (after : List ℕ) → Type 0
+RowAs t a count e i at o (rowed.On e′ i′ p) o′ =
+    Onward o at (rowFrom t a count e i) o′ p (rowFrom t a count e′ i′) × (isSome (chain t (count - i′) e′) ≡ true) × (i ≤ i′) × (i′ ≤ count)
+RowAs t a count e i at o (rowed.Refused number place) o′ = Puts (rowFrom t a count e i) at o (wrote.Refused number place) o′
+
+pub record Rows (t : Tables) (a count e i at : ℕ) (o : List ℕ) (r : Rowed) (o′ : List ℕ) : Type 0 where
+  pub same : length o′ ≡ length o
+  pub stands : RowAs t a count e i at o r o′
