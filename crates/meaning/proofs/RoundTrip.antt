@@ -36,7 +36,8 @@ use Rattle.meaning.proofs.Octets.{octets, below-append, below-at}
 use Rattle.meaning.proofs.Stores.{in-tables}
 use Rattle.meaning.proofs.TheoremA.{root-means, answer-gives}
 use Rattle.meaning.proofs.TheoremB.{read-back, reads-value, goes-somewhere, none-claimed, at-start}
-use Rattle.meaning.proofs.TheoremC.{emits-written, in-order-same}
+use Rattle.meaning.proofs.TheoremC.{emits-written}
+use Rattle.meaning.proofs.NameOrder.{in-order-same}
 use Rattle.meaning.proofs.Unique.{means-value, means-one, by-tables, by-state, worth}
 
 -- Theorem C, of the whole answer: exactly what is written of the value where it fits, and the refusal of room where it does not.

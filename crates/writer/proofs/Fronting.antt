@@ -16,6 +16,7 @@ use Rattle.grammar.specs.State.{Node}
 use Rattle.grammar.specs.Record.{sound, ruled, readsAs, counted}
 use Rattle.grammar.proofs.Tests.{never, both-true}
 use Rattle.grammar.proofs.Passed.{sound-ruled, code-ruled}
+use Rattle.fields.specs.Classes.{classes, classAt}
 use Rattle.writing.specs.Writing.{Writing, ended, emit, then, each}
 use Rattle.writing.specs.Canonical.{bytes32, bytes64, sized, integerBytes, ofBits}
 use Rattle.writing.specs.Shape as shape
@@ -157,6 +158,21 @@ module _ (s : List ℕ) (n : Node) (ok : sound s n ≡ true) where
 
   pub code-numbers : classOf (n .letter) ≡ codes → n .place + 20 ≤ length s
   code-numbers is = omega (arith, sound-within, code-ruled s n (sym (ap (ruled s n) is) ∙ rules) .numbers)
+
+  -- whatever is none of the first twelve classes is a code
+  pub code-else : (class : ℕ) → 12 ≤ class → classAt class ≡ classOf (n .letter) → classOf (n .letter) ≡ codes
+  unfolding classAt classes
+  code-else class h is = go class h (ap (ruled s n) is ∙ rules) is
+    where
+      kept : (k : ℕ) → ruled s n (classAt (after12 k)) ≡ true → classAt (after12 k) ≡ codes
+      kept zero r = refl
+      kept (suc zero) r = never r
+      kept (suc (suc k)) r = never r
+
+      go : (class : ℕ) → 12 ≤ class → ruled s n (classAt class) ≡ true → classAt class ≡ classOf (n .letter) → classOf (n .letter) ≡ codes
+      go class h r e =
+          let z : after12 (class - 12) ≡ class = omega arith in
+          sym e ∙ sym (ap classAt z) ∙ kept (class - 12) (ap (λ k. ruled s n (classAt k)) z ∙ r)
 
 -- What each class is written as.
 module _ (s : List ℕ) (small : (i : ℕ) → getD s i 0 < 256) (n : Node) where
