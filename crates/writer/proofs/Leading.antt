@@ -11,13 +11,16 @@ use Rattle.writing.specs.Steps.{writing}
 use Rattle.puts.specs.declared.Wrote.{Wrote}
 use Rattle.puts.specs.declared.Wrote.the-variants as wrote
 use Rattle.puts.specs.Puts.{Puts}
-use Rattle.tables.specs.Looking.{isSome}
+use Rattle.tables.specs.declared.Used.{Used}
+use Rattle.tables.specs.Looking.{lent, isSome}
 use Rattle.tables.specs.Groups.{orNone}
 use Rattle.writer.specs.declared.Rowed.{Rowed}
 use Rattle.writer.specs.declared.Rowed.the-variants as rowed
 use Rattle.writer.specs.Onward.{Onward}
 use Rattle.writer.specs.Heads.{kidsFrom}
-use Rattle.writer.specs.Leaves.{rowFrom, RowAs, Rows}
+use Rattle.writer.specs.declared.Led.{Led}
+use Rattle.writer.specs.declared.Led.the-variants as led
+use Rattle.writer.specs.Leaves.{LeadAs, Leads, rowFrom, RowAs, Rows}
 use Rattle.writer.proofs.Under.{start, left-as, later, last, Rowing, some-of}
 
 -- a writing that goes on from where another stands
@@ -57,6 +60,34 @@ module _ (t : Tables) (a count : ℕ) where
         way = onward-on (row-left k .0) (told .0);
       }
 
+  pub row-ahead : {o o′ : List ℕ} {i e p : ℕ} {r : Rowed} {e′ i′ p′ : ℕ} → Rows t a count e i p o r o′ → r ≡ rowed.On e′ i′ p′ → i ≤ i′
+  row-ahead {o = o} {o′ = o′} {i = i} {e = e} {p = p} rows is = subst (λ x. RowAs t a count e i p o x o′) is (rows .stands) .2
+
   pub row-led-refused : {o₀ o o′ : List ℕ} {at : ℕ} {w₀ : Writing} {i e p : ℕ} {r : Rowed} {number place : ℕ} → Rowing t (writing a t) (λ vs. Unit) count o₀ at w₀ o i e p
       → Rows t a count e i p o r o′ → r ≡ rowed.Refused number place → Puts w₀ at o₀ (wrote.Refused number place) o′
   row-led-refused {o = o} {o′ = o′} {i = i} {e = e} {p = p} k rows is = last (row-left k .0) (subst (λ x. RowAs t a count e i p o x o′) is (rows .stands))
+
+  -- what is done of a row, told as its answer
+  pub rows-on : {o₀ o o′ : List ℕ} {at first done i e p : ℕ} → Rowing t (writing a t) (λ vs. Unit) count o₀ at (rowFrom t a count first done) o i e p → done ≤ i
+      → o′ ≡ o → Rows t a count first done at o₀ (rowed.On e i p) o′
+  rows-on {o₀} {at = at} {first = first} {done = done} {i = i} {e = e} {p = p} k h is =
+      let left = row-left (subst (λ x. Rowing t (writing a t) (λ vs. Unit) count o₀ at (rowFrom t a count first done) x i e p) (sym is) k) in
+      record { same = left .0 .same; stands = (left .0, left .1, h, k .within) }
+
+  pub rows-refused : {o₀ o′ : List ℕ} {at first done number place : ℕ} → Puts (rowFrom t a count first done) at o₀ (wrote.Refused number place) o′
+      → Rows t a count first done at o₀ (rowed.Refused number place) o′
+  rows-refused put = record { same = put .same; stands = put }
+
+-- a leaf's answer, case by case
+module _ {s nodes : List ℕ} (entries : List ℕ) {used : Used} {a n at : ℕ} {o o′ : List ℕ} {r : Led} (k : Leads s nodes used a n at o r o′) where
+  told : {r′ : Led} → r ≡ r′ → LeadAs (lent s nodes entries used) a n at o r′ o′
+  told e = subst (λ x. LeadAs (lent s nodes entries used) a n at o x o′) e (k .tells entries)
+
+  pub led-on : {p : ℕ} → r ≡ led.On p → Puts (writing a (lent s nodes entries used) n) at o (wrote.Done p) o′
+  led-on e = told e
+
+  pub led-refused : {number place : ℕ} → r ≡ led.Refused number place → Puts (writing a (lent s nodes entries used) n) at o (wrote.Refused number place) o′
+  led-refused e = told e
+
+  pub led-left : r ≡ led.Left → o′ ≡ o
+  led-left e = told e
