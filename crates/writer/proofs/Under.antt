@@ -23,6 +23,12 @@ use Rattle.tables.proofs.Chains.{onto, headed, chain-none}
 use Rattle.writer.specs.Onward.{Onward}
 use Rattle.writer.specs.Heads.{kidsFrom}
 
+-- what is untouched from a place on is so from a later one
+pub later : (o o₀ : List ℕ) (p a : ℕ) → drop p o ≡ drop p o₀ → p ≤ a → drop a o ≡ drop a o₀
+later o o₀ p a e h =
+    let n : p + (a - p) ≡ a = omega arith in
+    sym (ap (λ m. drop m o) n) ∙ sym (drop-drop (a - p) p o) ∙ ap (drop (a - p)) e ∙ drop-drop (a - p) p o₀ ∙ ap (λ m. drop m o₀) n
+
 pub start : {o : List ℕ} {at : ℕ} {w : Writing} → at ≤ length o → Onward o at w o at w
 start h = record { same = refl; ahead = omega arith; inside = h; kept = refl; comes = refl }
 
@@ -61,14 +67,9 @@ module _ {o₀ : List ℕ} {at : ℕ} {w₀ : Writing} {o : List ℕ} {p : ℕ} 
           same = put .same ∙ k .same;
           ahead = omega (arith, k .ahead, e .1);
           inside = omega (arith, k .same, e .2);
-          kept = e .3 ∙ later (k .kept) (e .1);
+          kept = e .3 ∙ later o o₀ p a (k .kept) (e .1);
           comes = sym (into-then (length o₀) (take p o) u v (take a o′) (ap (λ n. into n (take p o) u) (sym (k .same)) ∙ e .0)) ∙ k .comes;
         }
-      where
-        later : drop p o ≡ drop p o₀ → p ≤ a → drop a o ≡ drop a o₀
-        later e h =
-            let n : p + (a - p) ≡ a = omega arith in
-            sym (ap (λ m. drop m o) n) ∙ sym (drop-drop (a - p) p o) ∙ ap (drop (a - p)) e ∙ drop-drop (a - p) p o₀ ∙ ap (λ m. drop m o₀) n
 
 -- the last put answers for all
 pub last : {o₀ : List ℕ} {at : ℕ} {w₀ : Writing} {o : List ℕ} {p : ℕ} {o′ : List ℕ} {u : Writing} {r : Wrote} → Onward o₀ at w₀ o p u → Puts u p o r o′ → Puts w₀ at o₀ r o′
@@ -86,7 +87,7 @@ pub record Rowing (t : Tables) (f : ℕ → Writing) (Fine : List ℕ → Type 0
   pub fine : Fine rest
   pub way : Onward o₀ at w₀ o p (each f rest)
 
-some-of : (c : Option (List ℕ)) → isSome c ≡ true → c ≡ some (orNone c)
+pub some-of : (c : Option (List ℕ)) → isSome c ≡ true → c ≡ some (orNone c)
 some-of none h = never h
 some-of (some vs) h = refl
 
