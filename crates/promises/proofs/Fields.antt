@@ -89,3 +89,15 @@ argument-sum-agrees κs a asked r r′ ws ws′ p p′ = (one p p′, refl)
 
 pub read-fields-agrees : Agree fields.read_fields.ended fields.read_fields.Reads.Asked fields.read_fields.Reads.Learnt
 read-fields-agrees κs a asked r r′ ws ws′ p p′ = (retold behindOf behindFrom behind-back (p .exact) (p′ .exact), refl)
+
+pub read-fixed-agrees : Agree fields.read_fixed.ended fields.read_fixed.Reads.Asked fields.read_fixed.Reads.Learnt
+read-fixed-agrees κs a asked r r′ ws ws′ p p′ = (retold behindOf behindFrom behind-back (p .exact) (p′ .exact), refl)
+
+pub read-bytes-agrees : Agree fields.read_bytes.ended fields.read_bytes.Reads.Asked fields.read_bytes.Reads.Learnt
+read-bytes-agrees κs a asked r r′ ws ws′ p p′ = (retold behindOf behindFrom behind-back (p .exact) (p′ .exact), refl)
+
+pub read-text-agrees : Agree fields.read_text.ended fields.read_text.Reads.Asked fields.read_text.Reads.Learnt
+read-text-agrees κs a asked r r′ ws ws′ p p′ = (retold behindOf behindFrom behind-back (p .exact) (p′ .exact), refl)
+
+pub read-short-agrees : Agree fields.read_short.ended fields.read_short.Reads.Asked fields.read_short.Reads.Learnt
+read-short-agrees κs a asked r r′ ws ws′ p p′ = (retold behindOf behindFrom behind-back (p .exact) (p′ .exact), refl)

@@ -37,6 +37,12 @@ front-back (opened.Known v at) = refl
 front-back (opened.Node h kids) = ap (opened.Node h) (kids-back kids)
 front-back (opened.Refused number place) = refl
 
+pub resolve-ref-agrees : Agree steps.resolve_ref.ended steps.resolve_ref.Reads.Asked steps.resolve_ref.Reads.Learnt
+resolve-ref-agrees κs a asked r r′ ws ws′ p p′ = (retold frontOf frontFrom front-back (p .exact) (p′ .exact), refl)
+
+pub byte-at-agrees : Agree steps.byte_at.ended steps.byte_at.Reads.Asked steps.byte_at.Reads.Learnt
+byte-at-agrees κs a asked r r′ ws ws′ p p′ = (one (p .0) (p′ .0), refl)
+
 pub front-agrees : Agree steps.front.ended steps.front.Reads.Asked steps.front.Reads.Learnt
 front-agrees κs a asked r r′ ws ws′ p p′ = (retold frontOf frontFrom front-back (p .exact 0) (p′ .exact 0), refl)
 
