@@ -14,6 +14,7 @@ use Rattle.puts.specs.Puts.{Puts}
 use Rattle.tables.specs.declared.Used.{Used}
 use Rattle.tables.specs.Looking.{lent, isSome}
 use Rattle.tables.specs.Groups.{orNone}
+use Rattle.tables.proofs.Groups.{some-of}
 use Rattle.writer.specs.declared.Rowed.{Rowed}
 use Rattle.writer.specs.declared.Rowed.the-variants as rowed
 use Rattle.writer.specs.Onward.{Onward}
@@ -21,7 +22,7 @@ use Rattle.writer.specs.Heads.{kidsFrom}
 use Rattle.writer.specs.declared.Led.{Led}
 use Rattle.writer.specs.declared.Led.the-variants as led
 use Rattle.writer.specs.Leaves.{LeadAs, Leads, rowFrom, RowAs, Rows}
-use Rattle.writer.proofs.Under.{start, left-as, later, last, Rowing, some-of}
+use Rattle.writer.proofs.Under.{start, left-as, later, last, Rowing}
 
 -- a writing that goes on from where another stands
 pub onward-on : {o₀ o o′ : List ℕ} {at p p′ : ℕ} {w₀ w w′ : Writing} → Onward o₀ at w₀ o p w → Onward o p w o′ p′ w′ → Onward o₀ at w₀ o′ p′ w′

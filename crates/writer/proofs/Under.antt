@@ -2,7 +2,7 @@
 use mathlib.Core.Path.{_≡_, refl, sym, ap, subst, _∙_}
 use Prim.Native.Nat.{ℕ, suc, _+_, _-_, _≤_, _<_}
 use mathlib.Core.Bool.{true}
-use mathlib.Core.Option.{Option, none, some}
+use mathlib.Core.Option.{some}
 use native.Mathlib.Omega.{arith}
 use mathlib.Core.List.{List, _∷_}
 use lib.ListN.{length, take, drop}
@@ -12,13 +12,12 @@ use Rattle.grammar.specs.State.{entryAt}
 use Rattle.grammar.specs.Record.{Tables, chain}
 use Rattle.writing.specs.Writing.{Writing, ended, refused, then, each, into}
 use Rattle.writing.specs.Answer.{mostOutput}
-use Rattle.grammar.proofs.Tests.{never}
 use Rattle.writing.proofs.Into.{then-ended, into-then, into-stops}
 use Rattle.puts.specs.declared.Wrote.{Wrote}
 use Rattle.puts.specs.declared.Wrote.the-variants as wrote
 use Rattle.puts.specs.Puts.{Open, Agrees, Puts}
 use Rattle.tables.specs.Looking.{isSome}
-use Rattle.tables.specs.Groups.{orNone}
+use Rattle.tables.proofs.Groups.{some-of}
 use Rattle.tables.proofs.Chains.{onto, headed, chain-none}
 use Rattle.writer.specs.Onward.{Onward}
 use Rattle.writer.specs.Heads.{kidsFrom}
@@ -86,10 +85,6 @@ pub record Rowing (t : Tables) (f : ℕ → Writing) (Fine : List ℕ → Type 0
   pub chained : chain t (count - i) e ≡ some rest
   pub fine : Fine rest
   pub way : Onward o₀ at w₀ o p (each f rest)
-
-pub some-of : (c : Option (List ℕ)) → isSome c ≡ true → c ≡ some (orNone c)
-some-of none h = never h
-some-of (some vs) h = refl
 
 -- the child that comes next
 pub record Turn (t : Tables) (f : ℕ → Writing) (Fine : List ℕ → Type 0) (count : ℕ) (o₀ : List ℕ) (at : ℕ) (w₀ : Writing) (o : List ℕ) (i e p v : ℕ) : Type 0 where
