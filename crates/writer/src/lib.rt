@@ -740,8 +740,8 @@ pub fn serialize_value(
 ) -> puts::Wrote
     ensures { λ r. ⌜ Serialized (written (tablesOf (now (input .entry)) (now (nodes .entry)) (now (entries .entry)) «used_nodes» «used_entries») root nesting (length (now (out .entry)))) (length (now (out .entry))) r (now (out .exit)) ⌝ }
 {
-    lent::clear_bytes(out);
     if (refusals::MOST_BYTES as usize) < input.len() {
+        lent::clear_bytes(out);
         return puts::Wrote::Refused(refusals::INPUT_TOO_LONG, 0);
     }
     let used = tables::Used {
@@ -760,7 +760,10 @@ pub fn serialize_value(
         root,
         0,
     ) {
-        puts::Wrote::Done(a) => puts::Wrote::Done(a),
+        puts::Wrote::Done(a) => {
+            lent::clear_bytes(&mut out[a as usize..]);
+            puts::Wrote::Done(a)
+        }
         puts::Wrote::Refused(number, place) => {
             lent::clear_bytes(out);
             puts::Wrote::Refused(number, place)
