@@ -2,6 +2,7 @@
 //! do not fit the store. The Rust has no such question, so the answer is told here, from document 01's list of what a
 //! record must be.
 use crate::lent::{Lent, Part};
+use crate::plain::is_text;
 use crate::random::Random;
 use crate::read::Ask;
 use crate::reading::{ample, read};
@@ -17,9 +18,9 @@ struct Store<'a> {
     used: u32,
 }
 
-pub fn hold(asks: impl Iterator<Item = Ask>) -> bool {
+pub fn hold(seed: u64, asks: impl Iterator<Item = Ask>) -> bool {
     let mut tally = Tally::new("leaf");
-    let mut random = Random::new(11);
+    let mut random = Random::new(seed);
     for ask in asks {
         let part = Part::new(&ask.input);
         let reading = read(&part, ask.nesting, ample(&ask.input));
@@ -160,15 +161,4 @@ fn long(span: &[u8]) -> Option<(u32, u64, u64)> {
     let magnitude = digits.iter().rev().fold(0i128, |sum, digit| sum << 15 | i128::from(*digit));
     let value = if count < 0 { -magnitude } else { magnitude };
     Some(i64::try_from(value).map_or((8, 0, 0), |value| (5, value as u64, 0)))
-}
-
-/// UTF-8, but for surrogates, which may stand as three bytes.
-fn is_text(mut bytes: &[u8]) -> bool {
-    while let Err(error) = std::str::from_utf8(bytes) {
-        bytes = match &bytes[error.valid_up_to()..] {
-            [0xED, 0xA0..=0xBF, 0x80..=0xBF, rest @ ..] => rest,
-            _ => return false,
-        };
-    }
-    true
 }

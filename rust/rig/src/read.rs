@@ -217,6 +217,7 @@ pub mod carried_side {
     //! The Rust's answers.
     use super::{Answer, Ask, LONGEST_TEXT, Reads, Verdict};
     use crate::panics::unless_overflow;
+    use crate::shrink::smaller;
     use crate::subject::Carried;
     use crate::trace::Trace;
     use crate::tree::text_of;
@@ -246,14 +247,8 @@ pub mod carried_side {
             Answer { verdict, inside }
         }
 
-        /// With a run of bytes taken out, long runs first.
         fn smaller(ask: &Ask) -> Vec<Ask> {
-            let len = ask.input.len();
-            let runs = [len / 2, len / 4, len / 8, 2, 1].into_iter().filter(|run| *run > 0 && *run <= len);
-            let cuts = runs.flat_map(|run| (0..=len - run).map(move |start| (start, run)));
-            let without =
-                |(start, run)| Ask { input: [&ask.input[..start], &ask.input[start + run..]].concat(), ..*ask };
-            cuts.take(10_000).map(without).collect()
+            smaller(&ask.input).map(|input| Ask { input, ..*ask }).collect()
         }
     }
 
