@@ -28,7 +28,7 @@ extern "C" {
 /* ---- Varints: six bits a byte, 0x40 meaning more. */
 
 typedef struct {
-    uint32_t refusal; /* 17: no room, place is the output's capacity; 18: the smallest 32-bit integer, at 0 */
+    uint32_t refusal; /* 17: no room, place is the output's capacity; 18: the smallest 32-bit integer, at 0; see sill_write */
     uint32_t place;
     uint32_t written; /* how many bytes */
 } sill_written_t;
@@ -100,7 +100,7 @@ sill_split_t sill_split(const uint8_t *kinds, size_t kinds_len, uint32_t names, 
                         uint32_t *frees, size_t frees_len, uint32_t *map, size_t map_len, uint32_t *cell_args,
                         size_t cell_args_len);
 
-/* ---- Values: reading one from the start of the input, and what its leaves are. */
+/* ---- Values: reading one from the start of the input, writing one, and what its leaves are. */
 
 typedef struct {
     uint32_t refusal; /* 1 to 15 and 18, with the place that document 01's table gives */
@@ -126,6 +126,12 @@ typedef struct {
  * less than 1 MiB of stack. */
 sill_read_t sill_read(const uint8_t *input, size_t input_len, uint32_t *nodes, size_t nodes_len, uint32_t *entries,
                       size_t entries_len, uint32_t *slots, size_t slots_len, uint32_t nesting);
+
+/* Writes the value of node root in its canonical form, bytes and then zeros: 14 at 0; 10 and 16 at the node's number; 17 at
+ * out_len. Any stores may be lent, of which so many nodes and entries count as used; nesting as in sill_read. */
+sill_written_t sill_write(const uint8_t *input, size_t input_len, const uint32_t *nodes, size_t nodes_len,
+                          const uint32_t *entries, size_t entries_len, uint32_t used_nodes, uint32_t used_entries,
+                          uint32_t root, uint32_t nesting, uint8_t *out, size_t out_len);
 
 /* Any node store may be asked, of which so many nodes count as used. */
 sill_leaf_t sill_leaf(const uint8_t *input, size_t input_len, const uint32_t *nodes, size_t nodes_len, uint32_t used,

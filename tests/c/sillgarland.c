@@ -109,6 +109,28 @@ static void test_leaves(void)
     expect(leaf.refusal == 16 && leaf.place == 3, "a number beyond the used ones");
 }
 
+/* A shared integer is written out twice; what is refused leaves the output all zero. */
+static void test_writing(void)
+{
+    static const uint8_t input[] = ")\x02\xE9\x05\0\0\0r\0\0\0\0";
+    uint32_t nodes[10], entries[4], slots[1];
+    uint8_t out[16];
+    sill_read_t read = sill_read(input, 12, nodes, 10, entries, 4, slots, 1, 2000);
+    memset(out, 7, sizeof out);
+    sill_written_t written = sill_write(input, 12, nodes, 10, entries, 4, read.nodes, read.entries, 0, 2, out, 16);
+    expect(written.refusal == 0 && written.written == 15, "P6 in its canonical form");
+    expect(memcmp(out, "(\x02\0\0\0i\x05\0\0\0i\x05\0\0\0\0", 16) == 0, "its bytes, and zeros follow");
+
+    written = sill_write(input, 12, nodes, 10, entries, 4, read.nodes, read.entries, 0, 1, out, 16);
+    expect(written.refusal == 10 && written.place == 1 && written.written == 0, "too deep at the child");
+    written = sill_write(input, 12, nodes, 10, entries, 4, read.nodes, read.entries, 2, 2, out, 16);
+    expect(written.refusal == 16 && written.place == 2, "no such node to write");
+    memset(out, 7, sizeof out);
+    written = sill_write(input, 12, nodes, 10, entries, 4, read.nodes, read.entries, 0, 2, out, 14);
+    expect(written.refusal == 17 && written.place == 14, "one byte short");
+    expect(memcmp(out, "\0\0\0\0\0\0\0\0\0\0\0\0\0\0\x07\x07", 16) == 0, "and the fourteen lent bytes are zero");
+}
+
 /* ---- line tables */
 
 static void test_lines(void)
@@ -150,7 +172,7 @@ static void test_split(void)
 
 enum { DEEPEST = 2000, MOST_BYTES = 1 << 20, MOST_NODES = 1 << 14, STACK = 1 << 20 };
 
-static uint8_t deep_input[MOST_BYTES];
+static uint8_t deep_input[MOST_BYTES], deep_output[2 * MOST_BYTES];
 static uint32_t deep_nodes[5 * MOST_NODES], deep_entries[2 * MOST_NODES], deep_slots[1];
 
 static size_t deep_tuples(void)
@@ -186,13 +208,21 @@ static sill_read_t read_deep(size_t length, uint32_t nesting)
                      LENGTH(deep_slots), nesting);
 }
 
+static void expect_deep(size_t length, const char *what)
+{
+    sill_read_t read = read_deep(length, DEEPEST);
+    expect(read.refusal == 0 && read.consumed == length, what);
+    sill_written_t written = sill_write(deep_input, length, deep_nodes, LENGTH(deep_nodes), deep_entries, LENGTH(deep_entries),
+                                        read.nodes, read.entries, 0, DEEPEST, deep_output, LENGTH(deep_output));
+    expect(written.refusal == 0 && written.written > length, "and written back");
+}
+
 static void *test_nesting(void *unused)
 {
     size_t length = deep_tuples();
-    expect(read_deep(length, DEEPEST).consumed == length, "tuples 2,000 deep");
-    expect(read_deep(length, DEEPEST - 1).refusal == 10, "and no deeper than allowed");
-    length = deep_code();
-    expect(read_deep(length, DEEPEST).consumed == length, "code objects 2,000 deep");
+    expect(read_deep(length, DEEPEST - 1).refusal == 10, "no deeper than allowed");
+    expect_deep(length, "tuples 2,000 deep");
+    expect_deep(deep_code(), "code objects 2,000 deep");
     return unused;
 }
 
@@ -212,6 +242,7 @@ int main(void)
     test_varints();
     test_sheets();
     test_leaves();
+    test_writing();
     test_lines();
     test_split();
     test_small_stack();

@@ -1,3 +1,4 @@
 pub mod Handing
 pub mod Splitting
 pub mod Reading
+pub mod Writing

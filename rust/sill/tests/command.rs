@@ -308,18 +308,6 @@ mod calling {
     }
 }
 
-#[cfg(not(feature = "write"))]
-mod writing {
-    use super::*;
-
-    #[test]
-    fn not_in_this_build() {
-        let told = "sill: write: not available in this build\n".to_string();
-        assert_eq!(ended(&["write", "goldens/rates.golden", "-o", "nowhere/out"]), (2, String::new(), told));
-    }
-}
-
-#[cfg(feature = "write")]
 mod writing {
     use super::*;
 

@@ -6,12 +6,7 @@
 //! Truth is 0 or 1.
 #![no_std]
 
-#[cfg(feature = "write")]
-mod write;
-#[cfg(feature = "write")]
-pub use write::sill_write;
-
-/// What a varint writer answers: how many bytes it wrote.
+/// What a writer answers: how many bytes it wrote.
 #[repr(C)]
 #[derive(Clone, Copy, Debug, PartialEq, Eq)]
 pub struct Written {
@@ -162,6 +157,20 @@ unsafe extern "C" {
         records: *mut u32,
         records_len: usize,
     ) -> Located;
+    pub fn sill_write(
+        input: *const u8,
+        input_len: usize,
+        nodes: *const u32,
+        nodes_len: usize,
+        entries: *const u32,
+        entries_len: usize,
+        used_nodes: u32,
+        used_entries: u32,
+        root: u32,
+        nesting: u32,
+        out: *mut u8,
+        out_len: usize,
+    ) -> Written;
 }
 
 /// The refusal numbers and limits of document 01, under the names of the crate `refusals`.

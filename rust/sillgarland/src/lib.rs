@@ -38,7 +38,6 @@ mod reader;
 mod refusal;
 mod same;
 mod value;
-#[cfg(feature = "write")]
 mod write;
 
 pub use code::{Code, NUMBERS, PARTS};
