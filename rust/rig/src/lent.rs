@@ -1,5 +1,6 @@
 //! Stores as the port is lent them: full of marks before the call, guarded on both sides, and held afterwards to
 //! "what was written, then zeros".
+use crate::memory::Memory;
 use sillgarland_sys::Location;
 use std::fmt::Debug;
 
@@ -23,34 +24,30 @@ impl Cell for Location {
     const ZERO: Self = Location { line: 0, column: 0, end_line: 0, end_column: 0 };
 }
 
-const GUARD: usize = 4;
-
 pub struct Lent<T> {
-    cells: Vec<T>,
+    memory: Memory<T>,
 }
 
 impl<T: Cell> Lent<T> {
     pub fn new(len: usize) -> Self {
-        Self { cells: vec![T::MARK; GUARD + len + GUARD] }
+        Self { memory: Memory::new(len, T::MARK) }
     }
 
     /// A store that holds these cells, as it is lent for reading.
     pub fn of(cells: &[T]) -> Self {
-        let mut store = Self::new(cells.len());
-        store.cells[GUARD..GUARD + cells.len()].copy_from_slice(cells);
-        store
+        Self { memory: Memory::of(cells, T::MARK) }
     }
 
     pub fn len(&self) -> usize {
-        self.cells.len() - 2 * GUARD
+        self.memory.len()
     }
 
     pub fn pointer(&mut self) -> *mut T {
-        self.cells[GUARD..].as_mut_ptr()
+        self.memory.pointer()
     }
 
     pub fn cells(&self) -> &[T] {
-        &self.cells[GUARD..GUARD + self.len()]
+        self.memory.cells()
     }
 
     /// The store holds what was written and then zeros, and the cells beside it are untouched.
@@ -62,8 +59,7 @@ impl<T: Cell> Lent<T> {
         if store[written.len()..].iter().any(|cell| *cell != T::ZERO) {
             return Err(format!("{name} is not zero past what was written: {store:?}"));
         }
-        let mut guards = self.cells[..GUARD].iter().chain(&self.cells[GUARD + self.len()..]);
-        if guards.any(|cell| *cell != T::MARK) {
+        if !self.memory.is_untouched_beside(T::MARK) {
             return Err(format!("cells beside {name} were written"));
         }
         Ok(())
@@ -72,17 +68,15 @@ impl<T: Cell> Lent<T> {
 
 /// Bytes as the port is lent them for reading: the middle part of a larger input, whose other bytes all say "more".
 pub struct Part {
-    input: Vec<u8>,
+    memory: Memory<u8>,
 }
 
 impl Part {
     pub fn new(bytes: &[u8]) -> Self {
-        let mut input = vec![0xFF; GUARD + bytes.len() + GUARD];
-        input[GUARD..GUARD + bytes.len()].copy_from_slice(bytes);
-        Self { input }
+        Self { memory: Memory::of(bytes, 0xFF) }
     }
 
     pub fn bytes(&self) -> &[u8] {
-        &self.input[GUARD..self.input.len() - GUARD]
+        self.memory.cells()
     }
 }

@@ -35,7 +35,7 @@ pub trait Carried: Subject {
     }
 }
 
-fn held<S: Subject>(ask: &S::Ask, answer: &S::Answer) -> Result<(), String> {
+pub fn held<S: Subject>(ask: &S::Ask, answer: &S::Answer) -> Result<(), String> {
     S::check(ask, answer).map_err(|difference| {
         let row: String = S::row(ask, answer).chars().take(2000).collect();
         format!("{row}; {difference}")

@@ -62,6 +62,19 @@ pub fn asks_to_list() -> impl Iterator<Item = Ask> {
         .chain(random_inputs(8, 3000).filter(|ask| ask.input.len() < 250))
 }
 
+/// Of the above, what may be read and so written; a short input that starts otherwise is not whole.
+#[cfg(carried)]
+pub fn asks_of_the_writer(random: usize, modules: &[Ask]) -> impl Iterator<Item = Ask> {
+    let may_be_whole = |ask: &Ask| ask.input.first().is_some_and(|byte| b"NFTS.zZ){".contains(&(byte & 0x7F)));
+    let some = short_inputs().chain(all_over(&WIDE, 4)).chain(all_over(&NARROW[..16], 6).step_by(7));
+    sheets()
+        .chain(code_faults())
+        .chain(some.filter(may_be_whole))
+        .chain(deep_inputs(&[1990, 1999, 2000]))
+        .chain(random_inputs(14, random))
+        .chain(of_modules(modules, 9))
+}
+
 /// P1 to P12 of document 01.
 fn sheets() -> impl Iterator<Item = Ask> {
     let sheet = |nesting, input: &[u8]| Ask { input: input.to_vec(), nesting };

@@ -1,0 +1,82 @@
+//! Every exported function between pages that fault: what it is lent ends, or begins, where a page stands that nobody may
+//! touch, so one byte read or written outside ends the run. The answers are held to the same as without.
+use crate::memory::{Mode, lend};
+use crate::read::Reads;
+use crate::subject::{Carried, held};
+use crate::tally::Tally;
+use crate::write::Writes;
+use crate::{hostile, leaf, linetable, localsplus, values, varint, write};
+use std::ptr::null;
+use std::sync::atomic::{AtomicPtr, AtomicUsize, Ordering::SeqCst};
+
+/// How many questions of each kind, asked once at the end of a page and once at the start of one.
+const OF_EACH: usize = 50_000;
+
+pub fn hold() -> bool {
+    say_which_at_a_fault();
+    let mut tally = Tally::new("guard pages");
+    for mode in [Mode::AtEnd, Mode::AtStart] {
+        lend(mode);
+        ask::<varint::Varints>(&mut tally, "varints", varint::carried_side::asks_to_list());
+        let tables = linetable::carried_side::asks_to_list(&[]);
+        ask::<linetable::LineTables>(&mut tally, "line tables, as numbers and as structs", tables);
+        ask::<localsplus::LocalNames>(&mut tally, "splits", localsplus::carried_side::asks_to_list());
+        ask::<Reads>(&mut tally, "values read, with their leaves", values::random_inputs(21, OF_EACH));
+        ask::<Writes>(&mut tally, "values written", write::carried_side::random_asks(22, OF_EACH));
+        last_asked("a leaf or a node's line table of a damaged store");
+        leaf::ask(&mut tally, |_| "leaves and line tables of damaged stores", 11, values::random_inputs(23, OF_EACH));
+        last_asked("a writing from a damaged store");
+        hostile::ask(&mut tally, |_| "writings from damaged stores", 15, OF_EACH);
+    }
+    lend(Mode::Marked);
+    tally.finish()
+}
+
+fn ask<S: Carried>(tally: &mut Tally, class: &'static str, asks: impl Iterator<Item = S::Ask>) {
+    for ask in asks {
+        let answer = S::by_the_rust(&ask);
+        last_asked(&S::row(&ask, &answer));
+        tally.count(class, held::<S>(&ask, &answer));
+    }
+}
+
+static LAST: AtomicPtr<u8> = AtomicPtr::new(null::<u8>().cast_mut());
+static LAST_LEN: AtomicUsize = AtomicUsize::new(0);
+
+/// Keeps the text for the one who must tell of a fault.
+fn last_asked(text: &str) {
+    thread_local!(static TEXT: std::cell::RefCell<String> = const { std::cell::RefCell::new(String::new()) });
+    TEXT.with_borrow_mut(|kept| {
+        text.clone_into(kept);
+        LAST.store(kept.as_mut_ptr(), SeqCst);
+        LAST_LEN.store(kept.len(), SeqCst);
+    });
+}
+
+unsafe extern "C" {
+    fn signal(number: i32, handler: extern "C" fn(i32)) -> usize;
+    fn write(file: i32, bytes: *const u8, len: usize) -> isize;
+    fn _exit(status: i32) -> !;
+}
+
+fn say_which_at_a_fault() {
+    const SIGSEGV: i32 = 11;
+    const SIGBUS: i32 = 7;
+    // SAFETY: the handler calls only what a handler may.
+    unsafe {
+        signal(SIGSEGV, fault);
+        signal(SIGBUS, fault);
+    }
+}
+
+extern "C" fn fault(_: i32) {
+    let said = b"guard pages: something outside what was lent was touched, at: ";
+    let closing = b"\nguard pages: 0 passed, 1 failed\n";
+    // SAFETY: the text is kept as long as it is the last.
+    unsafe {
+        write(1, said.as_ptr(), said.len());
+        write(1, LAST.load(SeqCst), LAST_LEN.load(SeqCst));
+        write(1, closing.as_ptr(), closing.len());
+        _exit(1);
+    }
+}

@@ -1,0 +1,202 @@
+//! Writing from stores that no reading made: records, chains, counts, roots and bytes changed at random, in outputs of any
+//! size. Answer and bytes are held to the model of document 01, and what was written is read again.
+use crate::lent::Part;
+use crate::random::Random;
+use crate::reading::{ample, read};
+use crate::tally::Tally;
+use crate::text::{hex, numbers};
+use crate::values::random_inputs;
+use crate::write_model::{self as model, Refused, Store};
+use crate::write_same::hold_back;
+use crate::writing::Source;
+use sillgarland_sys::refusals::{self, NOTHING};
+
+/// Stores and the question put to them.
+struct Case {
+    input: Vec<u8>,
+    nodes: Vec<u32>,
+    entries: Vec<u32>,
+    used: [u32; 2],
+    root: u32,
+    nesting: u32,
+}
+
+pub fn hold(seed: u64, count: usize) -> bool {
+    let mut tally = Tally::new("hostile stores");
+    ask(&mut tally, |class| class, seed, count);
+    tally.finish()
+}
+
+/// Some cases from each reading, till there are so many; each is counted as `counted` says of its class.
+pub fn ask(tally: &mut Tally, counted: fn(&'static str) -> &'static str, seed: u64, count: usize) {
+    let mut random = Random::new(seed);
+    let mut asks = random_inputs(seed + 1, usize::MAX);
+    let mut tried = 0;
+    while tried < count {
+        let made = if random.below(8) == 0 { Some(of_nothing(&mut random)) } else { asks.next().and_then(of_reading) };
+        let Some(made) = made else { continue };
+        for _ in 0..12 {
+            let case = damaged(&mut random, &made);
+            for (class, held) in answers(&mut random, case) {
+                tally.count(counted(class), held);
+                tried += 1;
+            }
+        }
+    }
+}
+
+/// The stores of a reading, every record used.
+fn of_reading(ask: crate::read::Ask) -> Option<Case> {
+    let reading = read(&Part::new(&ask.input), ask.nesting, ample(&ask.input));
+    let used = [reading.answer.nodes, reading.answer.entries];
+    let [nodes, entries, _] = reading.stores.each_ref().map(|store| store.cells());
+    let (nodes, entries) = (nodes[..5 * used[0] as usize].to_vec(), entries[..2 * used[1] as usize].to_vec());
+    let accepted = reading.answer.refusal == refusals::ACCEPTED;
+    accepted.then_some(Case { input: ask.input, nodes, entries, used, root: 0, nesting: 0 })
+}
+
+/// Records of letters and small numbers, links among few entries.
+fn of_nothing(random: &mut Random) -> Case {
+    let [nodes, entries, bytes] = [8, 12, 30].map(|most| 1 + random.below(most));
+    let any = |random: &mut Random, most: usize| {
+        if random.below(12) == 0 { random.of_any_width() } else { random.below(most + 2) as u32 }
+    };
+    let mut case = Case {
+        input: (0..bytes).map(|_| if random.below(2) == 0 { 0 } else { random.byte() & 0x7F }).collect(),
+        nodes: Vec::new(),
+        entries: Vec::new(),
+        used: [nodes as u32, entries as u32],
+        root: 0,
+        nesting: 0,
+    };
+    for _ in 0..nodes {
+        let letter = random.one_of(LETTERS);
+        let size = match letter {
+            b'(' | b'[' | b'<' | b'>' | b'i' => 4,
+            b')' => 1,
+            b'I' | b'g' => 8,
+            b'y' => 16,
+            b's' | b'u' | b'l' | b'z' => any(random, 6),
+            b'c' => 20,
+            _ => 0,
+        };
+        let count = if b"([<>):{c".contains(&letter) { random.below(5) as u32 } else { 0 };
+        let record = [u32::from(letter), any(random, bytes), size, any(random, entries), count];
+        case.nodes.extend_from_slice(&record);
+        with_length(&mut case.input, &record);
+    }
+    case.entries = (0..entries).flat_map(|_| [any(random, nodes), any(random, entries)]).collect();
+    case
+}
+
+/// Mostly the length field says what the record counts.
+fn with_length(input: &mut [u8], record: &[u32; 5]) {
+    let [_, place, size, _, count] = *record;
+    if let Some(field) = input.get_mut(place as usize..(place as usize).saturating_add(size as usize))
+        && matches!(size, 1 | 4)
+    {
+        field.copy_from_slice(&count.to_le_bytes()[..size as usize]);
+    }
+}
+
+const LETTERS: &[u8] = b"NFTS.iIlgyutaAzZs([<>):{c([{()";
+
+fn damaged(random: &mut Random, made: &Case) -> Case {
+    let Case { input, nodes, entries, used, .. } = made;
+    let mut case = Case {
+        input: input.clone(),
+        nodes: nodes.clone(),
+        entries: entries.clone(),
+        used: *used,
+        root: if random.below(4) == 0 { number(random, made, used[0] as usize) } else { 0 },
+        nesting: random.one_of(&[2000, 2000, 2000, 0, 1, 2, 3, 4, 5, 6, 2001, u32::MAX]),
+    };
+    for _ in 0..random.one_of(&[0, 1, 1, 1, 2, 3, 8]) {
+        damage(random, &mut case);
+    }
+    case
+}
+
+fn damage(random: &mut Random, case: &mut Case) {
+    let any = |random: &mut Random, len: usize| if len == 0 { None } else { Some(random.below(len)) };
+    match random.below(16) {
+        0 => case.used[0] = number(random, case, case.nodes.len() / 5),
+        1 => case.used[1] = number(random, case, case.entries.len() / 2),
+        2 => case.nodes.truncate(random.below(case.nodes.len() + 1)),
+        3 => case.entries.truncate(random.below(case.entries.len() + 1)),
+        4 => case.nodes.extend_from_slice(&[7, 7, 7][..random.below(4)]),
+        5 if random.below(4) == 0 => case.input.truncate(random.below(case.input.len() + 1)),
+        5 | 6 => {
+            if let Some(at) = any(random, case.input.len()) {
+                case.input[at] = random.byte();
+            }
+        }
+        7..=10 => {
+            if let Some(at) = any(random, case.entries.len()) {
+                let within = if at % 2 == 0 { case.nodes.len() / 5 } else { case.entries.len() / 2 };
+                case.entries[at] = number(random, case, within);
+            }
+        }
+        _ => {
+            if let Some(at) = any(random, case.nodes.len()) {
+                let within = [0, case.input.len(), case.input.len(), case.entries.len() / 2, 6][at % 5];
+                case.nodes[at] = match at % 5 {
+                    0 => u32::from(random.one_of(LETTERS)) + 256 * u32::from(random.below(30) == 0),
+                    _ if random.below(2) == 0 => {
+                        case.nodes[at].wrapping_add(random.one_of(&[1, 2, 4, u32::MAX, u32::MAX - 1]))
+                    }
+                    _ => number(random, case, within),
+                };
+            }
+        }
+    }
+}
+
+/// Mostly a number within, now and then one at or beyond an end.
+fn number(random: &mut Random, case: &Case, within: usize) -> u32 {
+    let near = [within as u32, within as u32 + 1, NOTHING, NOTHING - 1, 0x8000_0000, case.input.len() as u32];
+    if random.below(4) == 0 { random.one_of(&near) } else { random.below(within.max(1)) as u32 }
+}
+
+type Held = (&'static str, Result<(), String>);
+
+/// One case, in an output of some size; of few bytes, in outputs of every size.
+fn answers(random: &mut Random, case: Case) -> Vec<Held> {
+    let Case { input, nodes, entries, used, root, nesting } = &case;
+    let store = Store { input, nodes, entries, used: *used };
+    let source = Source::new(&store);
+    let room = random.one_of(&[4096, 4096, 600, 0]);
+    let len = model::write(&store, *root, *nesting, room).map_or(0, |bytes| bytes.len());
+    let every = len < 80 && random.below(8) == 0;
+    let rooms = if every { (0..=len + 2).collect() } else { vec![room.max(random.below(len + 2))] };
+    let answer = |room: usize| {
+        let (class, held) = hold_one(&source, (*root, *nesting, room));
+        (class, held.map_err(|fault| format!("{}; {fault}", case.row(room))))
+    };
+    rooms.into_iter().map(answer).collect()
+}
+
+fn hold_one(source: &Source, asked: (u32, u32, usize)) -> Held {
+    let (root, nesting, room) = asked;
+    let expected = model::write(&source.store(), root, nesting, room);
+    let class = match expected {
+        Ok(_) => "written alike, and read and written again",
+        Err(Refused { number: refusals::TOO_DEEP, .. }) => "refused 10",
+        Err(Refused { number: refusals::BAD_TABLE, .. }) => "refused 16",
+        Err(_) => "refused 17",
+    };
+    let mut held = source.hold(asked, expected.as_deref().map_err(|refused| *refused));
+    if let Ok(bytes) = &expected {
+        held = held.and_then(|()| hold_back(&source.store(), root, bytes));
+    }
+    (class, held)
+}
+
+impl Case {
+    /// As a line of tests/vectors/write.txt.
+    fn row(&self, capacity: usize) -> String {
+        let Self { input, nodes, entries, used, root, nesting } = self;
+        let stores = [hex(input), numbers(nodes), numbers(entries), numbers(used)].join(" ");
+        format!("write {stores} {root} {nesting} {capacity}")
+    }
+}
