@@ -9,6 +9,7 @@ pub enum Mode {
     Marked,
     Exact,
     AtEnd,
+    #[cfg_attr(not(carried), expect(dead_code))]
     AtStart,
 }
 
