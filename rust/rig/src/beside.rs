@@ -7,7 +7,7 @@ use crate::read::{self, Reads};
 use crate::subject::{compare, write_list};
 use crate::varint::{self, Varints};
 use crate::write::{self, Writes};
-use crate::{all, contents, cpython, guard, values};
+use crate::{all, contents, cpython, goldens, guard, values};
 
 /// How many cases of the short form.
 const VARINTS: usize = 1_000_000;
@@ -26,6 +26,11 @@ pub fn run(options: &Options) -> Result<bool, String> {
         }
         Task::Values => Ok(read_alike(&made.modules)),
         Task::Writes => Ok(written_alike(&made.modules)),
+        Task::Goldens(paths) if paths.is_empty() => {
+            println!("{}", goldens::HELP);
+            Ok(true)
+        }
+        Task::Goldens(paths) => Ok(goldens::hold(paths)),
         Task::Guard => Ok(guard::hold()),
         Task::WriteFixed(folder) => write_fixed(folder, &made),
         _ => Ok(all_alike(&made)),

@@ -4,6 +4,8 @@
 mod beside;
 mod cpython;
 #[cfg(carried)]
+mod goldens;
+#[cfg(carried)]
 mod guard;
 mod hostile;
 mod leaf;
@@ -88,6 +90,10 @@ fn run(options: Options) -> Result<bool, String> {
     match &options.task {
         Task::Help => {
             println!("{USAGE}");
+            Ok(true)
+        }
+        Task::HasRust => {
+            println!("{}", if cfg!(carried) { "yes" } else { "no" });
             Ok(true)
         }
         Task::CPython(file) => Ok(cpython::hold(&contents(file)?)),

@@ -8,6 +8,8 @@ usage: rig [--tables FILE]                       compare with the carried Rust, 
        rig --writes [--tables FILE]              compare the writing of values with the carried Rust, nothing else
        rig --guard                               ask all between pages that fault, nothing else
        rig --rooms                               what document 01 alone tells: every room, leaves and writing of any stores
+       rig --goldens PATH..                      compare on golden files; without a PATH, say how
+       rig --has-rust                            say yes or no: whether it was built with the carried Rust
        rig --replay                              replay the lists only: tests/fixed and tests/vectors
        rig --cpython FILE                        hold the port to what CPython says
        rig --write-fixed FOLDER [--tables FILE]  write the carried Rust's answers as lists into FOLDER
@@ -30,6 +32,8 @@ pub enum Task {
     Guard,
     Rooms,
     Replay,
+    Goldens(Vec<String>),
+    HasRust,
     CPython(String),
     WriteFixed(String),
 }
@@ -55,6 +59,10 @@ impl Options {
                 "--guard" => options.set(Task::Guard)?,
                 "--rooms" => options.set(Task::Rooms)?,
                 "--replay" => options.set(Task::Replay)?,
+                "--goldens" => {
+                    options.set(Task::Goldens(words.by_ref().collect()))?;
+                }
+                "--has-rust" => options.set(Task::HasRust)?,
                 "--cpython" => options.set(Task::CPython(name()?))?,
                 "--write-fixed" => options.set(Task::WriteFixed(name()?))?,
                 "--seed" => options.seed = Some(number(&word, &name()?)?),

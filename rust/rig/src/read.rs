@@ -234,8 +234,8 @@ pub mod carried_side {
             let notes = Notes::default();
             let mut trace = Trace::new(&ask.input, &notes);
             let read = unless_overflow(|| trace.value(nesting as usize).map(|tree| text_of(&tree, LONGEST_TEXT)));
-            if let Some(place) = trace.like_decimal.iter().find(|at| is_decimal_float(&ask.input, **at, nesting)) {
-                return listed(refusals::NOT_CARRIED, *place);
+            if let Some(place) = first_decimal_float(&ask.input, &trace, nesting) {
+                return listed(refusals::NOT_CARRIED, place);
             }
             let inside = notes.none() && !trace.other_flags && nesting == refusals::MOST_NESTING && read.is_some();
             let verdict = match read {
@@ -283,6 +283,11 @@ pub mod carried_side {
         }
         let at_key = is_too_deep(input, trace.last(), nesting);
         refused(refusals::TOO_DEEP, if at_key { trace.last() } else { trace.position })
+    }
+
+    /// Where the reading met a value with letter `f` or `x`.
+    pub fn first_decimal_float(input: &[u8], trace: &Trace, nesting: u32) -> Option<usize> {
+        trace.like_decimal.iter().find(|at| is_decimal_float(input, **at, nesting)).copied()
     }
 
     /// Whether a value with letter `f` or `x` begins here: the Rust wants an object here if the bytes end before it.

@@ -16,6 +16,11 @@ impl Tally {
         self.failed == 0
     }
 
+    #[cfg(carried)]
+    pub fn was_asked(&self) -> bool {
+        self.failed > 0 || !self.classes.is_empty()
+    }
+
     /// One case of a class: agreed, or a difference in words.
     pub fn count(&mut self, class: &'static str, outcome: Result<(), String>) {
         match outcome {
