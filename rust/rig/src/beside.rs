@@ -7,7 +7,7 @@ use crate::read::{self, Reads};
 use crate::subject::{compare, write_list};
 use crate::varint::{self, Varints};
 use crate::write::{self, Writes};
-use crate::{all, contents, cpython, goldens, guard, values};
+use crate::{all, contents, corpus, cpython, goldens, guard, values};
 
 /// How many cases of the short form.
 const VARINTS: usize = 1_000_000;
@@ -17,7 +17,10 @@ const VALUES: usize = 1_000_000;
 
 pub fn run(options: &Options) -> Result<bool, String> {
     let text = options.tables.as_deref().map_or(Ok(String::new()), contents)?;
-    let made = Made { lines: cpython::tables(&text), modules: cpython::modules(&text) };
+    let mut made = Made { lines: cpython::tables(&text), modules: cpython::modules(&text) };
+    if matches!(options.task, Task::Short | Task::Long) {
+        made.add(corpus::inputs()?);
+    }
     match &options.task {
         Task::Long => {
             let first = options.seed.unwrap_or(0);

@@ -49,7 +49,7 @@ wrongly.";
 
 pub fn hold(paths: &[String]) -> bool {
     let mut counts = Counts::new();
-    let (mut inside, mut different, mut unread) = (0, 0, 0);
+    let (mut inside, mut outside, mut different, mut unread) = (0, 0, 0, 0);
     let files = find(paths, &mut unread);
     for path in &files {
         let bytes = match fs::read(path) {
@@ -64,13 +64,13 @@ pub fn hold(paths: &[String]) -> bool {
         println!("{}  {}: {}", if seen.differs() { "DIFFERENT" } else { "alike    " }, path.display(), seen.told());
         seen.differences.iter().for_each(|difference| println!("           {difference}"));
         inside += usize::from(seen.reasons.is_empty());
+        outside += usize::from(!seen.reasons.is_empty());
         different += usize::from(seen.differs());
     }
     let held = counts.finish();
     println!(
-        "goldens: {} files, {inside} in document 01's domain, {} out of it; {different} different, {unread} not read",
-        files.len(),
-        files.len() - unread - inside,
+        "goldens: {} files, {inside} in document 01's domain, {outside} out of it; {different} different, {unread} not read",
+        inside + outside
     );
     held && different == 0 && unread == 0 && !files.is_empty()
 }

@@ -7,13 +7,23 @@ use crate::values::{self, ROUNDS};
 use crate::varint::{self, Varints};
 use crate::write::{self, Writes};
 use crate::{hostile, leaf, sweep};
+use sillgarland_sys::refusals::MOST_NESTING;
 use std::ops::Range;
 use std::time::Instant;
 
-/// What CPython made: its line tables and its modules.
+/// What CPython made, its line tables and its modules, and what fuzzing found.
 pub struct Made {
     pub lines: Vec<linetable::Ask>,
     pub modules: Vec<read::Ask>,
+}
+
+impl Made {
+    pub fn add(&mut self, inputs: Vec<Vec<u8>>) {
+        let table =
+            |table: &Vec<u8>| linetable::Ask { table: table.clone(), first_line: 1, count: 2 * table.len() as u32 };
+        self.lines.extend(inputs.iter().map(table));
+        self.modules.extend(inputs.into_iter().map(|input| read::Ask { input, nesting: MOST_NESTING }));
+    }
 }
 
 pub fn hold_rounds(rounds: Range<u64>, made: &Made) -> bool {

@@ -2,7 +2,9 @@
 //! code, and to lists of answers kept in the repository. `rig --help` says how to call it.
 #[cfg(carried)]
 mod beside;
+mod corpus;
 mod cpython;
+mod extremes;
 #[cfg(carried)]
 mod goldens;
 #[cfg(carried)]
@@ -92,14 +94,15 @@ fn run(options: Options) -> Result<bool, String> {
             println!("{USAGE}");
             Ok(true)
         }
+        Task::Extremes => Ok(extremes::hold()),
         Task::HasRust => {
             println!("{}", if cfg!(carried) { "yes" } else { "no" });
             Ok(true)
         }
         Task::CPython(file) => Ok(cpython::hold(&contents(file)?)),
         Task::Replay => Ok(replay_lists()),
-        Task::Rooms => Ok(without_the_rust()),
-        Task::Short => Ok(all([beside_the_rust(&options)?, without_the_rust(), replay_lists()])),
+        Task::Rooms => without_the_rust(),
+        Task::Short => Ok(all([beside_the_rust(&options)?, without_the_rust()?, extremes::hold(), replay_lists()])),
         _ => beside_the_rust(&options),
     }
 }
@@ -120,12 +123,13 @@ fn beside_the_rust(options: &Options) -> Result<bool, String> {
 }
 
 /// What document 01 alone tells: the leaf question and writing on any stores, and demand 3 at every room.
-fn without_the_rust() -> bool {
-    all([
+fn without_the_rust() -> Result<bool, String> {
+    let found = corpus::inputs()?;
+    Ok(all([
         leaf::hold(11, values::random_inputs(12, 250_000)),
         hostile::hold(15, 1_500_000),
-        sweep::hold(13, || values::inputs_to_sweep(14, 200_000)),
-    ])
+        sweep::hold(13, || values::inputs_to_sweep(14, 200_000).chain(found.iter().cloned())),
+    ]))
 }
 
 fn contents(file: &str) -> Result<String, String> {

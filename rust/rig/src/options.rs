@@ -9,6 +9,7 @@ usage: rig [--tables FILE]                       compare with the carried Rust, 
        rig --guard                               ask all between pages that fault, nothing else
        rig --rooms                               what document 01 alone tells: every room, leaves and writing of any stores
        rig --goldens PATH..                      compare on golden files; without a PATH, say how
+       rig --extremes                            values and line tables of 16 MiB in each extreme shape, timed
        rig --has-rust                            say yes or no: whether it was built with the carried Rust
        rig --replay                              replay the lists only: tests/fixed and tests/vectors
        rig --cpython FILE                        hold the port to what CPython says
@@ -34,6 +35,7 @@ pub enum Task {
     Replay,
     Goldens(Vec<String>),
     HasRust,
+    Extremes,
     CPython(String),
     WriteFixed(String),
 }
@@ -62,6 +64,7 @@ impl Options {
                 "--goldens" => {
                     options.set(Task::Goldens(words.by_ref().collect()))?;
                 }
+                "--extremes" => options.set(Task::Extremes)?,
                 "--has-rust" => options.set(Task::HasRust)?,
                 "--cpython" => options.set(Task::CPython(name()?))?,
                 "--write-fixed" => options.set(Task::WriteFixed(name()?))?,
