@@ -8,17 +8,19 @@ mod python;
 mod read;
 #[cfg(carried)]
 mod timing;
+#[cfg(carried)]
+mod write;
 
 use std::process::ExitCode;
 
 #[cfg(carried)]
 fn main() -> ExitCode {
-    let arguments: Vec<String> = std::env::args().skip(1).collect();
-    let text = match &arguments[..] {
+    let (words, files): (Vec<String>, _) = std::env::args().skip(1).partition(|word| PARTS.contains(&word.as_str()));
+    let text = match &files[..] {
         [] => Ok(String::new()),
         [file] if !file.starts_with('-') => std::fs::read_to_string(file).map_err(|error| format!("{file}: {error}")),
         _ => {
-            eprintln!("bench: wants nothing, or the file that tools/cpython-tables writes");
+            eprintln!("bench: wants any of {PARTS:?}, and the file that tools/cpython-tables writes, or nothing");
             return ExitCode::from(2);
         }
     };
@@ -28,12 +30,24 @@ fn main() -> ExitCode {
             ExitCode::FAILURE
         }
         Ok((tables, modules)) => {
-            linetable::run(tables);
-            read::run(modules);
+            let wanted = |part: &str| words.is_empty() || words.iter().any(|word| word == part);
+            if wanted("lines") {
+                linetable::run(tables);
+            }
+            if wanted("read") {
+                read::run(modules.clone());
+            }
+            if wanted("write") {
+                write::run(modules);
+            }
             ExitCode::SUCCESS
         }
     }
 }
+
+/// What is timed; all where none is named.
+#[cfg(carried)]
+const PARTS: [&str; 3] = ["lines", "read", "write"];
 
 /// The modules of the file, as CPython marshals them.
 #[cfg(carried)]

@@ -9,8 +9,8 @@ use carried::marshal::{MarshalBag, deserialize_value};
 use sillgarland_sys::{Read, sill_read};
 use std::hint::black_box;
 
-const MEBIBYTE: usize = 1 << 20;
-const NESTING: u32 = 2000;
+pub const MEBIBYTE: usize = 1 << 20;
+pub const NESTING: u32 = 2000;
 
 pub fn run(modules: Vec<Vec<u8>>) {
     for (kind, alphabet) in [("ASCII", "sheet name 12"), ("mixed", "na\u{ef}ve \u{20ac}5 \u{1f33f}")] {
@@ -19,10 +19,8 @@ pub fn run(modules: Vec<Vec<u8>>) {
             compare(&format!("1 MiB of {kind} strings of {size} bytes, letter {}", letter as char), &[input]);
         }
     }
-    let ints: Vec<u8> = (0..1_000_000u32).flat_map(|i| [&[b'i'][..], &(i % 1000).to_le_bytes()].concat()).collect();
     for (letter, name) in [(b'[', "list"), (b'(', "tuple")] {
-        let input = [&[letter][..], &1_000_000u32.to_le_bytes(), &ints].concat();
-        compare(&format!("a {name} of a million small integers"), &[input]);
+        compare(&format!("a {name} of a million small integers"), &[small_integers(letter)]);
     }
     for names in [1, 100, 10_000] {
         compare(&format!("1,000 code objects that share a tuple of {names} names"), &[sharing(names)]);
@@ -34,7 +32,7 @@ pub fn run(modules: Vec<Vec<u8>>) {
 }
 
 /// Text of so many bytes: the alphabet's characters in turn, then as many `a` as are missing.
-fn text_of(alphabet: &str, size: usize) -> String {
+pub fn text_of(alphabet: &str, size: usize) -> String {
     let mut text = String::new();
     for character in alphabet.chars().cycle().take(size) {
         if text.len() + character.len_utf8() > size {
@@ -47,7 +45,7 @@ fn text_of(alphabet: &str, size: usize) -> String {
 }
 
 /// A tuple of the same string again and again, 1 MiB in all.
-fn strings(letter: u8, text: &str) -> Vec<u8> {
+pub fn strings(letter: u8, text: &str) -> Vec<u8> {
     let mut string = vec![letter];
     match letter {
         b'z' => string.push(text.len() as u8),
@@ -58,8 +56,13 @@ fn strings(letter: u8, text: &str) -> Vec<u8> {
     [b"(", &(count as u32).to_le_bytes()[..], &string.repeat(count)].concat()
 }
 
+pub fn small_integers(letter: u8) -> Vec<u8> {
+    let ints: Vec<u8> = (0..1_000_000u32).flat_map(|i| [&[b'i'][..], &(i % 1000).to_le_bytes()].concat()).collect();
+    [&[letter][..], &1_000_000u32.to_le_bytes(), &ints].concat()
+}
+
 /// A tuple of a tuple of names and 1,000 code objects that refer to it: at each of them every name is checked again.
-fn sharing(names: u32) -> Vec<u8> {
+pub fn sharing(names: u32) -> Vec<u8> {
     let before = b"c\0\0\0\0\0\0\0\0\0\0\0\0\0\0\0\0\0\0\0\0s\0\0\0\0)\0r\0\0\0\0)\0s\0\0\0\0";
     let after = b"z\0z\0z\0\x01\0\0\0s\0\0\0\0s\0\0\0\0";
     let codes = [before.as_slice(), after].concat().repeat(1000);
@@ -68,7 +71,7 @@ fn sharing(names: u32) -> Vec<u8> {
 }
 
 /// CPython 3.11 has opcodes that the Rust refuses: in place of every instruction stands one that it takes.
-fn with_plain_instructions(mut module: Vec<u8>) -> Vec<u8> {
+pub fn with_plain_instructions(mut module: Vec<u8>) -> Vec<u8> {
     let stores = Stores::just_enough(&module);
     let node = |number: u32| &stores.nodes[5 * number as usize..][..5];
     for code in stores.nodes.chunks(5).filter(|node| node[0] == u32::from(b'c')) {
@@ -82,15 +85,15 @@ fn with_plain_instructions(mut module: Vec<u8>) -> Vec<u8> {
 /// An opcode that the Rust keeps as it is.
 const PLAIN: u8 = 30;
 
-struct Stores {
-    nodes: Vec<u32>,
-    entries: Vec<u32>,
+pub struct Stores {
+    pub nodes: Vec<u32>,
+    pub entries: Vec<u32>,
     slots: Vec<u32>,
 }
 
 impl Stores {
     /// Lengths that fit the value exactly, filled with its reading.
-    fn just_enough(input: &[u8]) -> Self {
+    pub fn just_enough(input: &[u8]) -> Self {
         let most = input.len().min(MEBIBYTE);
         let mut stores = Self { nodes: vec![0; 5 * most], entries: vec![0; 2 * most], slots: vec![0; most] };
         let counts = stores.read(input);

@@ -4,7 +4,9 @@ use crate::lent::{Lent, Part};
 use crate::reading::{Reading, read};
 use crate::stores::leaf;
 use crate::tally::Tally;
-use sillgarland_sys::refusals::{self, MOST_BYTES, MOST_NESTING, MOST_RECORDS};
+use crate::write_model::{self, Refused, Store};
+use crate::writing::Source;
+use sillgarland_sys::refusals::{self, MOST_BYTES, MOST_NESTING, MOST_RECORDS, NOTHING};
 use sillgarland_sys::{Located, sill_locate_node};
 
 pub fn hold() -> bool {
@@ -23,6 +25,21 @@ pub fn hold() -> bool {
     bytes.push(b'N');
     record(&mut tally, "one byte more", &bytes, Some((refusals::INPUT_TOO_LONG, 0)));
     tally.count("one byte more: the leaf question, a node's line table", too_long(&Part::new(&bytes)));
+    let none = [u32::from(b'N'), 0, 0, NOTHING, 0];
+    let too_long = Store { input: &bytes, nodes: &none, entries: &[], used: [1, 0] };
+    tally.count("one byte more: writing", written(&too_long, 0, Some((refusals::INPUT_TOO_LONG, 0))));
+    let nodes = Store { input: &[], nodes: &none.repeat(most + 1), entries: &[], used: [u32::MAX; 2] };
+    tally.count("writing the last node that counts", written(&nodes, MOST_RECORDS - 1, None));
+    tally.count("one node more: writing", written(&nodes, MOST_RECORDS, Some((refusals::BAD_TABLE, most))));
+    let of_one = |first: u32| [none, [u32::from(b')'), 0, 1, first, 1]].concat();
+    let entries = [0, NOTHING].repeat(most + 1);
+    for (class, first, refused) in [
+        ("writing by the last entry that counts", MOST_RECORDS - 1, None),
+        ("one entry more: writing", MOST_RECORDS, Some((refusals::BAD_TABLE, 1))),
+    ] {
+        let store = Store { input: &[1], nodes: &of_one(first), entries: &entries, used: [u32::MAX; 2] };
+        tally.count(class, written(&store, 1, refused));
+    }
     let deep = |levels: usize| [b")\x01".repeat(levels - 1), b"N".to_vec()].concat();
     let levels = MOST_NESTING as usize;
     record(&mut tally, "the deepest nesting, more allowed", &deep(levels), None);
@@ -42,6 +59,16 @@ fn record(tally: &mut Tally, class: &'static str, input: &[u8], refused: Option<
         held = stores.iter().try_for_each(|store| store.holds(class, &[]));
     }
     tally.count(class, held);
+}
+
+/// Writes as the model says, and as is said here.
+fn written(store: &Store, root: u32, refused: Option<(u32, usize)>) -> Result<(), String> {
+    let expected = write_model::write(store, root, MOST_NESTING, 9);
+    let said = refused.map(|(number, place)| Refused { number, place: place as u32 });
+    if expected.as_ref().err() != said.as_ref() {
+        return Err(format!("the model says {expected:?} and not {said:?}"));
+    }
+    Source::new(store).hold((root, MOST_NESTING, 9), expected.as_deref().map_err(|refused| *refused))
 }
 
 fn too_long(part: &Part) -> Result<(), String> {

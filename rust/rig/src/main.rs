@@ -48,6 +48,7 @@ mod value;
 mod values;
 mod varint;
 mod write;
+mod write_again;
 mod write_model;
 mod write_same;
 mod writing;
@@ -100,6 +101,11 @@ fn run(options: Options) -> Result<bool, String> {
             Ok(true)
         }
         Task::CPython(file) => Ok(cpython::hold(&contents(file)?)),
+        Task::WriteAgain(file, out) => write_again::write_all(&contents(file)?, out),
+        Task::Exact => {
+            memory::lend(memory::Mode::Exact);
+            Ok(all([nulls::hold(), replay_answers()]))
+        }
         Task::Replay => Ok(replay_lists()),
         Task::Rooms => without_the_rust(),
         Task::Short => Ok(all([beside_the_rust(&options)?, without_the_rust()?, extremes::hold(), replay_lists()])),
@@ -137,12 +143,16 @@ fn contents(file: &str) -> Result<String, String> {
 }
 
 fn replay_lists() -> bool {
+    all([numbers::hold(), nulls::hold(), limits::hold(), stack::hold(), replay_answers()])
+}
+
+fn replay_answers() -> bool {
     let replay_all =
         |folder| all([replay::<Varints>(folder), replay::<LineTables>(folder), replay::<LocalNames>(folder)]);
     let fixed = all([replay_all("fixed"), replay::<Reads>("fixed"), replay::<Writes>("fixed")]);
     let vectors = all([replay_all("vectors"), replay::<ReadStores>("vectors"), replay::<Leaves>("vectors")]);
     let written = replay::<WriteStores>("vectors");
-    all([numbers::hold(), nulls::hold(), limits::hold(), stack::hold(), fixed, vectors, written])
+    all([fixed, vectors, written])
 }
 
 fn all<const N: usize>(held: [bool; N]) -> bool {

@@ -1,7 +1,7 @@
 //! A null pointer with length 0 is an empty slice: every exported function, called so, answers as for no bytes and no room.
 use crate::tally::Tally;
 use sillgarland_sys::{Found, Leaf, Located, Read, Split, Written, refusals};
-use sillgarland_sys::{sill_leaf, sill_locate_node, sill_read};
+use sillgarland_sys::{sill_leaf, sill_locate_node, sill_read, sill_write};
 use sillgarland_sys::{sill_locate, sill_locations, sill_read_varint, sill_read_varint_with_start, sill_split};
 use sillgarland_sys::{
     sill_write_signed_varint, sill_write_varint, sill_write_varint_be, sill_write_varint_with_start,
@@ -32,6 +32,8 @@ pub fn hold() -> bool {
         count(&mut tally, "sill_split", split, no_names);
         count(&mut tally, "sill_read", sill_read(n, 0, w, 0, w, 0, w, 0, 1), no_object);
         count(&mut tally, "sill_leaf", sill_leaf(n, 0, null(), 0, 0, 0), no_node);
+        let bad_table = Written { refusal: refusals::BAD_TABLE, place: 0, written: 0 };
+        count(&mut tally, "sill_write", sill_write(n, 0, null(), 0, null(), 0, 0, 0, 0, 1, m, 0), bad_table);
         let located = sill_locate_node(n, 0, null(), 0, 0, 0, 1, 0, w, 0);
         count(
             &mut tally,

@@ -12,7 +12,9 @@ usage: rig [--tables FILE]                       compare with the carried Rust, 
        rig --extremes                            values and line tables of 16 MiB in each extreme shape, timed
        rig --has-rust                            say yes or no: whether it was built with the carried Rust
        rig --replay                              replay the lists only: tests/fixed and tests/vectors
+       rig --exact                               the same lists, in memory just as long as is lent: for valgrind
        rig --cpython FILE                        hold the port to what CPython says
+       rig --write-again FILE OUT                read and write what CPython marshals, for CPython to load from OUT
        rig --write-fixed FOLDER [--tables FILE]  write the carried Rust's answers as lists into FOLDER
 FILE is what tools/cpython-tables writes. Runs from the repository's root.
 
@@ -36,7 +38,10 @@ pub enum Task {
     Goldens(Vec<String>),
     HasRust,
     Extremes,
+    /// The lists in memory just as long as is lent, for valgrind.
+    Exact,
     CPython(String),
+    WriteAgain(String, String),
     WriteFixed(String),
 }
 
@@ -66,6 +71,11 @@ impl Options {
                 }
                 "--extremes" => options.set(Task::Extremes)?,
                 "--has-rust" => options.set(Task::HasRust)?,
+                "--exact" => options.set(Task::Exact)?,
+                "--write-again" => {
+                    let file = name()?;
+                    options.set(Task::WriteAgain(file, name()?))?;
+                }
                 "--cpython" => options.set(Task::CPython(name()?))?,
                 "--write-fixed" => options.set(Task::WriteFixed(name()?))?,
                 "--seed" => options.seed = Some(number(&word, &name()?)?),

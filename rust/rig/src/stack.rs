@@ -1,9 +1,10 @@
-//! The stack that the deepest reading takes: containers and code nested as deep as document 01 allows are read in a thread
-//! of 1 MiB; and how many bytes of it a level of nesting costs.
+//! The stack that the deepest reading and writing take: containers and code nested as deep as document 01 allows are read
+//! and written in a thread of 1 MiB; and how many bytes of it a level of nesting costs.
 use crate::lent::Part;
 use crate::nested::nested;
 use crate::reading::{ample, read};
 use crate::tally::Tally;
+use crate::writing::Source;
 use sillgarland_sys::refusals::{ACCEPTED, MOST_NESTING};
 use std::hint::black_box;
 use std::thread;
@@ -17,22 +18,28 @@ const MARK: u8 = 0xA5;
 pub fn hold() -> bool {
     let mut tally = Tally::new("stack");
     for (kind, name) in NAMES.iter().enumerate() {
-        tally.count("kinds of value nested 2,000 deep in a thread of 1 MiB", hold_kind(kind, name));
+        let read = hold_kind(kind, &format!("{name} read"), reading);
+        tally.count("kinds of value nested 2,000 deep read in a thread of 1 MiB", read);
+        let written = hold_kind(kind, &format!("{name} written"), writing);
+        tally.count("kinds of value nested 2,000 deep written in a thread of 1 MiB", written);
     }
     tally.finish()
 }
 
 const NAMES: [&str; 6] = ["tuples", "lists", "dict keys", "dict values", "slices", "code"];
 
-fn hold_kind(kind: usize, name: &str) -> Result<(), String> {
-    let used = |levels: usize| in_thread(MEASURED_IN, move || measure(&Part::new(&nested(levels, kind))));
+/// Something to be done with a value nested so deep, made ready.
+type Work = Box<dyn Fn() -> Result<(), String>>;
+
+fn hold_kind(kind: usize, name: &str, work: fn(Vec<u8>) -> Work) -> Result<(), String> {
+    let used = |levels: usize| in_thread(MEASURED_IN, move || measure(&work(nested(levels, kind))));
     let (deep, shallow) = (used(MOST_NESTING as usize)?, used(MOST_NESTING as usize / 10)?);
     let level = (deep - shallow) as f64 / (f64::from(MOST_NESTING) * 0.9);
     println!("stack: {name}: {deep} bytes at nesting {MOST_NESTING}, {level:.0} a level");
     if deep > STACK - OF_THE_THREAD {
         return Err(format!("{name}: {deep} bytes of stack"));
     }
-    in_thread(STACK, move || deepest(&Part::new(&nested(MOST_NESTING as usize, kind))))
+    in_thread(STACK, move || work(nested(MOST_NESTING as usize, kind))())
 }
 
 fn in_thread<T: Send + 'static>(
@@ -43,20 +50,31 @@ fn in_thread<T: Send + 'static>(
     thread.join().map_err(|_| "the thread ended badly".to_string())?
 }
 
-fn deepest(part: &Part) -> Result<(), String> {
-    let answer = black_box(read(part, MOST_NESTING, ample(part.bytes()))).answer;
-    if answer.refusal == ACCEPTED { Ok(()) } else { Err(format!("{answer:?}")) }
+fn reading(input: Vec<u8>) -> Work {
+    let part = Part::new(&input);
+    Box::new(move || {
+        let answer = black_box(read(&part, MOST_NESTING, ample(part.bytes()))).answer;
+        if answer.refusal == ACCEPTED { Ok(()) } else { Err(format!("{answer:?}")) }
+    })
 }
 
-/// Marks the stack below, reads, and looks how far down the marks are gone.
+fn writing(input: Vec<u8>) -> Work {
+    let source = Source::of_reading(&input, &read(&Part::new(&input), MOST_NESTING, ample(&input)));
+    Box::new(move || {
+        let (answer, _) = black_box(source.write(0, MOST_NESTING, 4 * input.len()));
+        if answer.refusal == ACCEPTED { Ok(()) } else { Err(format!("{answer:?}")) }
+    })
+}
+
+/// Marks the stack below, does the work, and looks how far down the marks are gone.
 #[inline(never)]
-fn measure(part: &Part) -> Result<usize, String> {
+fn measure(work: &Work) -> Result<usize, String> {
     let here = 0u8;
     let top = (&raw const here) as usize;
     let marked = top - MEASURED_IN * 7 / 8..top - 4096;
     // SAFETY: the thread's stack reaches further down than this, and nothing below the present frame is in use.
     marked.clone().for_each(|at| unsafe { (at as *mut u8).write_volatile(MARK) });
-    deepest(part)?;
+    work()?;
     // SAFETY: as above.
     let touched = marked.clone().find(|at| unsafe { (*at as *const u8).read_volatile() } != MARK);
     Ok(top - touched.unwrap_or(marked.end))

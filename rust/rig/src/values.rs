@@ -69,6 +69,7 @@ pub fn asks_of_the_writer(random: usize, modules: &[Ask]) -> impl Iterator<Item 
     let some = short_inputs().chain(all_over(&WIDE, 4)).chain(all_over(&NARROW[..16], 6).step_by(7));
     sheets()
         .chain(code_faults())
+        .chain(code_strings())
         .chain(some.filter(may_be_whole))
         .chain(deep_inputs(&[1990, 1999, 2000]))
         .chain(random_inputs(14, random))
@@ -136,6 +137,26 @@ fn code_faults() -> impl Iterator<Item = Ask> {
     let referring = codes.clone().into_iter().map(|code| [b")\x02\xCE".as_slice(), &code].concat());
     let inputs: Vec<_> = referring.chain(codes).collect();
     inputs.into_iter().map(|input| Ask { input, nesting: MOST_NESTING })
+}
+
+/// Codes with strings about as long as the short letter holds, ASCII to the end or not, as names, as a local name, as file,
+/// name and qualified name.
+pub fn code_strings() -> impl Iterator<Item = Ask> {
+    let string = |len: usize, last: &str| {
+        let text = "n".repeat(len - last.len()) + last;
+        [b"u", &(len as u32).to_le_bytes()[..], text.as_bytes()].concat()
+    };
+    let lengths = [1, 2, 127, 128, 253, 254, 255, 256, 257, 258, 511, 512];
+    let strings = lengths.into_iter().flat_map(move |len| ["", "m", "\x7f", "\u{80}"].map(|last| (len, last)));
+    let fitting = strings.filter(|(len, last)| *len >= last.len()).map(move |(len, last)| string(len, last));
+    fitting.flat_map(|string| {
+        [2, 3, 5, 6, 7].map(|i| {
+            let tuple = [b")\x01", &string[..]].concat();
+            let mut parts = PARTS;
+            parts[i] = if i < 5 { &tuple } else { &string };
+            Ask { input: code_of([0; 5], parts), nesting: MOST_NESTING }
+        })
+    })
 }
 
 const LETTERS: &[u8] = b"0NFTS.iIlgfxystr()[{cu<>:aAzZ";

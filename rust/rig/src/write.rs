@@ -243,7 +243,7 @@ pub mod carried_side {
 
     /// A selection of the above for the list in the repository.
     pub fn asks_to_list() -> impl Iterator<Item = Ask> {
-        twice(values::asks_to_list())
+        twice(values::asks_to_list().chain(values::code_strings().step_by(7)))
     }
 
     pub fn random_asks(seed: u64, count: usize) -> impl Iterator<Item = Ask> {
