@@ -16,7 +16,6 @@ pub enum Mode {
 static MODE: AtomicU8 = AtomicU8::new(Mode::Marked as u8);
 
 /// From here on memory is lent so.
-#[cfg_attr(not(carried), expect(dead_code))]
 pub fn lend(mode: Mode) {
     MODE.store(mode as u8, Relaxed);
 }

@@ -141,6 +141,7 @@ fn code_faults() -> impl Iterator<Item = Ask> {
 
 /// Codes with strings about as long as the short letter holds, ASCII to the end or not, as names, as a local name, as file,
 /// name and qualified name.
+#[cfg(carried)]
 pub fn code_strings() -> impl Iterator<Item = Ask> {
     let string = |len: usize, last: &str| {
         let text = "n".repeat(len - last.len()) + last;
