@@ -52,7 +52,9 @@ pub fn inputs_to_sweep(seed: u64, random: usize) -> impl Iterator<Item = Vec<u8>
 #[cfg(carried)]
 pub fn asks_to_list() -> impl Iterator<Item = Ask> {
     let inputs = short_inputs().step_by(40_009);
-    let longer = [(4, 100_003), (6, 410_009)].into_iter().flat_map(|(len, step)| all_over(&NARROW, len).step_by(step));
+    let longer = all_over(&WIDE, 4).step_by(50_021).chain(all_over(&NARROW, 6).step_by(210_011));
+    let nestings = [MOST_NESTING, 1, MOST_NESTING, 2, 3, MOST_NESTING + 1, 4];
+    let longer = longer.enumerate().map(move |(i, ask)| Ask { nesting: nestings[i % nestings.len()], ..ask });
     let deep = deep_inputs(&[6, 7, 8]).filter(|ask| ask.nesting < MOST_NESTING);
     sheets()
         .chain(code_faults())
