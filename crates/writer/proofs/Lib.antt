@@ -4,3 +4,4 @@ pub mod Fronting
 pub mod Opening
 pub mod Coding
 pub mod Finishing
+pub mod Unread
