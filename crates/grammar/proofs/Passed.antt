@@ -2,17 +2,17 @@
 use mathlib.Core.Path.{_≡_, refl, sym, ap, subst, _∙_}
 use Prim.Native.Nat.{ℕ, zero, suc, _+_, _≤_, _<_}
 use native.Mathlib.Omega.{arith}
-use mathlib.Core.Bool.{Bool, true, false, _&&_}
+use mathlib.Core.Bool.{Bool, true, false, cond, _&&_}
 use mathlib.Core.Option.{Option, none, some}
 use mathlib.Core.List.{List, [], _∷_}
 use lib.ListN.{length, getD}
 use lib.Dec.{ltb, leb, eqb}
 use borrow.Author.Tests.{ltb-true, leb-true, eqb-true}
-use Rattle.grammar.specs.Letters.{Class, refers, keeps, contains, codes, refuses, classOf}
+use Rattle.grammar.specs.Letters.{Class, refers, keeps, contains, codes, refuses, classOf, isString}
 use Rattle.grammar.specs.Fields.{codeNumbers, sumAt}
 use Rattle.grammar.specs.State.{Node, entryAt}
 use Rattle.grammar.specs.Steps.{Rule, whatever, asBytes, asTuple, asNames, asString, rules, codeParts}
-use Rattle.grammar.specs.Record.{ruled, sound, nodesIn, entriesIn, soundAt, Tables, put, chain, whole, nodeOf, unless, suited, orElse, badPart, badEnd, holds, faulty, judged, lookedAs, lookedOf, look}
+use Rattle.grammar.specs.Record.{ruled, sound, nodesIn, entriesIn, soundAt, Tables, put, chain, whole, nodeOf, badString, unless, suited, orElse, badPart, badEnd, holds, faulty, judged, lookedAs, lookedOf, look}
 use Rattle.grammar.proofs.Tests.{none-some, same-some, both-true, cond-some}
 
 -- A record.
@@ -78,6 +78,16 @@ module _ (t : Tables) where
           → ((ks : List ℕ) → chain t k (entryAt (t .entries) e .next) ≡ some ks → length ks ≡ k) → length kids ≡ suc k
       go none p r ih = none-some r
       go (some ks) p r ih = ap length (sym (same-some r)) ∙ ap suc (ih ks p)
+
+  -- the first of strings that are all sound, and the others
+  pub first-string : (v : ℕ) (vs : List ℕ) → badString t (v ∷ vs) ≡ none
+      → (soundAt (t .input) (t .nodes) (t .usedNodes) v && isString (nodeOf t v .letter) ≡ true) × (badString t vs ≡ none)
+  unfolding badString
+  first-string v vs e = go (soundAt (t .input) (t .nodes) (t .usedNodes) v && isString (nodeOf t v .letter)) e
+    where
+      go : (b : Bool) → cond b (badString t vs) (some v) ≡ none → (b ≡ true) × (badString t vs ≡ none)
+      go true e = (refl, e)
+      go false e = none-some (sym e)
 
   -- a part that fits any rule has a whole record
   pub fits-some : (r : Rule) (v : ℕ) (o : Option (List ℕ)) → suited t r v o ≡ none → (kids : List ℕ) × (o ≡ some kids)

@@ -3,15 +3,15 @@
 use mathlib.Core.Path.{_≡_, refl, sym, ap, _∙_}
 use Prim.Native.Nat.{ℕ, _+_, _≤_}
 use native.Mathlib.Omega.{arith}
-use mathlib.Core.Bool.{Bool, true, false, cond, _&&_}
+use mathlib.Core.Bool.{Bool, true, false}
 use mathlib.Core.Option.{none, some}
 use mathlib.Core.List.{List, [], _∷_}
 use lib.ListN.{length, getD}
 use Rattle.grammar.specs.Letters.{isBytes, isTuple, isString}
 use Rattle.grammar.specs.Steps.{Rule, whatever, asBytes, asTuple, asNames, asString, rules}
 use Rattle.grammar.specs.Record.{soundAt, Tables, whole, nodeOf, badString, names, suited, badPart}
-use Rattle.grammar.proofs.Tests.{none-some, same-some}
-use Rattle.grammar.proofs.Passed.{unless-none, or-none, looked-held}
+use Rattle.grammar.proofs.Tests.{none-some, same-some, both-true}
+use Rattle.grammar.proofs.Passed.{first-string, unless-none, or-none, looked-held}
 use Rattle.writing.specs.Shape.{shapeOf}
 use Rattle.meaning.specs.Value.{Value, Values, nil, more, sequence, countOf}
 use Rattle.meaning.specs.Proper.{AllTexts, Suits, SuitFrom}
@@ -45,16 +45,13 @@ module _ (t : Tables) where
       (y .1, y .2 ∙ ap (λ l. sequence l (y .1)) z)
 
   good-strings : (vs : Values) (kids : List ℕ) → MeanAll (InTables t) kids vs → badString t kids ≡ none → AllTexts vs
-  unfolding badString Means
+  unfolding Means
   good-strings nil kids m e = tt
   good-strings (more v vs) kids m e =
-      let e′ : badString t (m .0 ∷ m .1) ≡ none = rw (m .2) at e in
-      go (soundAt (t .input) (t .nodes) (t .usedNodes) (m .0)) (isString (nodeOf t (m .0) .letter)) refl e′ (λ q. good-strings vs (m .1) (m .4) q)
-    where
-      go : (a b : Bool) → isString (nodeOf t (m .0) .letter) ≡ b → cond (a && b) (badString t (m .1)) (some (m .0)) ≡ none → (badString t (m .1) ≡ none → AllTexts vs) → AllTexts (more v vs)
-      go true true q e ih = let x = held-text (m .0) v q (m .3) in (x .0, x .1, ih e)
-      go true false q e ih = none-some (sym e)
-      go false b q e ih = none-some (sym e)
+      let f = first-string t (m .0) (m .1) (rw (m .2) at e) in
+      let b = both-true (soundAt (t .input) (t .nodes) (t .usedNodes) (m .0)) (isString (nodeOf t (m .0) .letter)) (f .0) in
+      let x = held-text (m .0) v (b .1) (m .3) in
+      (x .0, x .1, good-strings vs (m .1) (m .4) (f .1))
 
   good-part : (rule : Rule) (n : ℕ) (v : Value) → Means (InTables t) n v → suited t rule n (whole t n) ≡ none → Suits rule v
   unfolding Means

@@ -15,7 +15,7 @@ use Rattle.grammar.specs.Fields.{contents}
 use Rattle.grammar.specs.State.{nodeAt, entryAt}
 use Rattle.grammar.specs.Record.{Tables, chain, badString, soundAt}
 use Rattle.grammar.proofs.Tests.{never, both-true}
-use Rattle.grammar.proofs.Passed.{sound-ruled}
+use Rattle.grammar.proofs.Passed.{sound-ruled, first-string}
 use Rattle.records.proofs.Soundness.{sound-node}
 use Rattle.writing.specs.Names.{contentsOf, sameBytes, having, namedIn, apartFrom, inGroups}
 use Rattle.writing.proofs.Numbers.{part-next}
@@ -109,7 +109,7 @@ pub record Along {X : Type 0} (t : Tables) (l : Locals) (P : List ℕ → List �
   pub fine : badString t rest ≡ none
   pub comes : P (slice (l .kinds + i) (l .kinds + l .count) (t .input)) rest ≡ goal
 
-some-of : (o : Option (List ℕ)) → isSome o ≡ true → o ≡ some (orNone o)
+pub some-of : (o : Option (List ℕ)) → isSome o ≡ true → o ≡ some (orNone o)
 some-of none e = never e
 some-of (some vs) e = refl
 
@@ -134,23 +134,13 @@ pub record Next {X : Type 0} (t : Tables) (l : Locals) (P : List ℕ → List �
   pub here : l .kinds + i < length (t .input)
   pub comes : P (getD (t .input) (l .kinds + i) 0 ∷ slice (l .kinds + (i + 1)) (l .kinds + l .count) (t .input)) (v ∷ rest) ≡ goal
 
-first-text : (t : Tables) (v : ℕ) (vs : List ℕ) → badString t (v ∷ vs) ≡ none
-    → (stringAt (t .input) (t .nodes) (t .usedNodes) v ≡ true) × (badString t vs ≡ none)
-unfolding badString
-first-text t v vs e = go (stringAt (t .input) (t .nodes) (t .usedNodes) v) refl e
-  where
-    go : (b : Bool) → stringAt (t .input) (t .nodes) (t .usedNodes) v ≡ b → cond b (badString t vs) (some v) ≡ none
-        → (stringAt (t .input) (t .nodes) (t .usedNodes) v ≡ true) × (badString t vs ≡ none)
-    go true p e = (p, e)
-    go false p e = let z : _≡_ {A = ℕ} 0 1 = cc in absurd (omega arith)
-
 pub along-next : {X : Type 0} (t : Tables) (l : Locals) (P : List ℕ → List ℕ → X) {goal : X} {i e : ℕ} (v : ℕ) → Listed t l → Along t l P goal i e
     → i < l .count → v ≡ entryAt (t .entries) e .child → Next t l P goal i e v
 along-next t l P {goal} {i} {e} v k w h is =
     let n : l .count - i ≡ suc (l .count - (i + 1)) = omega arith in
     let d = headed t (l .count - (i + 1)) e (w .rest) (sym (ap (λ c. chain t c e) n) ∙ w .chained) in
     let are : w .rest ≡ v ∷ d .rest = d .are ∙ ap (λ x. x ∷ d .rest) (sym is) in
-    let texts = first-text t v (d .rest) (sym (ap (badString t) are) ∙ w .fine) in
+    let texts = first-string t v (d .rest) (sym (ap (badString t) are) ∙ w .fine) in
     let room = k .kinds in
     record {
       rest = d .rest;

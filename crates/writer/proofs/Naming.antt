@@ -20,7 +20,7 @@ use Rattle.writing.specs.Canonical.{bytes32, codeString}
 use Rattle.writing.specs.Names.{contentsOf, inGroups}
 use Rattle.writing.specs.Steps.{levelled, stringPart, namesPart, someOf, kidsOf}
 use Rattle.grammar.proofs.Tests.{never, none-some, same-some}
-use Rattle.grammar.proofs.Passed.{whole-some, chain-length}
+use Rattle.grammar.proofs.Passed.{whole-some, chain-length, first-string}
 use Rattle.writing.proofs.Into.{each-append, then-then}
 use Rattle.puts.specs.declared.Wrote.{Wrote}
 use Rattle.puts.specs.declared.Wrote.the-variants as wrote
@@ -60,20 +60,11 @@ string-put t a v {p} {m} h ep em k =
 abbrev pub Texts : Tables → List ℕ → Type 0
 Texts t vs = badString t vs ≡ none
 
-first-text : (t : Tables) (v : ℕ) (vs : List ℕ) → Texts t (v ∷ vs) → (stringAt (t .input) (t .nodes) (t .usedNodes) v ≡ true) × Texts t vs
-unfolding badString
-first-text t v vs e = go (stringAt (t .input) (t .nodes) (t .usedNodes) v) refl e
-  where
-    go : (b : Bool) → stringAt (t .input) (t .nodes) (t .usedNodes) v ≡ b → cond b (badString t vs) (some v) ≡ none
-        → (stringAt (t .input) (t .nodes) (t .usedNodes) v ≡ true) × Texts t vs
-    go true p e = (p, e)
-    go false p e = none-some (sym e)
-
 pub text-here : (t : Tables) (v : ℕ) (vs : List ℕ) → Texts t (v ∷ vs) → stringAt (t .input) (t .nodes) (t .usedNodes) v ≡ true
-text-here t v vs e = first-text t v vs e .0
+text-here t v vs e = first-string t v vs e .0
 
 pub texts-later : (t : Tables) (v : ℕ) (vs : List ℕ) → Texts t (v ∷ vs) → Texts t vs
-texts-later t v vs e = first-text t v vs e .1
+texts-later t v vs e = first-string t v vs e .1
 
 -- What a part that must be a tuple of names is, by its count and its first entry.
 pub record Tuple (t : Tables) (v count first : ℕ) : Type 0 where

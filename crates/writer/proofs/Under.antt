@@ -2,7 +2,7 @@
 use mathlib.Core.Path.{_≡_, refl, sym, ap, subst, _∙_}
 use Prim.Native.Nat.{ℕ, suc, _+_, _-_, _≤_, _<_}
 use mathlib.Core.Bool.{true}
-use mathlib.Core.Option.{Option, none, some}
+use mathlib.Core.Option.{some}
 use native.Mathlib.Omega.{arith}
 use mathlib.Core.List.{List, _∷_}
 use lib.ListN.{length, take, drop}
@@ -12,16 +12,21 @@ use Rattle.grammar.specs.State.{entryAt}
 use Rattle.grammar.specs.Record.{Tables, chain}
 use Rattle.writing.specs.Writing.{Writing, ended, refused, then, each, into}
 use Rattle.writing.specs.Answer.{mostOutput}
-use Rattle.grammar.proofs.Tests.{never}
 use Rattle.writing.proofs.Into.{then-ended, into-then, into-stops}
 use Rattle.puts.specs.declared.Wrote.{Wrote}
 use Rattle.puts.specs.declared.Wrote.the-variants as wrote
 use Rattle.puts.specs.Puts.{Open, Agrees, Puts}
 use Rattle.tables.specs.Looking.{isSome}
-use Rattle.tables.specs.Groups.{orNone}
+use Rattle.tables.proofs.Groups.{some-of}
 use Rattle.tables.proofs.Chains.{onto, headed, chain-none}
 use Rattle.writer.specs.Onward.{Onward}
 use Rattle.writer.specs.Heads.{kidsFrom}
+
+-- what is untouched from a place on is so from a later one
+pub later : (o o₀ : List ℕ) (p a : ℕ) → drop p o ≡ drop p o₀ → p ≤ a → drop a o ≡ drop a o₀
+later o o₀ p a e h =
+    let n : p + (a - p) ≡ a = omega arith in
+    sym (ap (λ m. drop m o) n) ∙ sym (drop-drop (a - p) p o) ∙ ap (drop (a - p)) e ∙ drop-drop (a - p) p o₀ ∙ ap (λ m. drop m o₀) n
 
 pub start : {o : List ℕ} {at : ℕ} {w : Writing} → at ≤ length o → Onward o at w o at w
 start h = record { same = refl; ahead = omega arith; inside = h; kept = refl; comes = refl }
@@ -61,14 +66,9 @@ module _ {o₀ : List ℕ} {at : ℕ} {w₀ : Writing} {o : List ℕ} {p : ℕ} 
           same = put .same ∙ k .same;
           ahead = omega (arith, k .ahead, e .1);
           inside = omega (arith, k .same, e .2);
-          kept = e .3 ∙ later (k .kept) (e .1);
+          kept = e .3 ∙ later o o₀ p a (k .kept) (e .1);
           comes = sym (into-then (length o₀) (take p o) u v (take a o′) (ap (λ n. into n (take p o) u) (sym (k .same)) ∙ e .0)) ∙ k .comes;
         }
-      where
-        later : drop p o ≡ drop p o₀ → p ≤ a → drop a o ≡ drop a o₀
-        later e h =
-            let n : p + (a - p) ≡ a = omega arith in
-            sym (ap (λ m. drop m o) n) ∙ sym (drop-drop (a - p) p o) ∙ ap (drop (a - p)) e ∙ drop-drop (a - p) p o₀ ∙ ap (λ m. drop m o₀) n
 
 -- the last put answers for all
 pub last : {o₀ : List ℕ} {at : ℕ} {w₀ : Writing} {o : List ℕ} {p : ℕ} {o′ : List ℕ} {u : Writing} {r : Wrote} → Onward o₀ at w₀ o p u → Puts u p o r o′ → Puts w₀ at o₀ r o′
@@ -85,10 +85,6 @@ pub record Rowing (t : Tables) (f : ℕ → Writing) (Fine : List ℕ → Type 0
   pub chained : chain t (count - i) e ≡ some rest
   pub fine : Fine rest
   pub way : Onward o₀ at w₀ o p (each f rest)
-
-some-of : (c : Option (List ℕ)) → isSome c ≡ true → c ≡ some (orNone c)
-some-of none h = never h
-some-of (some vs) h = refl
 
 -- the child that comes next
 pub record Turn (t : Tables) (f : ℕ → Writing) (Fine : List ℕ → Type 0) (count : ℕ) (o₀ : List ℕ) (at : ℕ) (w₀ : Writing) (o : List ℕ) (i e p v : ℕ) : Type 0 where

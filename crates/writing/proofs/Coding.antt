@@ -2,7 +2,7 @@
 -- the same. Assumes nothing.
 use mathlib.Core.Path.{_≡_, refl, sym, ap, ap₂, _∙_}
 use Prim.Native.Nat.{ℕ, zero, suc, _-_}
-use mathlib.Core.Bool.{Bool, true, false, cond, _&&_, _||_}
+use mathlib.Core.Bool.{Bool, true, false, cond, _||_}
 use mathlib.Core.Option.{Option, none, some}
 use mathlib.Core.List.{List, [], _∷_, _++_}
 use lib.ListN.{length, getD, take, drop}
@@ -11,10 +11,10 @@ use Rattle.grammar.specs.Letters as letter
 use Rattle.grammar.specs.Letters.{Class, refers, keeps, contains, codes, refuses, classOf, isTuple, isString}
 use Rattle.grammar.specs.Steps as rule
 use Rattle.grammar.specs.Steps.{Rule, rules, kindsPart, linePart}
-use Rattle.grammar.specs.Record.{soundAt, Tables, nodeOf, whole, badString, names, suited, orElse, badPart, badEnd, Looked, holds, faulty, judged, lookedAs, look}
+use Rattle.grammar.specs.Record.{Tables, nodeOf, whole, badString, names, suited, orElse, badPart, badEnd, Looked, holds, faulty, judged, lookedAs, look}
 use Rattle.grammar.proofs.Tests.{none-some}
 use Rattle.grammar.proofs.Lettered.{Each}
-use Rattle.grammar.proofs.Passed.{unless-none, or-none, fits-some, fits-sound}
+use Rattle.grammar.proofs.Passed.{first-string, unless-none, or-none, fits-some, fits-sound}
 use Rattle.writing.specs.Writing.{Writing, ended, emit, then, each}
 use Rattle.writing.specs.Canonical.{bytes32, codeString, shownLine}
 use Rattle.writing.specs.Shape as shape
@@ -75,14 +75,8 @@ module _ (t t′ : Tables) (same : SameRead t t′) where
   Told v = contentsOf t v ≡ contentsOf t′ v
 
   strings-told : (vs : List ℕ) → badString t vs ≡ none → Each Told vs
-  unfolding badString
   strings-told [] e = tt
-  strings-told (v ∷ vs) e = go (soundAt (t .input) (t .nodes) (t .usedNodes) v && isString (nodeOf t v .letter)) refl e (λ q. strings-told vs q)
-    where
-      go : (b : Bool) → soundAt (t .input) (t .nodes) (t .usedNodes) v && isString (nodeOf t v .letter) ≡ b → cond b (badString t vs) (some v) ≡ none
-          → (badString t vs ≡ none → Each Told vs) → Each Told (v ∷ vs)
-      go true q e rest = (string-told t t′ same v q, rest e)
-      go false q e rest = none-some (sym e)
+  strings-told (v ∷ vs) e = let f = first-string t v vs e in (string-told t t′ same v (f .0), strings-told vs (f .1))
 
   kids-told : (v : ℕ) (kids : List ℕ) → whole t v ≡ some kids → Each Told kids → Each Told (kidsOf t v)
   unfolding look

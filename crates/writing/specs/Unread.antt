@@ -13,8 +13,8 @@ use Rattle.grammar.specs.Record.{Tables, nodeOf, nodesIn, entriesIn}
 abbrev pub SameFrom : (s s′ : List ℕ) → (at size : ℕ) → Type 0
 SameFrom s s′ at size = (i : ℕ) → at ≤ i → i < at + size → getD s i 0 ≡ getD s′ i 0
 
--- The bytes of a node itself are its span; those of a code, in whose span its parts stand, its five numbers and its first line. What stands
--- before a place (headers, length fields of strings) and between the nodes is in none of these.
+-- The bytes of a node itself are its span; those of a code, in whose span its parts stand, its five numbers and its first line. In stores
+-- that a reading left, headers and the length fields of strings are in none of these.
 abbrev pub SameBytes : (s s′ : List ℕ) → Node → Class → Type 0
 SameBytes s s′ n refers = Unit
 SameBytes s s′ n (refuses number) = Unit

@@ -18,14 +18,11 @@ use Rattle.steps.specs.declared.Linked.the-variants as linked
 use Rattle.steps.specs.Held.{Safe, LineIn}
 use Rattle.steps.specs.Linking.{lineOn}
 use Rattle.steps.proofs.States.{holds-passed}
-use Rattle.reader.specs.Readings.{ChainReader, Lists, LinkedMoved, childOf, kidsOf, couplesOf}
-use Rattle.reader.proofs.Chains.{Stands, Inv, Then, inv-start, inv-as, inv-done, inv-end, inv-refused, inv-cut, inv-more}
+use Rattle.plain.specs.Readings.{ChainReader, Lists, LinkedMoved, childOf, kidsOf, couplesOf}
+use Rattle.plain.specs.Turns.{Inv, Then, InvKids, InvPairs, InvValue}
+use Rattle.plain.proofs.Chains.{inv-start, inv-as, inv-done, inv-end, inv-refused, inv-cut, inv-more}
 
 -- so many children
-pub record InvKids (s : List ℕ) (room : Room) (allowance count : ℕ) (line₀ : Line) (ns₀ es₀ ss₀ ns es ss : List ℕ) (line : Line) (i : ℕ) : Type 0 where
-  pub bound : i ≤ count
-  pub inv : Inv (kidsOf s count) (kidsOf s (count - i)) s room allowance line₀ ns₀ es₀ ss₀ ns es ss line
-
 pub kids-start : {s : List ℕ} {room : Room} {allowance count : ℕ} {line : Line} {ns es ss : List ℕ} → Safe s room (line .walk) ns es ss → LineIn line → InvKids s room allowance count line ns es ss ns es ss line 0
 kids-start {s} {room} {allowance} {count} safe li =
     let e : count ≡ count - 0 = omega arith in
@@ -56,17 +53,6 @@ pub couples-unroll : (s : List ℕ) (extra : ℕ) → (k : ℕ) × (extra ≤ k 
 unfolding couples
 couples-unroll s zero = (0, omega arith, λ f c h. rw (le-ltb (c .st .at) (length s) (omega arith)) refl)
 couples-unroll s (suc k) = (k, omega arith, λ f c h. refl)
-
-pub record InvPairs (s : List ℕ) (room : Room) (allowance : ℕ) (line₀ : Line) (ns₀ es₀ ss₀ ns es ss : List ℕ) (line : Line) : Type 0 where
-  pub stands : Stands s room line₀ ns₀ es₀ ss₀ ns es ss line
-  pub inv : (extra₀ : ℕ) → length s ≤ line₀ .walk .at + extra₀
-      → (extra : ℕ) × (length s ≤ line .walk .at + extra) × Inv (couplesOf s extra₀) (couplesOf s extra) s room allowance line₀ ns₀ es₀ ss₀ ns es ss line
-
--- where a key is read and its value is asked for
-pub record InvValue (s : List ℕ) (room : Room) (allowance : ℕ) (line₀ : Line) (ns₀ es₀ ss₀ ns es ss : List ℕ) (line : Line) : Type 0 where
-  pub stands : Stands s room line₀ ns₀ es₀ ss₀ ns es ss line
-  pub inv : (extra₀ : ℕ) → length s ≤ line₀ .walk .at + extra₀
-      → (extra : ℕ) × (length s ≤ line .walk .at + extra) × Inv (couplesOf s extra₀) (Then (childOf s whatever) (couplesOf s extra)) s room allowance line₀ ns₀ es₀ ss₀ ns es ss line
 
 abbrev PairLists : List ℕ → Room → ℕ → Line → (ns es ss : List ℕ) → Linked → (ns′ es′ ss′ : List ℕ) → Type 0
 PairLists s room allowance line ns es ss r ns′ es′ ss′ = (extra : ℕ) → length s ≤ line .walk .at + extra → Lists (couplesOf s extra) 0 s room allowance line ns es ss r ns′ es′ ss′

@@ -23,24 +23,11 @@ use Rattle.steps.specs.declared.Next.{Next}
 use Rattle.steps.specs.declared.Next.the-variants as next
 use Rattle.steps.specs.Held.{Safe, LineIn}
 use Rattle.steps.specs.Linking.{ruleOf, lineLined, firstLined, NextOf, Nexts, belowOf}
-use Rattle.reader.specs.Readings.{Lists, LinkedMoved, Counted, ReadsChild, BodyLists, ReadsBody, childOf, partsOf, bodyOf}
-use Rattle.reader.proofs.Chains.{Stands, lists-inside}
-use Rattle.reader.proofs.Loops.{InvKids, kids-start, kids-end, kids-cut, kids-next, InvPairs, InvValue, pairs-start, pairs-out, pairs-null, key-cut, key-next, item-cut, item-next}
-use Rattle.reader.proofs.Codes.{InvCode, code-start, code-fault, code-end, line-cut, line-stands, part-cut, code-next}
-
--- a dict's loop stands before a key or before a value
-pub record InvDict (s : List ℕ) (room : Room) (allowance : ℕ) (line₀ : Line) (ns₀ es₀ ss₀ ns es ss : List ℕ) (line : Line) : Type 0 where
-  pub key : line .count % 2 ≡ 0 → InvPairs s room allowance line₀ ns₀ es₀ ss₀ ns es ss line
-  pub item : (line .count % 2 ≡ 0 → ⊥) → InvValue s room allowance line₀ ns₀ es₀ ss₀ ns es ss line
-
-abbrev InvOf : Kids → ℕ → List ℕ → Room → ℕ → Line → (ns₀ es₀ ss₀ ns es ss : List ℕ) → Line → Type 0
-InvOf (kind.Items count) at s room allowance line₀ ns₀ es₀ ss₀ ns es ss line = InvKids s room allowance count line₀ ns₀ es₀ ss₀ ns es ss line (line .count)
-InvOf kind.Pairs at s room allowance line₀ ns₀ es₀ ss₀ ns es ss line = InvDict s room allowance line₀ ns₀ es₀ ss₀ ns es ss line
-InvOf kind.Parts at s room allowance line₀ ns₀ es₀ ss₀ ns es ss line = InvCode s room allowance at line₀ ns₀ es₀ ss₀ ns es ss line (line .count)
-
-pub record InvBody (kids : Kids) (at : ℕ) (s : List ℕ) (room : Room) (allowance : ℕ) (line₀ : Line) (ns₀ es₀ ss₀ ns es ss : List ℕ) (line : Line) : Type 0 where
-  pub stands : Stands s room line₀ ns₀ es₀ ss₀ ns es ss line
-  pub inv : InvOf kids at s room allowance line₀ ns₀ es₀ ss₀ ns es ss line
+use Rattle.plain.specs.Readings.{Lists, LinkedMoved, Counted, ReadsChild, BodyLists, ReadsBody, childOf, partsOf, bodyOf}
+use Rattle.plain.specs.Turns.{Stands, InvKids, InvDict, InvCode, InvOf, InvBody}
+use Rattle.plain.proofs.Chains.{lists-inside}
+use Rattle.plain.proofs.Loops.{kids-start, kids-end, kids-cut, kids-next, pairs-start, pairs-out, pairs-null, key-cut, key-next, item-cut, item-next}
+use Rattle.plain.proofs.Codes.{line-lists, code-start, code-fault, code-end, line-cut, part-cut, code-next}
 
 -- the first line adds no child, and moves on
 abbrev Passes : Line → Linked → Type 0
@@ -72,6 +59,36 @@ body-start {kids} {at} {s} {room} {allowance} {line} {ns} {es} {ss} safe li none
     go kind.Pairs = record { key = λ e. pairs-start safe li; item = λ odd. absurd (odd (ap (λ n. n % 2) none)) }
     go kind.Parts = subst (InvCode s room allowance at line ns es ss ns es ss line) (sym none) (code-start safe li)
 
+-- A child is asked for: what is known of it without the invariant.
+module _ {kids : Kids} {at : ℕ} {s : List ℕ} {ns : List ℕ} {line : Line} {n : Next} (x : Nexts s ns kids at line n) {m : Line} {rule : ℕ} (is : n ≡ next.Child m rule) where
+  asked : NextOf s ns kids at line (next.Child m rule)
+  asked = subst (NextOf s ns kids at line) is (x .is)
+
+  pub next-stands : {room : Room} {line₀ : Line} {ns₀ es₀ ss₀ es ss : List ℕ} → Stands s room line₀ ns₀ es₀ ss₀ ns es ss line → Stands s room line₀ ns₀ es₀ ss₀ ns es ss m
+  next-stands {room} {line₀} {ns₀} {es₀} {ss₀} {es} {ss} st = go kids asked
+    where
+      lined : firstLined s (line .count) line ≡ linked.Line m → Stands s room line₀ ns₀ es₀ ss₀ ns es ss m
+      lined e =
+          let mv : LinkedMoved 0 s room (line .walk) (linked.Line m) = subst (LinkedMoved 0 s room (line .walk)) e (line-lists 0 (line .count) st refl .moved) in
+          record { moved = omega (arith, st .moved, mv .0); lineIn = mv .1; nodeStore = st .nodeStore; entryStore = st .entryStore; slotStore = st .slotStore }
+
+      go : (kids : Kids) → NextOf s ns kids at line (next.Child m rule) → Stands s room line₀ ns₀ es₀ ss₀ ns es ss m
+      go (kind.Items count) y = rw (y .0) st
+      go kind.Pairs y = rw (y .0) st
+      go kind.Parts y = lined (y .0)
+
+  asked-on : line .walk .at ≤ m .walk .at
+  asked-on = go kids asked
+    where
+      go : (kids : Kids) → NextOf s ns kids at line (next.Child m rule) → line .walk .at ≤ m .walk .at
+      go (kind.Items count) y = let e : m .walk .at ≡ line .walk .at = ap (λ q. q .walk .at) (y .0) in omega arith
+      go kind.Pairs y = let e : m .walk .at ≡ line .walk .at = ap (λ q. q .walk .at) (y .0) in omega arith
+      go kind.Parts y = subst (Passes line) (y .0) (line-passes s (line .count) line) .1
+
+  -- the measure falls
+  pub next-less : {room : Room} {below : ℕ} {r : Linked} {es ss ns′ es′ ss′ : List ℕ} → ReadsChild rule s room below m ns es ss r ns′ es′ ss′ → {l : Line} → r ≡ linked.Line l → length s - l .walk .at < length s - line .walk .at
+  next-less {room} c {l} it = let mv : LinkedMoved 1 s room (m .walk) (linked.Line l) = subst (LinkedMoved 1 s room (m .walk)) it (c .lists .moved) in omega (arith, mv .0, asked-on)
+
 -- The ways out that read no child.
 module _ {kids : Kids} {at : ℕ} {s : List ℕ} {room : Room} {allowance : ℕ} {line₀ : Line} {ns₀ es₀ ss₀ ns es ss : List ℕ} {line : Line} {n : Next} (some : childrenOf kids ≡ parts → 0 < allowance) (v : InvBody kids at s room allowance line₀ ns₀ es₀ ss₀ ns es ss line) (x : Nexts s ns kids at line n) where
   pub body-done : {m : Line} → n ≡ next.Done m → ReadsBody kids at s room allowance line₀ ns₀ es₀ ss₀ (linked.Line m) ns es ss
@@ -102,25 +119,6 @@ module _ {kids : Kids} {at : ℕ} {s : List ℕ} {room : Room} {allowance : ℕ}
 
   -- A child is asked for.
   module _ {m : Line} {rule : ℕ} (is : n ≡ next.Child m rule) where
-    asked : NextOf s ns kids at line (next.Child m rule)
-    asked = subst (NextOf s ns kids at line) is (x .is)
-
-    pub body-stands : Stands s room line₀ ns₀ es₀ ss₀ ns es ss m
-    body-stands = go kids some (v .inv) asked
-      where
-        go : (kids : Kids) → (childrenOf kids ≡ parts → 0 < allowance) → InvOf kids at s room allowance line₀ ns₀ es₀ ss₀ ns es ss line → NextOf s ns kids at line (next.Child m rule) → Stands s room line₀ ns₀ es₀ ss₀ ns es ss m
-        go (kind.Items count) some inv y = rw (y .0) (v .stands)
-        go kind.Pairs some inv y = rw (y .0) (v .stands)
-        go kind.Parts some inv y = line-stands (some refl) inv (y .2) refl (y .0)
-
-    asked-on : line .walk .at ≤ m .walk .at
-    asked-on = go kids asked
-      where
-        go : (kids : Kids) → NextOf s ns kids at line (next.Child m rule) → line .walk .at ≤ m .walk .at
-        go (kind.Items count) y = let e : m .walk .at ≡ line .walk .at = ap (λ q. q .walk .at) (y .0) in omega arith
-        go kind.Pairs y = let e : m .walk .at ≡ line .walk .at = ap (λ q. q .walk .at) (y .0) in omega arith
-        go kind.Parts y = subst (Passes line) (y .0) (line-passes s (line .count) line) .1
-
     module _ {below : ℕ} (under : below ≡ belowOf kids allowance) {r : Linked} {ns′ es′ ss′ : List ℕ} (c : ReadsChild rule s room below m ns es ss r ns′ es′ ss′) where
       -- a child that may be anything, at the line itself
       plain : m ≡ line → rule ≡ 0 → below ≡ allowance → Lists (childOf s whatever) 1 s room allowance line ns es ss r ns′ es′ ss′
@@ -133,7 +131,7 @@ module _ {kids : Kids} {at : ℕ} {s : List ℕ} {room : Room} {allowance : ℕ}
       under-code eb = subst (λ q. Lists (childOf s (ruleOf rule)) 1 s room q m ns es ss r ns′ es′ ss′) eb (c .lists)
 
       pub body-cut : {a b : ℕ} → r ≡ linked.Refused a b → ReadsBody kids at s room allowance line₀ ns₀ es₀ ss₀ (linked.Refused a b) ns′ es′ ss′
-      body-cut {a} {b} it = record { lists = go kids some (v .inv) asked under }
+      body-cut {a} {b} it = record { lists = go kids some (v .inv) (asked x is) under }
         where
           pair : InvDict s room allowance line₀ ns₀ es₀ ss₀ ns es ss line → NextOf s ns kind.Pairs at line (next.Child m rule) → below ≡ allowance → (t : Bool) → eqb (line .count % 2) 0 ≡ t
               → BodyLists kind.Pairs at s room allowance line₀ ns₀ es₀ ss₀ (linked.Refused a b) ns′ es′ ss′
@@ -157,13 +155,13 @@ module _ {kids : Kids} {at : ℕ} {s : List ℕ} {room : Room} {allowance : ℕ}
         body-next ln le ls =
             record {
               stands = record {
-                moved = omega (arith, body-stands .moved, moved .0);
+                moved = omega (arith, next-stands x is (v .stands) .moved, moved .0);
                 lineIn = moved .1;
                 nodeStore = ln ∙ v .stands .nodeStore;
                 entryStore = le ∙ v .stands .entryStore;
                 slotStore = ls ∙ v .stands .slotStore;
               };
-              inv = go kids some (v .inv) asked under;
+              inv = go kids some (v .inv) (asked x is) under;
             }
           where
             pair : InvDict s room allowance line₀ ns₀ es₀ ss₀ ns es ss line → NextOf s ns kind.Pairs at line (next.Child m rule) → below ≡ allowance → (t : Bool) → eqb (line .count % 2) 0 ≡ t
@@ -194,10 +192,6 @@ module _ {kids : Kids} {at : ℕ} {s : List ℕ} {room : Room} {allowance : ℕ}
             go kind.Pairs some inv y u = pair inv y u (eqb (line .count % 2) 0) refl
             go kind.Parts some inv y u =
                 subst (InvCode s room allowance at line₀ ns₀ es₀ ss₀ ns′ es′ ss′ l) (sym (more ∙ ap (λ n. n + 1) (subst (Passes line) (y .0) (line-passes s (line .count) line) .0))) (code-next (some refl) inv (y .2) refl (y .0) rule (y .1) (under-code u) it ln le ls)
-
-        -- the measure falls
-        pub body-less : length s - l .walk .at < length s - line .walk .at
-        body-less = omega (arith, moved .0, asked-on)
 
 -- What a node holds: its container or code's body has the allowance less one.
 pub node-lists : {kids : Kids} {at : ℕ} {s : List ℕ} {room : Room} (allowance : ℕ) {line : Line} {ns es ss ns′ es′ ss′ : List ℕ} {r : Linked} → 0 < allowance → ReadsBody kids at s room (allowance - 1) line ns es ss r ns′ es′ ss′

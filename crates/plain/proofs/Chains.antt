@@ -14,20 +14,8 @@ use Rattle.steps.specs.declared.Linked.{Linked}
 use Rattle.steps.specs.declared.Linked.the-variants as linked
 use Rattle.steps.specs.Held.{rooms, Safe, Moved, LineIn, HoldsChain}
 use Rattle.steps.proofs.Runs.{bind-gives, bind-stops}
-use Rattle.reader.specs.Readings.{ChainReader, Lists, AgreesChain, LinkedMoved}
-
--- what does not hang on the reading
-pub record Stands (s : List ℕ) (room : Room) (line₀ : Line) (ns₀ es₀ ss₀ ns es ss : List ℕ) (line : Line) : Type 0 where
-  pub moved : Moved 0 s room (line₀ .walk) (line .walk)
-  pub lineIn : LineIn line
-  pub nodeStore : length ns ≡ length ns₀
-  pub entryStore : length es ≡ length es₀
-  pub slotStore : length ss ≡ length ss₀
-
-pub record Inv (whole rest : ChainReader) (s : List ℕ) (room : Room) (allowance : ℕ) (line₀ : Line) (ns₀ es₀ ss₀ ns es ss : List ℕ) (line : Line) : Type 0 where
-  pub stands : Stands s room line₀ ns₀ es₀ ss₀ ns es ss line
-  pub exact : (fuel depth : ℕ) (c₀ : Chain) → HoldsChain line₀ ns₀ es₀ ss₀ c₀ → length s ≤ line₀ .walk .at + fuel
-      → (c : Chain) × HoldsChain line ns es ss c × (run (rooms room (depth + allowance)) (whole fuel depth c₀) ≡ run (rooms room (depth + allowance)) (rest fuel depth c))
+use Rattle.plain.specs.Readings.{ChainReader, Lists, AgreesChain, LinkedMoved}
+use Rattle.plain.specs.Turns.{Stands, Inv, Then}
 
 pub inv-start : (whole : ChainReader) {s : List ℕ} {room : Room} (allowance : ℕ) {line : Line} {ns es ss : List ℕ} → Safe s room (line .walk) ns es ss → LineIn line
     → Inv whole whole s room allowance line ns es ss ns es ss line
@@ -77,9 +65,6 @@ module _ {whole rest : ChainReader} {s : List ℕ} {room : Room} {allowance : �
       record { moved = tt; exact = λ fuel depth c₀ h l. let x = inv .exact fuel depth c₀ h l in x .2 ∙ ap (run (rooms room (depth + allowance))) (e fuel depth (x .0) (x .1)) }
 
 -- a reader F of the loop's body is called, and G is what is read after it
-abbrev pub Then : ChainReader → ChainReader → ChainReader
-Then F G fuel depth c = bind (F fuel depth c) (G fuel depth)
-
 module _ (F G : ChainReader) {whole : ChainReader} {least : ℕ} {s : List ℕ} {room : Room} {allowance : ℕ} {line₀ : Line} {ns₀ es₀ ss₀ ns es ss ns′ es′ ss′ : List ℕ} {line : Line} {r : Linked} where
   pub inv-cut : Inv whole (Then F G) s room allowance line₀ ns₀ es₀ ss₀ ns es ss line → Lists F least s room allowance line ns es ss r ns′ es′ ss′ → {n p : ℕ} → r ≡ linked.Refused n p
       → Lists whole 0 s room allowance line₀ ns₀ es₀ ss₀ (linked.Refused n p) ns′ es′ ss′

@@ -26,7 +26,7 @@ use Rattle.steps.specs.Held.{rooms, Safe, Moved, Holds, HoldsChain, LastIn, Lin
 use Rattle.steps.specs.Linking.{ruleOf, suitsIn, lineNext, entriesNext, Attaches}
 use Rattle.steps.proofs.Runs.{bind-gives, bind-stops, claim-fits, claim-fails, run-done}
 use Rattle.steps.proofs.States.{chain-next, suits-held}
-use Rattle.reader.specs.Readings.{ReadsValue, Lists, ReadsChild, Counted, childOf, Agrees, StepMoved}
+use Rattle.plain.specs.Readings.{ReadsValue, Lists, ReadsChild, Counted, childOf, Agrees, StepMoved}
 
 module _ {s : List ℕ} {room : Room} {allowance : ℕ} {line : Line} {ns es ss ns′ es′ ss′ : List ℕ} {c : Step} (safe : Safe s room (line .walk) ns es ss) (li : LineIn line) (rv : ReadsValue s room allowance (line .walk) ns es ss c ns′ es′ ss′) where
   pub child-cut : {rule n p : ℕ} → c ≡ step.Refused n p → ReadsChild rule s room allowance line ns es ss (linked.Refused n p) ns′ es′ ss′

@@ -27,8 +27,8 @@ use Rattle.steps.specs.Held.{rooms, Safe, Holds, LineIn, noLine}
 use Rattle.steps.specs.Opening.{frontOf, Ahead, HeadIn, Fronts}
 use Rattle.steps.proofs.Runs.{bind-gives, bind-stops}
 use Rattle.steps.proofs.States.{front-slots, holds-known, holds-enter, holds-close}
-use Rattle.reader.specs.Readings.{ReadsValue, Lists, ReadsBody, bodyOf, AgreesChain, LinkedMoved}
-use Rattle.reader.proofs.Bodies.{node-lists}
+use Rattle.plain.specs.Readings.{ReadsValue, Lists, ReadsBody, bodyOf, AgreesChain, LinkedMoved}
+use Rattle.plain.proofs.Bodies.{node-lists}
 
 -- with fuel for each byte that is left, a value is always one more step
 pub unroll : (s : List ℕ) (fuel depth : ℕ) (st : State) → length s ≤ st .at + fuel

@@ -21,8 +21,9 @@ use Rattle.steps.specs.Held.{rooms, Safe, LineIn}
 use Rattle.steps.specs.Linking.{ruleOf, lineLined, firstLined, faultIn}
 use Rattle.steps.proofs.Runs.{bind-assoc}
 use Rattle.steps.proofs.States.{holds-lined, fault-held}
-use Rattle.reader.specs.Readings.{ChainReader, Lists, childOf, firstLineOf, partsOf, codeOf}
-use Rattle.reader.proofs.Chains.{Stands, Inv, Then, inv-start, inv-as, inv-end, inv-refused, inv-cut, inv-more, lists-inside}
+use Rattle.plain.specs.Readings.{ChainReader, Lists, childOf, firstLineOf, partsOf, codeOf}
+use Rattle.plain.specs.Turns.{Stands, Inv, Then, InvCode}
+use Rattle.plain.proofs.Chains.{inv-start, inv-as, inv-end, inv-refused, inv-cut, inv-more, lists-inside}
 
 -- `first_line` is the reading of its name
 pub line-lists : {s : List ℕ} {room : Room} (allowance i : ℕ) {line₀ line : Line} {ns₀ es₀ ss₀ ns es ss : List ℕ} {r : Linked} → Stands s room line₀ ns₀ es₀ ss₀ ns es ss line → r ≡ firstLined s i line
@@ -56,11 +57,7 @@ line-lists {s} {room} allowance i {line₀} {line} {ns₀} {es₀} {ss₀} {ns} 
           exact = λ fuel depth c h l. (c, ap (λ x. run (rooms room (depth + allowance)) (cond x (reads (field s (c .st .at) 4 (gives (lined c)))) (done c))) eb, h);
         }
 
--- `code`: its body has the allowance, and its parts one less. At the head of the loop so many parts are read.
-pub record InvCode (s : List ℕ) (room : Room) (allowance at : ℕ) (line₀ : Line) (ns₀ es₀ ss₀ ns es ss : List ℕ) (line : Line) (i : ℕ) : Type 0 where
-  pub bound : i ≤ codeParts
-  pub inv : Inv (Then (partsOf s codeParts 0) (λ fuel depth. ended s at)) (Then (partsOf s (codeParts - i) i) (λ fuel depth. ended s at)) s room (allowance - 1) line₀ ns₀ es₀ ss₀ ns es ss line
-
+-- `code`: its body has the allowance, and its parts one less.
 pub code-start : {s : List ℕ} {room : Room} {allowance at : ℕ} {line : Line} {ns es ss : List ℕ} → Safe s room (line .walk) ns es ss → LineIn line → InvCode s room allowance at line ns es ss ns es ss line 0
 code-start {s} {room} {allowance} {at} safe li =
     record { bound = omega arith; inv = inv-start (Then (partsOf s codeParts 0) (λ fuel depth. ended s at)) (allowance - 1) safe li }
@@ -128,9 +125,6 @@ module _ {s : List ℕ} {room : Room} {allowance at : ℕ} {line₀ : Line} {ns�
       module _ {m : Line} (is : g ≡ linked.Line m) where
         after-line : Inv (Then (partsOf s codeParts 0) (λ fuel depth. ended s at)) (Then part later) s room (allowance - 1) line₀ ns₀ es₀ ss₀ ns es ss m
         after-line = inv-more (firstLineOf s i) (Then part later) open-code lines is refl refl refl
-
-        pub line-stands : Stands s room line₀ ns₀ es₀ ss₀ ns es ss m
-        line-stands = after-line .stands
 
         module _ (rule : ℕ) (ruled : ruleOf rule ≡ getD rules i whatever) {r : Linked} {ns′ es′ ss′ : List ℕ} (k : Lists (childOf s (ruleOf rule)) 1 s room (allowance - 1) m ns es ss r ns′ es′ ss′) where
           part-lists : Lists part 1 s room (allowance - 1) m ns es ss r ns′ es′ ss′
