@@ -13,7 +13,7 @@
  *   Otherwise refusal is the number, and place the place, that document 01 gives; every other field is 0, and so is every
  *   element of every store lent for writing.
  * - A truth is 0 or 1. A field named pad is 0.
- * - The functions below need less than 1 KiB of stack.
+ * - The functions below need less than 1 KiB of stack; of sill_read and sill_write see there.
  */
 #ifndef SILLGARLAND_H
 #define SILLGARLAND_H
@@ -128,7 +128,8 @@ sill_read_t sill_read(const uint8_t *input, size_t input_len, uint32_t *nodes, s
                       size_t entries_len, uint32_t *slots, size_t slots_len, uint32_t nesting);
 
 /* Writes the value of node root in its canonical form, bytes and then zeros: 14 at 0; 10 and 16 at the node's number; 17 at
- * out_len. Any stores may be lent, of which so many nodes and entries count as used; nesting as in sill_read. */
+ * out_len. Any stores may be lent, of which so many nodes and entries count as used; nesting, and the stack that it
+ * needs, as in sill_read. */
 sill_written_t sill_write(const uint8_t *input, size_t input_len, const uint32_t *nodes, size_t nodes_len,
                           const uint32_t *entries, size_t entries_len, uint32_t used_nodes, uint32_t used_entries,
                           uint32_t root, uint32_t nesting, uint8_t *out, size_t out_len);

@@ -151,7 +151,7 @@ pub fn class_of(letter: u32) -> u32
 }
 
 // A field of a fixed size, and no children.
-fn read_fixed(s: &[u8], at: u32, size: u32) -> Behind
+pub fn read_fixed(s: &[u8], at: u32, size: u32) -> Behind
     requires { ⌜ (at ≤ length (now s)) × (length (now s) ≤ mostBytes) × (size ≤ mostBytes) ⌝ }
     ensures { λ r. ⌜ Reads (now (s .entry)) (keeps (fixed size)) at r ⌝ }
 {
@@ -215,7 +215,7 @@ fn read_few(s: &[u8], at: u32) -> Behind
 }
 
 // A length, and so many bytes.
-fn read_bytes(s: &[u8], at: u32) -> Behind
+pub fn read_bytes(s: &[u8], at: u32) -> Behind
     requires { ⌜ (at ≤ length (now s)) × (length (now s) ≤ mostBytes) ⌝ }
     ensures { λ r. ⌜ Reads (now (s .entry)) (contains bytes) at r ⌝ }
 {
@@ -249,7 +249,7 @@ fn read_wtf8(s: &[u8], at: u32, size: u32) -> Judged
 }
 
 // A length, and a string of so many bytes.
-fn read_text(s: &[u8], at: u32) -> Behind
+pub fn read_text(s: &[u8], at: u32) -> Behind
     requires { ⌜ (at ≤ length (now s)) × (length (now s) ≤ mostBytes) ⌝ }
     ensures { λ r. ⌜ Reads (now (s .entry)) (contains text) at r ⌝ }
 {
@@ -266,7 +266,7 @@ fn read_text(s: &[u8], at: u32) -> Behind
 }
 
 // A one-byte length, and a string of so many bytes.
-fn read_short(s: &[u8], at: u32) -> Behind
+pub fn read_short(s: &[u8], at: u32) -> Behind
     requires { ⌜ (at ≤ length (now s)) × (length (now s) ≤ mostBytes) ⌝ }
     ensures { λ r. ⌜ Reads (now (s .entry)) (contains short) at r ⌝ }
 {

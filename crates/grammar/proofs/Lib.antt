@@ -1,3 +1,6 @@
+pub mod Tests
+pub mod Passed
+pub mod Lettered
 pub mod Fitting
 pub mod Exactness
 pub mod Unrolling

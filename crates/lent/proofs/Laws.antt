@@ -32,7 +32,7 @@ cleared-all {before} {now} {i} k h =
     let all : i ≡ length before = omega arith in
     k .holds ∙ ap (λ t. zeros i ++ t) (drop-of-length-le before {i = i} (omega arith)) ∙ append-nil (zeros i) ∙ ap zeros all
 
-drop-zeros : (k n : ℕ) → drop k (zeros n) ≡ zeros (n - k)
+pub drop-zeros : (k n : ℕ) → drop k (zeros n) ≡ zeros (n - k)
 drop-zeros zero n = simp unary-clauses
 drop-zeros (suc k) zero =
     let none : 0 - suc k ≡ 0 = omega arith in

@@ -1,4 +1,4 @@
-// Clearing a store that was lent: every public function clears first, so what it does not write is zero.
+// Clearing a store that was lent, so that what is not written there is zero, and all of it where a call is refused.
 ghost use mathlib.Core.Path.{_≡_};
 ghost use lib.ListN.{length};
 ghost use Rattle.lent.specs.Lent.{zeros};

@@ -71,34 +71,35 @@ read-back ls m k h =
     let e : 0 + j ≡ j = omega arith in
     from-at (numbers ls ++ zeros m) 0 k j inside ∙ rw e (at-record ls m j) ∙ sym (getD-padded ls (k - length ls) j))
 
--- ---- stored one by one
--- the first n locations of ys are those of the records
-abbrev pub filled : List ℕ → ℕ → List Location → List Location
-filled xs zero ys = ys
-filled xs (suc n) ys = set (filled xs n ys) n (locationAt xs n)
+-- ---- stored one by one, from the last to the first
+-- d locations of ys, from i on, are those of the records
+abbrev pub filled : List ℕ → ℕ → ℕ → List Location → List Location
+filled xs i zero ys = ys
+filled xs i (suc d) ys = set (filled xs (suc i) d ys) i (locationAt xs i)
 
-pub length-filled : (xs : List ℕ) (n : ℕ) (ys : List Location) → length (filled xs n ys) ≡ length ys
-length-filled xs zero ys = refl
-length-filled xs (suc n) ys = length-set (filled xs n ys) n (locationAt xs n) ∙ length-filled xs n ys
+pub length-filled : (xs : List ℕ) (i d : ℕ) (ys : List Location) → length (filled xs i d ys) ≡ length ys
+length-filled xs i zero ys = refl
+length-filled xs i (suc d) ys = length-set (filled xs (suc i) d ys) i (locationAt xs i) ∙ length-filled xs (suc i) d ys
 
-filled-at : (xs : List ℕ) (n : ℕ) (ys : List Location) (j : ℕ) (t : Bool) → eqb j n ≡ t → j < suc n → n < length ys
-    → ((i : ℕ) → i < n → getD (filled xs n ys) i blank ≡ locationAt xs i) → getD (filled xs (suc n) ys) j blank ≡ locationAt xs j
-filled-at xs n ys j true e h l ih =
-    let q : j ≡ n = eqb-true j n e in
-    let b : n < length (filled xs n ys) = omega (arith, length-filled xs n ys) in
-    rw q (getD-set-same (filled xs n ys) n (locationAt xs n) blank b)
-filled-at xs n ys j false e h l ih =
-    getD-set-other (filled xs n ys) n j (locationAt xs n) blank (eqb-false j n e) ∙ ih j (omega (arith, eqb-false j n e))
+-- one more is stored, at i; the others hold already
+filled-here : (xs : List ℕ) (i d : ℕ) (ys : List Location) → i + suc d ≤ length ys → (j : ℕ) (t : Bool) → eqb j i ≡ t
+    → (suc i ≤ j → getD (filled xs (suc i) d ys) j blank ≡ locationAt xs j) → i ≤ j → getD (filled xs i (suc d) ys) j blank ≡ locationAt xs j
+filled-here xs i d ys l j true e later h =
+    let q : j ≡ i = eqb-true j i e in
+    let within : i < length (filled xs (suc i) d ys) = omega (arith, length-filled xs (suc i) d ys) in
+    rw q (getD-set-same (filled xs (suc i) d ys) i (locationAt xs i) blank within)
+filled-here xs i d ys l j false e later h =
+    getD-set-other (filled xs (suc i) d ys) i j (locationAt xs i) blank (eqb-false j i e) ∙ later (omega (arith, eqb-false j i e))
 
-filled-all : (xs : List ℕ) (n : ℕ) (ys : List Location) → n ≤ length ys → (j : ℕ) → j < n → getD (filled xs n ys) j blank ≡ locationAt xs j
-filled-all xs zero ys l j h = absurd (omega arith)
-filled-all xs (suc n) ys l j h = filled-at xs n ys j (eqb j n) refl h l (filled-all xs n ys (omega arith))
+filled-at : (xs : List ℕ) (i d : ℕ) (ys : List Location) → i + d ≤ length ys → (j : ℕ) → i ≤ j → j < i + d → getD (filled xs i d ys) j blank ≡ locationAt xs j
+filled-at xs i zero ys l j h b = absurd (omega arith)
+filled-at xs i (suc d) ys l j h b = filled-here xs i d ys l j (eqb j i) refl (λ later. filled-at xs (suc i) d ys (omega arith) j later (omega arith)) h
 
 -- all of them stored: what was there before plays no part
-pub filled-whole : (xs : List ℕ) (ys : List Location) → filled xs (length ys) ys ≡ locationsFrom xs 0 (length ys)
+pub filled-whole : (xs : List ℕ) (ys : List Location) → filled xs 0 (length ys) ys ≡ locationsFrom xs 0 (length ys)
 filled-whole xs ys =
-    ext-getD blank (filled xs (length ys) ys) (locationsFrom xs 0 (length ys)) (length-filled xs (length ys) ys ∙ sym (length-from xs 0 (length ys)))
+    ext-getD blank (filled xs 0 (length ys) ys) (locationsFrom xs 0 (length ys)) (length-filled xs 0 (length ys) ys ∙ sym (length-from xs 0 (length ys)))
     (λ j h.
-    let b : j < length ys = omega (arith, length-filled xs (length ys) ys) in
+    let b : j < length ys = omega (arith, length-filled xs 0 (length ys) ys) in
     let e : 0 + j ≡ j = omega arith in
-    filled-all xs (length ys) ys (omega arith) j b ∙ sym (from-at xs 0 (length ys) j b ∙ rw e))
+    filled-at xs 0 (length ys) ys (omega arith) j (omega arith) (omega arith) ∙ sym (from-at xs 0 (length ys) j b ∙ rw e))

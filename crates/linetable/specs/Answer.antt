@@ -22,7 +22,7 @@ use Rattle.linetable.specs.Walk.{Reading, done, refused, walk}
 abbrev pub firstLine : ℤ → ℕ
 firstLine z = asSigned (ofZ w32 z)
 
--- The whole table, for `count` instructions and room for `capacity` records. "InputTooLong, tested before all: 0";
+-- The whole table, for `count` instructions and room for `capacity` records. "InputTooLong, tested before all", at 0;
 -- "fewer records than instructions is 17, before the table is read", its place "the output's capacity".
 unfoldable pub located : List ℕ → ℕ → ℕ → ℕ → Reading
 located s first count capacity =

@@ -30,7 +30,7 @@ abbrev pub leftOver : Location → ℕ → Reading
 leftOver first left = done (replicate left first) 0 false
 
 -- After the entry at p, with `left` instructions to place; `on` walks on from a line and a place. Where the entry has more
--- instructions than are left, those left take its location, and the table is not whole. "NumberRange: entry start"
+-- instructions than are left, those left take its location, and the table is not whole. 18 stands at the "entry start".
 abbrev pub after : (ℕ → ℕ → ℕ → Reading) → Location → ℕ → ℕ → Entry → Reading
 after on first p left (Covers e) =
     cond (leb (e .instructions) left)

@@ -2,7 +2,7 @@
 // The contracts cite one reading of the table, `located`, which gives the answer and what every lent store holds.
 ghost use mathlib.Core.Path.{_≡_};
 ghost use mathlib.Core.Bool.{not, _&&_, _||_};
-ghost use Prim.Native.Nat.{_+_, _-_, _*_, _/_, _≤_, min};
+ghost use Prim.Native.Nat.{_+_, _-_, _*_, _/_, _<_, _≤_, min};
 ghost use lib.ListN.{length, replicate};
 ghost use lib.Seq.{sets};
 ghost use lib.Dec.{eqb};
@@ -183,37 +183,49 @@ pub fn linetable_in(
     linetable_to_records(&input[start..end], first_line, count, records)
 }
 
-// The location of the four numbers of a record.
-fn location_at(flat: &[u32], i: usize) -> Location
+// The location of the four numbers of a record that is all there.
+fn record_at(flat: &[u32], i: usize) -> Location
+    requires { ⌜ 4 * i + 3 < length (now flat) ⌝ }
     ensures { λ r. ⌜ r ≡ locationAt (now (flat .entry)) i ⌝ }
 {
-    if i < flat.len() / 4 {
-        let j = 4 * i;
-        Location {
-            line: flat[j],
-            column: flat[j + 1],
-            end_line: flat[j + 2],
-            end_column: flat[j + 3],
-        }
-    } else {
-        Location {
-            line: 0,
-            column: 0,
-            end_line: 0,
-            end_column: 0,
-        }
+    let j = 4 * i;
+    Location {
+        line: flat[j],
+        column: flat[j + 1],
+        end_line: flat[j + 2],
+        end_column: flat[j + 3],
     }
 }
 
-// Fills a slice of locations from the numbers of its records.
+// The location of record i of n. Whether all n are there is the same for each of them, so a loop over them tests it once.
+fn location_at(flat: &[u32], i: usize, n: usize) -> Location
+    requires { ⌜ (i < n) × (n < 0x1000000000000000) ⌝ }
+    ensures { λ r. ⌜ r ≡ locationAt (now (flat .entry)) i ⌝ }
+{
+    if n <= flat.len() / 4 {
+        return record_at(flat, i);
+    }
+    if 4 * i + 3 < flat.len() {
+        return record_at(flat, i);
+    }
+    Location {
+        line: 0,
+        column: 0,
+        end_line: 0,
+        end_column: 0,
+    }
+}
+
+// Fills a slice of locations from the numbers of its records, from the last, which was stored most lately, to the first.
 fn fill_locations(out: &mut [Location], flat: &[u32])
     ensures { λ _. ⌜ now (out .exit) ≡ locationsFrom (now (flat .entry)) 0 (length (now (out .entry))) ⌝ }
 {
-    let mut i = 0;
-    while i < out.len() {
-        let v = location_at(flat, i);
+    let n = out.len();
+    let mut i = n;
+    while 0 < i {
+        i -= 1;
+        let v = location_at(flat, i, n);
         out[i] = v;
-        i += 1;
     }
 }
 

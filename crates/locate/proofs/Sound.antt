@@ -1,30 +1,26 @@
 -- What a sound bytes node says: its span is in the input, and it is read as a table; any other node is refused.
 -- Assumes nothing.
-use mathlib.Core.Path.{_≡_, refl}
+use mathlib.Core.Path.{_≡_}
 use Prim.Native.Nat.{ℕ, _+_, _≤_, _<_}
-use mathlib.Core.Bool.{Bool, true, false, cond, _&&_}
+use mathlib.Core.Bool.{true, false}
 use mathlib.Core.List.{List}
 use lib.ListN.{length}
-use borrow.Author.Tests.{leb-true, le-ltb, lt-ltb, eq-eqb, ne-eqb}
+use borrow.Author.Tests.{le-ltb, lt-ltb, eq-eqb, ne-eqb}
 use Rattle.refusals.specs.Numbers.{inputTooLong, badTable}
 use Rattle.refusals.specs.Limits.{mostBytes}
 use Rattle.grammar.specs.Fields.{contents}
-use Rattle.grammar.specs.State.{Node, nodeAt}
-use Rattle.grammar.specs.Record.{sound, soundAt}
+use Rattle.grammar.specs.State.{nodeAt}
+use Rattle.grammar.specs.Record.{soundAt}
+use Rattle.grammar.proofs.Passed.{sound-ruled}
 use Rattle.records.proofs.Soundness.{sound-node}
-use Rattle.linetable.specs.Walk.{Reading, refused}
+use Rattle.linetable.specs.Walk.{refused}
 use Rattle.linetable.specs.Answer.{located}
 use Rattle.locate.specs.Part.{locatedAt}
-
-within : (a b : Bool) → (a && b) ≡ true → a ≡ true
-within true b e = refl
-within false b e = e
 
 module _ (s nodes : List ℕ) (used n : ℕ) where
   -- its span is in the input
   pub sound-span : soundAt s nodes used n ≡ true → nodeAt nodes n .place + nodeAt nodes n .size ≤ length s
-  unfolding sound
-  sound-span e = leb-true _ _ (within _ _ (sound-node s nodes used n e))
+  sound-span e = sound-ruled s (nodeAt nodes n) (sound-node s nodes used n e) .0
 
   module _ (first count capacity : ℕ) where
     pub too-long : mostBytes < length s → locatedAt s nodes used n first count capacity ≡ refused inputTooLong 0

@@ -7,18 +7,20 @@ use mathlib.Core.Bool.{Bool, true, false, cond, _&&_}
 use mathlib.Core.Option.{Option, none, some}
 use mathlib.Core.List.{List, [], _∷_}
 use lib.ListN.{length, getD, take, drop, take-append-drop}
-use lib.Dec.{leb, ltb, eqb}
+use lib.Dec.{leb, eqb}
 use borrow.Author.Tests.{eqb-true, leb-true}
 use Rattle.refusals.specs.Numbers.{accepted}
 use Rattle.refusals.specs.Limits.{mostBytes, mostNesting}
 use Rattle.grammar.specs.Reading.{Answer, gives, stops}
 use Rattle.grammar.specs.Letters as letter
 use Rattle.grammar.specs.Letters.{Class, refers, keeps, contains, codes, refuses, classOf}
-use Rattle.grammar.specs.Fields.{Fields, le16, le32, le64, digitCount, lastDigit, pylong, codeNumbers, sumAt, codeFault, fields}
+use Rattle.grammar.specs.Fields.{Fields, le16, le32, le64, digitCount, lastDigit, pylong, sumAt, codeFault, fields}
 use Rattle.grammar.specs.State.{Node, start}
-use Rattle.grammar.specs.Steps.{asBytes, asNames, rules, codeParts, linePart}
+use Rattle.grammar.specs.Steps.{asBytes, asNames, rules, linePart}
 use Rattle.grammar.specs.Record.{containing, readsAs, ruled, sound, Tables, nodeOf, badEnd, Looked, holds, faulty, look}
 use Rattle.grammar.proofs.Bounded.{Bytes}
+use Rattle.grammar.proofs.Tests.{none-some, same-some, both-true}
+use Rattle.grammar.proofs.Passed.{unless-none, sound-ruled, code-ruled, Held, looked-held}
 use Rattle.writing.specs.Canonical.{Integer, ofBits, shownLine}
 use Rattle.writing.specs.Shape as shape
 use Rattle.writing.specs.Shape.{Shape, shapeOf, classed}
@@ -32,11 +34,11 @@ use Rattle.meaning.specs.Written.{writtenAs}
 use Rattle.meaning.specs.Meaning.{put, allOf, holding, codeOf, shaped, lookedAs, nowhere, valueOf}
 use Rattle.meaning.proofs.Means.{Means, MeanAll, takeOf, join, tag, mean-at, mean-all-count}
 use Rattle.meaning.proofs.Inversion.{bytes-class}
-use Rattle.meaning.proofs.Parts.{both-true, suit-at, contents-length, mean-all-join}
+use Rattle.meaning.proofs.Parts.{suit-at, contents-length, mean-all-join}
 use Rattle.meaning.proofs.Emits.{InTables}
 use Rattle.meaning.proofs.Sense.{CodeGood, sound-sense, reads-cond, digits-passed}
 use Rattle.meaning.proofs.Stores.{all-rules}
-use Rattle.meaning.proofs.Hostile.{no, unless-none, Held, looked-held, good-parts}
+use Rattle.meaning.proofs.Hostile.{good-parts}
 use Rattle.meaning.proofs.RoundTrip.{written-as, written-is}
 use Rattle.meaning.proofs.Unique.{means-one, by-tables}
 
@@ -119,27 +121,17 @@ proper-join nil vs p q = q
 proper-join (more u us) vs p q = (p .0, proper-join us vs (p .1) q)
 
 holding-some : (make : Values → Value) (o : Option Values) (v : Value) → holding make o ≡ some v → (vs : Values) × (o ≡ some vs) × (make vs ≡ v)
-holding-some make none v e = no v e
-holding-some make (some vs) v e = (vs, refl, same (make vs) v e)
-  where
-    same : (x y : Value) → some x ≡ some y → x ≡ y
-    same x y e = cc
+holding-some make none v e = none-some e
+holding-some make (some vs) v e = (vs, refl, same-some e)
 
 code-some : (numbers : List ℕ) (line : ℕ) (o q : Option Values) (v : Value) → codeOf numbers line o q ≡ some v → (ps : Values) × (ts : Values) × (o ≡ some ps) × (q ≡ some ts) × (code numbers ps line ts ≡ v)
-code-some numbers line none q v e = no v e
-code-some numbers line (some ps) none v e = no v e
-code-some numbers line (some ps) (some ts) v e = (ps, ts, refl, refl, same (code numbers ps line ts) v e)
-  where
-    same : (x y : Value) → some x ≡ some y → x ≡ y
-    same x y e = cc
+code-some numbers line none q v e = none-some e
+code-some numbers line (some ps) none v e = none-some e
+code-some numbers line (some ps) (some ts) v e = (ps, ts, refl, refl, same-some e)
 
 module _ (t : Tables) (bytes : Bytes (t .input)) (small : length (t .input) ≤ mostBytes) where
   abbrev s : List ℕ
   s = t .input
-
-  ruled-so : (n : Node) → sound s n ≡ true → ruled s n (classOf (n .letter)) ≡ true
-  unfolding sound
-  ruled-so n e = both-true (leb (n .place + n .size) (length s)) (ruled s n (classOf (n .letter))) e .1
 
   -- The checks at a code's end, by its parts.
   size-held : (n : ℕ) (v : Value) → Suits asBytes v → Means (InTables t) n v → nodeOf t n .size ≡ length (contentsOf v)
@@ -184,12 +176,7 @@ module _ (t : Tables) (bytes : Bytes (t .input)) (small : length (t .input) ≤ 
       subst Proper (means-one (InTables t) (λ a n. valueOf a t n) (by-tables t) n (g .value) v (g .means) x) (g .proper)
     where
       ten : classOf (nodeOf t n .letter) ≡ codes → sound s (nodeOf t n) ≡ true → nodeOf t n .count ≡ length kids → length kids ≡ countOf us → countOf us ≡ 10
-      ten c o k l =
-          let r : ruled s (nodeOf t n) codes ≡ true = ap (ruled s (nodeOf t n)) (sym c) ∙ ruled-so (nodeOf t n) o in
-          let x = leb codeNumbers (nodeOf t n .size) && leb (nodeOf t n .place + nodeOf t n .size + 4) (length s) in
-          let a = both-true (x && eqb (nodeOf t n .count) codeParts) (ltb (sumAt s (nodeOf t n .place)) 4294967296) r in
-          let b = both-true x (eqb (nodeOf t n .count) codeParts) (a .0) in
-          sym l ∙ sym k ∙ eqb-true (nodeOf t n .count) 10 (b .1)
+      ten c o k l = sym l ∙ sym k ∙ code-ruled s (nodeOf t n) (ap (ruled s (nodeOf t n)) (sym c) ∙ sound-ruled s (nodeOf t n) o .1) .ten
 
   -- A node whose value is found.
   pub record Known (n : ℕ) (v : Value) (a : ℕ) : Type 0 where
@@ -218,8 +205,8 @@ module _ (t : Tables) (bytes : Bytes (t .input)) (small : length (t .input) ≤ 
   all-known f less a ih (n ∷ ns) vs e = go (f n) refl (allOf f ns) refl e (λ us q. all-known f less a ih ns us q)
     where
       go : (o : Option Value) → f n ≡ o → (r : Option Values) → allOf f ns ≡ r → put o r ≡ some vs → ((us : Values) → allOf f ns ≡ some us → AllKnown ns us less a) → AllKnown (n ∷ ns) vs less a
-      go none p r q e rest = no vs e
-      go (some w) p none q e rest = no vs e
+      go none p r q e rest = none-some e
+      go (some w) p none q e rest = none-some e
       go (some w) p (some us) q e rest =
           let z : more w us ≡ vs = cc in
           let x = ih n w p in
@@ -230,14 +217,11 @@ module _ (t : Tables) (bytes : Bytes (t .input)) (small : length (t .input) ≤ 
   unfolding shapeOf
   no-kids n kids e l =
       let h = looked-held t n kids e in
-      empty kids (sym (h .many) ∙ leaf-none s (nodeOf t n) kids (classOf (nodeOf t n .letter)) l (ruled-so (nodeOf t n) (h .own)))
+      empty kids (sym (h .many) ∙ leaf-none s (nodeOf t n) kids (classOf (nodeOf t n .letter)) l (sound-ruled s (nodeOf t n) (h .own) .1))
     where
       empty : (kids : List ℕ) → length kids ≡ 0 → kids ≡ []
       empty [] q = refl
       empty (k ∷ ks) q = absurd (omega (arith, q))
-
-  same-value : (x y : Value) → some x ≡ some y → x ≡ y
-  same-value x y e = cc
 
   -- one node, whose children's values are f's and whose parts' values are g's
   module _ (f g : ℕ → Option Value) (a n : ℕ) (v : Value) (one : 1 ≤ a) (ff : Finds f 1 a) (gg : Finds g 2 a) (kids : List ℕ) (q : look t n ≡ holds kids) where
@@ -245,7 +229,7 @@ module _ (t : Tables) (bytes : Bytes (t .input)) (small : length (t .input) ≤ 
     unfolding Means Proper
     leaf sh is l w make d e =
         let m = make (record { held = q; is = is }) in
-        let z = same-value w v e in
+        let z = same-some e in
         let k = no-kids n kids q (subst (λ x. tag x ≤ 5) (sym is) l) in
         subst (λ x. Known n x a) z (record { means = m; proper = sensed n kids nil q k tt w m; deep = omega (arith, d) })
 
@@ -296,12 +280,12 @@ module _ (t : Tables) (bytes : Bytes (t .input)) (small : length (t .input) ≤ 
     where
       go : (o : Looked) → look t n ≡ o → lookedAs f g t n o ≡ some v → Known n v a
       go (holds kids) q e = by-shape f g a n v one ff gg kids q (shapeOf t n kids) refl e
-      go (faulty place) q e = no v e
+      go (faulty place) q e = none-some e
 
   pub found-is-known : (a n : ℕ) (v : Value) → valueOf a t n ≡ some v → Known n v a
   unfolding valueOf
-  found-is-known zero n v e = no v e
-  found-is-known (suc zero) n v e = one-known nowhere nowhere 1 n v (omega arith) (λ m w q. no w q) (λ m w q. no w q) e
+  found-is-known zero n v e = none-some e
+  found-is-known (suc zero) n v e = one-known nowhere nowhere 1 n v (omega arith) (λ m w q. none-some q) (λ m w q. none-some q) e
   found-is-known (suc (suc a)) n v e =
       one-known (valueOf (suc a) t) (valueOf a t) (suc (suc a)) n v (omega arith) (λ m w q. let k = found-is-known (suc a) m w q in (k .means, k .proper, omega (arith, k .deep)))
       (λ m w q. let k = found-is-known a m w q in (k .means, k .proper, omega (arith, k .deep))) e

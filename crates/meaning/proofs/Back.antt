@@ -19,9 +19,11 @@ use Rattle.grammar.specs.Steps.{fresh, kids, couples, body, enter, value}
 use Rattle.grammar.proofs.Following.{Need, follows-map}
 use Rattle.grammar.proofs.Bounded.{Bytes}
 use Rattle.grammar.proofs.Standing.{Chained, closing}
+use Rattle.grammar.proofs.Lettered.{among-each}
 use Rattle.writing.specs.Canonical.{Integer, bytes16, bytes32, bitsOf, inSigned32, digitsOf, digitBytes, longBytes, integerBytes}
 use Rattle.writing.specs.Shape as shape
 use Rattle.writing.specs.Shape.{classed, longAt}
+use Rattle.writing.proofs.Digits.{digit-bytes-length}
 use Rattle.meaning.specs.Value.{Values, nil, integer, sequence, slice, dict, countOf}
 use Rattle.meaning.specs.Extent.{depthOf, nodesOf, entriesOf}
 use Rattle.meaning.specs.Proper.{sequences, lengths, Signed}
@@ -29,7 +31,6 @@ use Rattle.meaning.proofs.Means.{Means}
 use Rattle.meaning.proofs.At.{byte-first, length-at, drop-at, half-at, word-at, Digits, digits-below, total, digits-total, lastOf, digits-last, magnitude-at}
 use Rattle.meaning.proofs.Goes.{Goes, Never, Anywhere, WroteKids, Reads, AllRead, kids-go}
 use Rattle.meaning.proofs.Loops.{WroteBody, Whatever, all-children, couples-go, node-goes}
-use Rattle.meaning.proofs.Inversion.{among-each}
 use Rattle.meaning.proofs.Leaves.{kept-front, reads-node, short-reads, leaf-goes}
 
 -- A long.
@@ -40,11 +41,6 @@ long-word true k h p =
     let l = le-ltb (4294967296 - k) 2147483648 (omega arith) in
     (omega arith, rw (l, e) refl, rw l refl)
 long-word false k h p = let l = lt-ltb k 2147483648 h in (omega arith, rw l refl, rw l refl)
-
-length-digits : (ds : List ℕ) → length (digitBytes ds) ≡ 2 * length ds
-unfolding digitBytes
-length-digits [] = refl
-length-digits (d ∷ ds) = let e = length-digits ds in omega arith
 
 digits-pass : {A : Type 0} (s ds : List ℕ) (a : ℕ) (r : List ℕ) (rest : Answer A) → Digits ds → a ≤ length s → drop a s ≡ digitBytes ds ++ r → digits s (length ds) a rest ≡ rest
 unfolding digits digitBytes
@@ -88,7 +84,7 @@ module _ (s : List ℕ) (small : length s ≤ mostBytes) (bytes : Bytes s) where
       let d₀ : drop (st .at) s ≡ 0x6C ∷ (bytes32 x ++ (digitBytes ds ++ rest)) = dr in
       let lg = length-at s (st .at) (0x6C ∷ (bytes32 x ++ (digitBytes ds ++ rest))) d₀ (h .within) in
       let ln = length-append (digitBytes ds) rest in
-      let ld = length-digits ds in
+      let ld = digit-bytes-length ds in
       let d₁ : drop (st .at + 1) s ≡ bytes32 x ++ (digitBytes ds ++ rest) = drop-at s (st .at) (0x6C ∷ (bytes32 x ++ (digitBytes ds ++ rest))) d₀ 1 in
       let d₂ : drop (st .at + 1 + 4) s ≡ digitBytes ds ++ rest = drop-at s (st .at + 1) (bytes32 x ++ (digitBytes ds ++ rest)) d₁ 4 in
       let w : le32 s (st .at + 1) ≡ x = word-at s (st .at + 1) x (digitBytes ds ++ rest) (k .0) d₁ in

@@ -14,6 +14,8 @@ use Rattle.grammar.specs.Fields.{contents, le32, le64}
 use Rattle.grammar.specs.State.{Node, State, blank}
 use Rattle.grammar.specs.Steps.{Rule, whatever, asBytes, asTuple, asNames, asString, letterIn, strings, suits}
 use Rattle.grammar.proofs.Links.{Linked, More, childOf, nextOf}
+use Rattle.grammar.proofs.Tests.{both-true}
+use Rattle.grammar.proofs.Lettered.{class-passes, among-each}
 use Rattle.writing.specs.Canonical.{Integer, ofBits}
 use Rattle.writing.specs.Shape as shape
 use Rattle.writing.specs.Shape.{Shape, field, classed}
@@ -39,24 +41,9 @@ lettered l (contains letter.text) = isString l
 lettered l (contains letter.short) = isString l
 lettered l codes = eqb l 0x63
 
-abbrev allLettered : List (ℕ × Class) → Bool
-allLettered [] = true
-allLettered (x ∷ xs) = cond (lettered (x .0) (x .1)) (allLettered xs) false
-
-found-lettered : (l : ℕ) (ls : List (ℕ × Class)) → allLettered ls ≡ true → lettered l (found l ls) ≡ true
-unfolding found
-found-lettered l [] h = refl
-found-lettered l (x ∷ xs) h = go (eqb l (x .0)) refl (lettered (x .0) (x .1)) refl h (λ q. found-lettered l xs q)
-  where
-    go : (b : Bool) → eqb l (x .0) ≡ b → (o : Bool) → lettered (x .0) (x .1) ≡ o → cond o (allLettered xs) false ≡ true → (allLettered xs ≡ true → lettered l (found l xs) ≡ true)
-        → lettered l (cond b (x .1) (found l xs)) ≡ true
-    go true p true e q rest = rw (eqb-true l (x .0) p) e
-    go false p true e q rest = rest q
-    go b p false e q rest = let z : _≡_ {A = ℕ} 0 1 = cc in absurd (omega arith)
-
 pub class-lettered : (l : ℕ) (c : Class) → classOf l ≡ c → lettered l c ≡ true
-unfolding classOf letters
-class-lettered l c e = ap (lettered l) (sym e) ∙ found-lettered l letters refl
+unfolding letters
+class-lettered l c e = ap (lettered l) (sym e) ∙ class-passes lettered (λ l. refl) refl l
 
 -- Shapes by class.
 field-low : (l size : ℕ) (s : List ℕ) (at : ℕ) → (1 ≤ tag (field l size s at)) × (tag (field l size s at) ≤ 2)
@@ -232,19 +219,6 @@ tagged-sequence (slice vs) e = absurd (omega (arith, e))
 tagged-sequence (dict vs) e = absurd (omega (arith, e))
 tagged-sequence (code numbers parts line tables) e = absurd (omega (arith, e))
 
--- what holds of each letter of a list holds of any letter among them
-abbrev pub Each : (ℕ → Type 0) → List ℕ → Type 0
-Each P [] = Unit
-Each P (x ∷ xs) = P x × Each P xs
-
-pub among-each : (P : ℕ → Type 0) (l : ℕ) (xs : List ℕ) → Each P xs → among l xs ≡ true → P l
-among-each P l [] h e = let z : _≡_ {A = ℕ} 0 1 = cc in absurd (omega arith)
-among-each P l (x ∷ xs) h e = go (eqb l x) refl e (λ q. among-each P l xs (h .1) q)
-  where
-    go : (b : Bool) → eqb l x ≡ b → cond b true (among l xs) ≡ true → (among l xs ≡ true → P l) → P l
-    go true q e rest = rw (eqb-true l x q) (h .0)
-    go false q e rest = rest e
-
 -- the kind of a node by its letter
 abbrev pub Tagged : ℕ → ℕ → Type 0
 Tagged k l = (s : List ℕ) (n : Node) (kids : List ℕ) → tag (classed s n kids (classOf l)) ≡ k
@@ -291,17 +265,13 @@ module _ (s : List ℕ) (st : State) where
       let z = same-letter (y .0) 0x28 (m′ .0) (m′ .0) (sym (m′ .1 .is) ∙ tuple-shaped (letterIn (st .nodes) n) e s (getD (st .nodes) n blank) (m′ .0) refl) in
       (y .1, y .2 ∙ ap (λ l. sequence l (y .1)) z)
 
-  both-are : (a b : Bool) → a && b ≡ true → (a ≡ true) × (b ≡ true)
-  both-are true b e = (refl, e)
-  both-are false b e = let z : _≡_ {A = ℕ} 0 1 = cc in absurd (omega arith)
-
   more-texts : (vs : Values) (kids : List ℕ) (e : ℕ) → More (st .entries) e kids → MeanAll (InState s st) kids vs → strings (st .nodes) (st .entries) (length kids) (nextOf (st .entries) e) ≡ true → AllTexts vs
   unfolding strings Means
   more-texts nil kids e l m q = tt
   more-texts (more v vs) kids e l m q =
       let l′ : More (st .entries) e (m .0 ∷ m .1) = rw (m .2) at l in
       let q′ : strings (st .nodes) (st .entries) (length (m .0 ∷ m .1)) (nextOf (st .entries) e) ≡ true = rw (m .2) at q in
-      let a = both-are (isString (letterIn (st .nodes) (childOf (st .entries) (nextOf (st .entries) e)))) (strings (st .nodes) (st .entries) (length (m .1)) (nextOf (st .entries) (nextOf (st .entries) e))) q′ in
+      let a = both-true (isString (letterIn (st .nodes) (childOf (st .entries) (nextOf (st .entries) e)))) (strings (st .nodes) (st .entries) (length (m .1)) (nextOf (st .entries) (nextOf (st .entries) e))) q′ in
       let b = node-text (m .0) v (ap (λ k. isString (letterIn (st .nodes) k)) (sym (l′ .2)) ∙ a .0) (m .3) in
       (b .0, b .1, more-texts vs (m .1) (nextOf (st .entries) e) (l′ .3) (m .4) (a .1))
 
@@ -311,7 +281,7 @@ module _ (s : List ℕ) (st : State) where
   linked-texts (more v vs) kids e l m q =
       let l′ : Linked (st .entries) e (m .0 ∷ m .1) = rw (m .2) at l in
       let q′ : strings (st .nodes) (st .entries) (length (m .0 ∷ m .1)) e ≡ true = rw (m .2) at q in
-      let a = both-are (isString (letterIn (st .nodes) (childOf (st .entries) e))) (strings (st .nodes) (st .entries) (length (m .1)) (nextOf (st .entries) e)) q′ in
+      let a = both-true (isString (letterIn (st .nodes) (childOf (st .entries) e))) (strings (st .nodes) (st .entries) (length (m .1)) (nextOf (st .entries) e)) q′ in
       let b = node-text (m .0) v (ap (λ k. isString (letterIn (st .nodes) k)) (sym (l′ .1)) ∙ a .0) (m .3) in
       (b .0, b .1, more-texts vs (m .1) e (l′ .2) (m .4) (a .1))
 
@@ -322,7 +292,7 @@ module _ (s : List ℕ) (st : State) where
   node-suits asBytes n v e m = node-bytes n v e m
   node-suits asTuple n v e m = node-tuple n v e m
   node-suits asNames n v e m =
-      let a = both-are (isTuple (letterIn (st .nodes) n)) (strings (st .nodes) (st .entries) (getD (st .nodes) n blank .count) (getD (st .nodes) n blank .first)) e in
+      let a = both-true (isTuple (letterIn (st .nodes) n)) (strings (st .nodes) (st .entries) (getD (st .nodes) n blank .count) (getD (st .nodes) n blank .first)) e in
       let b = node-tuple n v (a .0) m in
       let m′ : Means (InState s st) n (sequence 0x28 (b .0)) = rw (b .1) at m in
       (b .0, b .1, linked-texts (b .0) (m′ .0) (getD (st .nodes) n blank .first) (m′ .1 .linked) (m′ .2) (ap (λ k. strings (st .nodes) (st .entries) k (getD (st .nodes) n blank .first)) (sym (m′ .1 .counted)) ∙ a .1))

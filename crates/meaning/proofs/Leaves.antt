@@ -18,6 +18,7 @@ use Rattle.grammar.specs.Steps.{opens, header, front, Chain, fresh, kids, body,
 use Rattle.grammar.proofs.Following.{Need}
 use Rattle.grammar.proofs.Bounded.{Bytes}
 use Rattle.grammar.proofs.Standing.{Holds, closing}
+use Rattle.grammar.proofs.Lettered.{among-each}
 use Rattle.writing.specs.Canonical.{Integer, bytes32, bytes64, ofBits, bitsOf, inSigned32, sized, ascii, codeString}
 use Rattle.writing.specs.Shape as shape
 use Rattle.writing.specs.Shape.{classed}
@@ -25,7 +26,6 @@ use Rattle.meaning.specs.Value.{Value, nil, single, integer, float, comp
 use Rattle.meaning.specs.Extent.{depthOf, nodesOf, entriesOf}
 use Rattle.meaning.specs.Proper.{singles, lengths, Signed}
 use Rattle.meaning.proofs.Means.{Sees, Means}
-use Rattle.meaning.proofs.Inversion.{among-each}
 use Rattle.meaning.proofs.At.{byte-first, length-at, drop-at, contents-at, word-at, long-at, in-signed32}
 use Rattle.meaning.proofs.Goes.{Goes, Wrote, wrote-none, Reads}
 use Rattle.meaning.proofs.Loops.{all-children, node-goes}

@@ -12,7 +12,9 @@ pub mod TheoremB
 pub mod Names
 pub mod Emits
 pub mod TheoremC
+pub mod NameOrder
 pub mod Sense
+pub mod Kept
 pub mod Sensible
 pub mod Stores
 pub mod Unique

@@ -8,11 +8,11 @@ use mathlib.Core.List.{List, [], _∷_, _++_}
 use lib.ListN.{length}
 use borrow.Author.Tests.{eq-eqb}
 use Rattle.localsplus.specs.Kind.{localBit, cellBit, freeBit, has}
+use Rattle.grammar.proofs.Tests.{both-true}
 use Rattle.grammar.specs.Record.{Tables}
 use Rattle.writing.specs.Names.{contentsOf, sameBytes, having, namedIn, apartFrom, inGroups}
 use Rattle.meaning.specs.Order.{isLocal, isCell, isFree, isEqualTo, frees, cellsThenFrees, localNames, grouped, nameOrder}
 use Rattle.meaning.specs.Written.{withBit, apart, groups}
-use Rattle.meaning.proofs.Parts.{both-true}
 
 no-bool : {X : Type 0} → false ≡ true → X
 no-bool e = let z : _≡_ {A = ℕ} 0 1 = cc in absurd (omega arith)

@@ -7,13 +7,13 @@ use mathlib.Core.List.{List, [], _∷_, _++_}
 use lib.ListN.{length, getD}
 use lib.Dec.{ltb}
 use borrow.Author.Tests.{ltb-true}
+use Rattle.grammar.proofs.Lettered.{among-each}
 use Rattle.writing.specs.Canonical.{Integer, bytes32, bytes64, words, bitsOf, inSigned32, digitsOf, digitBytes, longBytes, integerBytes, sized, ascii, codeString}
 use Rattle.writing.specs.Steps as writer
 use Rattle.writing.specs.Steps.{Manner, asValue, asLocals, manners}
 use Rattle.meaning.specs.Value.{Value, Values, nil, more, single, integer, float, complex, bytes, text, sequence, slice, dict, code, countOf, contentsOf, membersOf}
 use Rattle.meaning.specs.Canonical.{codeStrings, namesBytes, partBytes, canonical, canonicalAll, canonicalParts}
 use Rattle.meaning.specs.Proper.{singles, sequences, Below, Proper, ProperAll}
-use Rattle.meaning.proofs.Inversion.{among-each}
 
 pub below-append : (xs ys : List ℕ) → Below 256 xs → Below 256 ys → Below 256 (xs ++ ys)
 unfolding Below

@@ -3,26 +3,21 @@
 use mathlib.Core.Path.{_≡_, refl, sym, ap, _∙_}
 use Prim.Native.Nat.{ℕ, zero, suc, _+_, _≤_, _<_}
 use native.Mathlib.Omega.{arith}
-use mathlib.Core.Bool.{Bool, true, false, _&&_}
+use mathlib.Core.Bool.{true}
 use mathlib.Core.List.{List, _++_}
 use lib.ListN.{length, getD}
 use lib.Seq.{length-slice}
-use lib.Dec.{leb}
-use borrow.Author.Tests.{leb-true}
 use Rattle.grammar.specs.Letters.{classOf}
 use Rattle.grammar.specs.Fields.{contents}
 use Rattle.grammar.specs.State.{Node, State, blank}
 use Rattle.grammar.specs.Steps.{whatever, asBytes, asNames, rules, codePart, localsPart, kindsPart, linePart}
-use Rattle.grammar.specs.Record.{ruled, sound}
+use Rattle.grammar.specs.Record.{sound}
+use Rattle.grammar.proofs.Passed.{sound-ruled}
 use Rattle.meaning.specs.Value.{Value, Values, nil, more, bytes, sequence, countOf, valueAt, contentsOf, membersOf}
 use Rattle.meaning.specs.Proper.{Suits, SuitFrom}
 use Rattle.meaning.proofs.Means.{Sees, Means, MeanAll, join, takeOf, dropOf, mean-at, mean-all-count}
 use Rattle.meaning.proofs.Standing.{InState}
 use Rattle.meaning.proofs.Inversion.{bytes-class}
-
-pub both-true : (a b : Bool) → a && b ≡ true → (a ≡ true) × (b ≡ true)
-both-true true b e = (refl, e)
-both-true false b e = let z : _≡_ {A = ℕ} 0 1 = cc in absurd (omega arith)
 
 pub suit-at : (j i : ℕ) (vs : Values) → SuitFrom i vs → j < countOf vs → Suits (getD rules (i + j) whatever) (valueAt vs j)
 unfolding SuitFrom countOf valueAt
@@ -62,7 +57,7 @@ module _ (s : List ℕ) (st : State) where
 
   sound-within : (n : Node) → sound s n ≡ true → n .place + n .size ≤ length s
   unfolding sound
-  sound-within n e = leb-true (n .place + n .size) (length s) (both-true (leb (n .place + n .size) (length s)) (ruled s n (classOf (n .letter))) e .0)
+  sound-within n e = sound-ruled s n e .0
 
   pub contents-length : (n : Node) → sound s n ≡ true → length (contents s (n .place) (n .size)) ≡ n .size
   contents-length n e = length-slice (n .place) (n .place + n .size) s (sound-within n e) ∙ omega arith

@@ -4,7 +4,6 @@
 use mathlib.Core.Path.{_≡_, refl, sym, ap, subst, _∙_}
 use Prim.Native.Nat.{ℕ, _≤_, _<_, min, max}
 use native.Mathlib.Omega.{arith}
-use mathlib.Core.Option.{some}
 use mathlib.Core.List.{List, [], _++_, append-nil}
 use lib.ListN.{length}
 use borrow.Author.Tests.{le-ltb}
@@ -13,6 +12,7 @@ use Rattle.refusals.specs.Limits.{mostBytes, mostNesting}
 use Rattle.grammar.specs.Reading.{gives, stops}
 use Rattle.grammar.specs.State.{State, start, nodeCapacity, entryCapacity}
 use Rattle.grammar.specs.Record.{Tables}
+use Rattle.grammar.proofs.Tests.{same-some}
 use Rattle.grammar.specs.Answer.{plain, reading, Counts, countsOf, readOf}
 use Rattle.grammar.proofs.Bounded.{Bytes}
 use Rattle.grammar.proofs.Contents.{gives-within}
@@ -36,7 +36,8 @@ use Rattle.meaning.proofs.Octets.{octets, below-append, below-at}
 use Rattle.meaning.proofs.Stores.{in-tables}
 use Rattle.meaning.proofs.TheoremA.{root-means, answer-gives}
 use Rattle.meaning.proofs.TheoremB.{read-back, reads-value, goes-somewhere, none-claimed, at-start}
-use Rattle.meaning.proofs.TheoremC.{emits-written, in-order-same}
+use Rattle.meaning.proofs.TheoremC.{emits-written}
+use Rattle.meaning.proofs.NameOrder.{in-order-same}
 use Rattle.meaning.proofs.Unique.{means-value, means-one, by-tables, by-state, worth}
 
 -- Theorem C, of the whole answer: exactly what is written of the value where it fits, and the refusal of room where it does not.
@@ -134,12 +135,9 @@ written-again v p nodes entries slots nesting room f =
     let a = answer-gives s nodes entries slots nesting (countsFor v) (i .answer) in
     let m = root-means s bytes nodes entries slots nesting (a .read) (a .is) in
     let top = max (depthOf v) (depthOf (m .value)) in
-    let same : m .value ≡ v = same-some (m .value) v (sym (m .found top (omega arith)) ∙ ap (λ t. valueOf top t 0) (sym (a .tables)) ∙ i .means top (omega arith)) in
+    let same : m .value ≡ v = same-some (sym (m .found top (omega arith)) ∙ ap (λ t. valueOf top t 0) (sym (a .tables)) ∙ i .means top (omega arith)) in
     ap (λ t. written t 0 nesting room) (a .tables)
     ∙ written-is (tablesOf s nodes entries (a .read)) 0 v (f .input-fits) (subst (Means (InTables (tablesOf s nodes entries (a .read))) 0) same (m .means)) p nesting (f .depth-fits) (f .in-order) room (f .output-fits)
-  where
-    same-some : (v w : Value) → some v ≡ some w → v ≡ w
-    same-some v w e = cc
 
 -- Equal bytes mean the same value: both are what the bytes are read as.
 pub canonical-injective : (v w : Value) → Proper v → Proper w → length (canonical v) ≤ mostBytes → canonical v ≡ canonical w → v ≡ w

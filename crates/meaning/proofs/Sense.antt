@@ -20,21 +20,19 @@ use Rattle.grammar.specs.Leaf.{magnitude}
 use Rattle.grammar.specs.State.{Node}
 use Rattle.grammar.specs.Steps.{linePart, codeParts}
 use Rattle.grammar.specs.Record.{readsAs, ruled, sound}
+use Rattle.grammar.proofs.Tests.{both-true}
 use Rattle.grammar.proofs.Bounded.{Bytes}
 use Rattle.writing.specs.Canonical.{Integer, ofBits, digitsFrom, digitsOf, shownLine}
 use Rattle.writing.specs.Shape as shape
 use Rattle.writing.specs.Shape.{classed, numbersAt, longAt}
+use Rattle.writing.proofs.Numbers.{word-below}
 use Rattle.meaning.specs.Value.{Value, Values, nil, more, single, integer, float, complex, bytes as byteString, text, sequence, slice, dict, code, countOf}
 use Rattle.meaning.specs.Proper.{Below, lengths, Signed, SuitFrom, faultIn, Proper, ProperAll}
 use Rattle.meaning.proofs.Means.{Sees, Means, MeanAll, takeOf, dropOf, mean-all-count, mean-all-take, mean-all-drop}
 use Rattle.meaning.proofs.Inversion.{class-lettered}
-use Rattle.meaning.proofs.Parts.{both-true}
 
 -- Numbers of bytes.
 module _ (s : List ℕ) (bytes : Bytes s) where
-  word-below : (at : ℕ) → le32 s at < 4294967296
-  word-below at = omega (arith, bytes at, bytes (at + 1), bytes (at + 2), bytes (at + 3))
-
   long-below : (at : ℕ) → le64 s at < 18446744073709551616
   long-below at = omega (arith, bytes at, bytes (at + 1), bytes (at + 2), bytes (at + 3), bytes (at + 4), bytes (at + 5), bytes (at + 6), bytes (at + 7))
 

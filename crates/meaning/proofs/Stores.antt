@@ -18,6 +18,7 @@ use Rattle.grammar.specs.State.{Entry, State, blank}
 use Rattle.grammar.specs.Steps.{Rule, whatever, asBytes, asTuple, asNames, asString, rules, codePart, localsPart, kindsPart, linePart}
 use Rattle.grammar.specs.Answer.{reading}
 use Rattle.grammar.specs.Record.{ruled, sound, Tables, whole, nodeOf, badString, unless, suited, orElse, badPart, badEnd, holds, judged, lookedAs, lookedOf, look}
+use Rattle.grammar.proofs.Tests.{both-true}
 use Rattle.grammar.proofs.Bounded.{Bytes}
 use Rattle.grammar.proofs.Links.{Linked, More, nextOf}
 use Rattle.grammar.proofs.ReadBack.{tablesOf, accepted as accepted-so, node-held, read-is-sound, read-is-whole}
@@ -28,7 +29,7 @@ use Rattle.meaning.specs.Proper.{AllTexts, Suits, SuitFrom, faultIn, Pro
 use Rattle.meaning.proofs.Means.{Means, MeanAll, join, tag, means-seen, mean-at}
 use Rattle.meaning.proofs.Standing.{InState}
 use Rattle.meaning.proofs.Inversion.{bytes-letter, text-letter, tuple-letter, code-class}
-use Rattle.meaning.proofs.Parts.{both-true, count-join, looked-at, mean-all-join, suit-join}
+use Rattle.meaning.proofs.Parts.{count-join, looked-at, mean-all-join, suit-join}
 use Rattle.meaning.proofs.Emits.{InTables}
 
 -- A chain is one list of children.

@@ -30,7 +30,8 @@ use Rattle.meaning.proofs.Standing.{InState, means-on, since-on}
 use Rattle.meaning.proofs.Goes.{Anywhere}
 use Rattle.meaning.proofs.Emits.{InTables}
 use Rattle.meaning.proofs.Sense.{Sense}
-use Rattle.meaning.proofs.Sensible.{Always, Told, value-tells}
+use Rattle.meaning.proofs.Kept.{Always}
+use Rattle.meaning.proofs.Sensible.{Told, value-tells}
 use Rattle.meaning.proofs.Stores.{in-tables}
 use Rattle.meaning.proofs.TheoremB.{none-claimed, at-start}
 use Rattle.meaning.proofs.Unique.{means-value, by-tables}

@@ -11,6 +11,7 @@ use Rattle.grammar.specs.State.{Entry, State, blank}
 use Rattle.grammar.specs.Steps.{linePart}
 use Rattle.grammar.specs.Record.{Tables}
 use Rattle.grammar.proofs.Links.{Linked, More, childOf, nextOf}
+use Rattle.grammar.proofs.Tests.{same-some}
 use Rattle.writing.specs.Canonical.{shownLine}
 use Rattle.writing.specs.Shape.{Shape, classed}
 use Rattle.meaning.specs.Value.{Value, Values, nil, more, single, integer, float, complex, bytes, text, sequence, slice, dict, code}
@@ -68,13 +69,10 @@ module _ (P : Sees) (val : ℕ → ℕ → Option Value) (by : Values-by P val) 
     mean-values nil kids a m h = rw m refl
     mean-values (more v vs) kids a m h = ap (allOf (val a)) (m .2) ∙ ap₂ put (means-value v (m .0) a (m .3) (omega arith)) (mean-values vs (m .1) a (m .4) (omega arith))
 
-  same-some : (v w : Value) → some v ≡ some w → v ≡ w
-  same-some v w e = cc
-
   pub means-one : (n : ℕ) (v w : Value) → Means P n v → Means P n w → v ≡ w
   means-one n v w p q =
       let a = max (depthOf v) (depthOf w) in
-      same-some v w (sym (means-value v n a p (omega arith)) ∙ means-value w n a q (omega arith))
+      same-some (sym (means-value v n a p (omega arith)) ∙ means-value w n a q (omega arith))
 
 -- `valueOf` goes by the record test and the shapes of the stores.
 pub by-tables : (t : Tables) → Values-by (InTables t) (λ a n. valueOf a t n)

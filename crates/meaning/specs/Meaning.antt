@@ -1,5 +1,6 @@
 -- What a node of any stores means: sharing is unfolded, and there is no value where a record or a chain is bad, or where the allowance ends
 -- first. The record test is grammar's `look` and what a record is the writer's `shapeOf`, so that nothing is tested twice.
+-- 01, 'Writing it back': "The same value means".
 use Prim.Native.Nat.{ℕ, zero, suc}
 use mathlib.Core.Option.{Option, none, some}
 use mathlib.Core.List.{List, [], _∷_}

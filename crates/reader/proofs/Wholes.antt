@@ -24,7 +24,7 @@ use Rattle.steps.specs.declared.Step.the-variants as step
 use Rattle.steps.specs.Held.{rooms, Holds}
 use Rattle.reader.specs.declared.Outcome.the-variants as outcome
 use Rattle.reader.specs.Delivered.{Delivers}
-use Rattle.reader.specs.Readings.{ReadsValue, Agrees}
+use Rattle.plain.specs.Readings.{ReadsValue, Agrees}
 
 -- a store that is cleared keeps nothing
 keeps-nothing : (store : List ℕ) (n : ℕ) → store ≡ zeros n → Keeps store []

@@ -7,7 +7,7 @@ ghost use Rattle.grammar.specs.Fields.{parts, codeNumbers};
 ghost use Rattle.grammar.specs.Answer.{readOf};
 ghost use Rattle.fields.specs.Behind.{childrenOf};
 ghost use Rattle.steps.specs.Held.{Safe, LineIn};
-ghost use Rattle.reader.specs.Readings.{ReadsValue, ReadsBody, ReadsChild};
+ghost use Rattle.plain.specs.Readings.{ReadsValue, ReadsBody, ReadsChild};
 ghost use Rattle.reader.specs.Delivered.{Delivers};
 
 // A value, the Rust's deserialize_value_depth: what stands before its children, then these, then its record and its slot, which are
@@ -82,7 +82,7 @@ fn value(
 
 // The children of a container, or the parts of a code, one after another; the Rust's deserialize_value_typed and
 // deserialize_code_value_inner. It has the value's allowance less one, and hands it on to children; a code's body hands its parts one
-// less again.
+// less again. `plain::run` reads those that are plain, `child` any other.
 fn typed(
     s: &[u8],
     nodes: &mut [u32],
@@ -100,7 +100,7 @@ fn typed(
     let below = steps::below(kids, allowance);
     let mut l = line;
     loop {
-        let n = steps::next_child(s, nodes, kids, header, l);
+        let n = plain::run(s, nodes, entries, slots, room, below, l, kids, header);
         match n {
             steps::Next::Refused(number, place) => {
                 return steps::Linked::Refused(number, place);

@@ -1,32 +1,23 @@
 -- What a sound record says of the input: the fields of its letter are there. For whoever reads a node that was tested.
 -- Assumes nothing.
-use mathlib.Core.Path.{_≡_, refl, sym, ap, _∙_}
+use mathlib.Core.Path.{_≡_, refl}
 use Prim.Native.Nat.{ℕ, zero, suc, _+_, _-_, _*_, _≤_, _<_}
-use mathlib.Core.Bool.{Bool, true, false, cond, _&&_}
+use mathlib.Core.Bool.{Bool, true, false, cond}
 use mathlib.Core.List.{List}
 use native.Mathlib.Omega.{arith}
 use lib.ListN.{length}
 use lib.Dec.{leb, ltb, eqb}
 use borrow.Author.Tests.{leb-true, ltb-true, eqb-false}
 use Rattle.refusals.specs.Numbers.{dataTooShort, invalidBytecode}
-use Rattle.grammar.specs.Reading.{Answer, gives, stops}
+use Rattle.grammar.specs.Reading.{Answer, stops}
 use Rattle.grammar.specs.Letters as letter
 use Rattle.grammar.specs.Letters.{keeps, classOf}
 use Rattle.grammar.specs.Fields.{Fields, field, fields, le16, le32, digits, lastDigit, pylong, digitCount}
 use Rattle.grammar.specs.State.{Node, nodeAt}
 use Rattle.grammar.specs.Record.{readsAs, ruled, sound, soundAt, nodesIn}
+use Rattle.grammar.proofs.Tests.{never, both-true}
+use Rattle.grammar.proofs.Passed.{sound-ruled}
 use Rattle.records.specs.Held.{LongAt}
-
-never : {X : Type 0} → _≡_ {A = Bool} false true → X
-never e = let apart : _≡_ {A = ℕ} 0 1 = cc in absurd (omega arith)
-
-left : (a b : Bool) → (a && b) ≡ true → a ≡ true
-left true b e = refl
-left false b e = never e
-
-right : (a b : Bool) → (a && b) ≡ true → b ≡ true
-right true b e = e
-right false b e = never e
 
 module _ (s : List ℕ) (n : Node) where
   -- a field that was read is there, and the rest was read
@@ -70,8 +61,7 @@ module _ (s : List ℕ) (n : Node) where
 
   module _ (ok : sound s n ≡ true) where
     rules : ruled s n (classOf (n .letter)) ≡ true
-    unfolding sound
-    rules = right (leb (n .place + n .size) (length s)) (ruled s n (classOf (n .letter))) ok
+    rules = sound-ruled s n ok .1
 
     pub fixed-held : (size : ℕ) → classOf (n .letter) ≡ keeps (letter.fixed size) → n .place + size ≤ length s
     unfolding fields
@@ -94,9 +84,9 @@ module _ (s nodes : List ℕ) (used n : ℕ) (ok : soundAt s nodes used n ≡ tr
   pub in-store : n * 5 + 5 ≤ length nodes
   unfolding soundAt
   in-store =
-      let below : n < nodesIn nodes used = ltb-true _ _ (left (ltb n (nodesIn nodes used)) (sound s (nodeAt nodes n)) ok) in
+      let below : n < nodesIn nodes used = ltb-true _ _ (both-true (ltb n (nodesIn nodes used)) (sound s (nodeAt nodes n)) ok .0) in
       omega arith
 
   pub sound-node : sound s (nodeAt nodes n) ≡ true
   unfolding soundAt
-  sound-node = right (ltb n (nodesIn nodes used)) (sound s (nodeAt nodes n)) ok
+  sound-node = both-true (ltb n (nodesIn nodes used)) (sound s (nodeAt nodes n)) ok .1

@@ -1,4 +1,5 @@
 -- What the input holds at the place of a sound long number: its count, its digits, and a last digit that is not zero.
+-- 01, 'Reading a value': "After the last, a zero last digit is 8."
 use mathlib.Core.Path.{_≡_}
 use Prim.Native.Nat.{ℕ, _+_, _-_, _*_, _≤_, _<_}
 use mathlib.Core.List.{List}

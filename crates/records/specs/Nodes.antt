@@ -1,4 +1,4 @@
--- A node's five numbers as the code carries them, in the words of the grammar.
+-- A node's five numbers as the code carries them, in the words of the grammar. 01, 'What is lent and what is kept': "Node: five numbers".
 use Rattle.grammar.specs.State as state
 use Rattle.records.specs.declared.Node.{Node}
 

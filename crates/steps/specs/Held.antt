@@ -1,5 +1,6 @@
 -- What the code carries and what the stores hold, against the state of the definitions; and the bounds that every step keeps.
--- A node that is claimed and not complete is a record of zeros, so that claiming writes nothing.
+-- A node that is claimed and not complete is a record of zeros, so that claiming writes nothing. The records are those of 01, 'What is lent
+-- and what is kept'.
 use mathlib.Core.Path.{_≡_}
 use Prim.Native.Nat.{ℕ, _+_, _*_, _≤_, _<_}
 use mathlib.Core.Option.{Option, none, some}

@@ -1,4 +1,5 @@
 -- What the code makes of a line when a child is complete, of a part by its rule, of the first line, and of a code's end.
+-- 01, 'Reading a value': from "Children get the allowance less one" on, as grammar's Steps says it.
 use mathlib.Core.Path.{_≡_}
 use Prim.Native.Nat.{ℕ, zero, suc, _+_, _-_, _%_, _≤_, _<_}
 use mathlib.Core.Bool.{Bool, true, false, cond, _&&_}

@@ -7,7 +7,7 @@ ghost use lib.Dec.{eqb};
 ghost use lib.ListN.{length, getD};
 ghost use Rattle.refusals.specs.Limits.{mostBytes, mostRecords, nothing};
 ghost use Rattle.grammar.specs.Letters.{isBytes, isTuple, isString};
-ghost use Rattle.grammar.specs.Fields.{parts, sumAt, codeNumbers};
+ghost use Rattle.grammar.specs.Fields.{parts, codeNumbers};
 ghost use Rattle.grammar.specs.State.{entryWidth};
 ghost use Rattle.grammar.specs.Steps.{rules, whatever, codeParts, sizeOf};
 ghost use Rattle.fields.specs.Classes.{keptClasses};
@@ -78,7 +78,7 @@ pub enum Next {
 }
 
 // A reference's index: the node that its slot names. An index not yet reserved, or still open, is refused.
-fn resolve_ref(s: &[u8], slots: &[u32], at: u32) -> Opened
+pub fn resolve_ref(s: &[u8], slots: &[u32], at: u32) -> Opened
     requires { ⌜ (at ≤ length (now s)) × (length (now s) ≤ mostBytes) ⌝ }
     ensures { λ r. ⌜ References (now (s .entry)) (now (slots .entry)) at r ⌝ }
 {
@@ -123,7 +123,7 @@ fn open_node(s: &[u8], allowance: u32, letter: u32, flag: u32, class: u32, at: u
     }
 }
 
-fn byte_at(s: &[u8], at: u32) -> u32
+pub fn byte_at(s: &[u8], at: u32) -> u32
     requires { ⌜ at < length (now s) ⌝ }
     ensures { λ r. ⌜ (r ≡ getD (now (s .entry)) at 0) × (r < 256) ⌝ }
 {
@@ -348,18 +348,6 @@ fn first_line(s: &[u8], i: u32, line: Line) -> Linked
     })
 }
 
-// The argument sum of the code whose five numbers stand at `at`.
-fn argument_sum(s: &[u8], at: u32) -> u64
-    requires { ⌜ (at + codeNumbers ≤ length (now s)) × (length (now s) ≤ mostBytes) ⌝ }
-    ensures { λ r. ⌜ r ≡ sumAt (now (s .entry)) at ⌝ }
-{
-    let p = at as usize;
-    let arguments = fields::le32(s, p) as u64;
-    let keyword_only = fields::le32(s, p + 8) as u64;
-    let flags = fields::le32(s, p + 16) as u64;
-    arguments + keyword_only + flags / 4 % 2 + flags / 8 % 2
-}
-
 // The checks at a code's end: the refusal's number, or ACCEPTED.
 fn code_fault(s: &[u8], nodes: &[u32], place: u32, line: Line) -> u32
     requires { ⌜ (place + codeNumbers ≤ length (now s)) × (length (now s) ≤ mostBytes) ⌝ }
@@ -370,7 +358,7 @@ fn code_fault(s: &[u8], nodes: &[u32], place: u32, line: Line) -> u32
     if names != kinds {
         return refusals::INVALID_BYTECODE;
     }
-    if 0x1_0000_0000 <= argument_sum(s, place) {
+    if 0x1_0000_0000 <= fields::argument_sum(s, place as usize) {
         return refusals::NUMBER_RANGE;
     }
     if stores::size_of(nodes, line.code) % 2 != 0 {

@@ -10,18 +10,11 @@ use Rattle.refusals.specs.Limits.{nothing}
 use Rattle.lent.specs.Lent.{padded}
 use Rattle.grammar.specs.State.{Node, Entry, blank, unlinked, nodeWidth, entryWidth, nodeCells, entryCells}
 use Rattle.grammar.specs.Steps.{reserve, fill}
+use Rattle.grammar.proofs.Contents.{length-nodeCells, length-entryCells}
 use Rattle.stores.specs.Written.{Keeps, nodeWritten, entryWritten, entryLinked}
 use Rattle.stores.proofs.Padded.{set-padded, sets-inside, padded-zeros}
 
 -- Lengths.
-
-pub length-nodeCells : (ns : List Node) → length (nodeCells ns) ≡ length ns * nodeWidth
-length-nodeCells [] = refl
-length-nodeCells (n ∷ ns) = omega (arith, length-nodeCells ns)
-
-pub length-entryCells : (es : List Entry) → length (entryCells es) ≡ length es * entryWidth
-length-entryCells [] = refl
-length-entryCells (e ∷ es) = omega (arith, length-entryCells es)
 
 nodeCells-append : (xs ys : List Node) → nodeCells (xs ++ ys) ≡ nodeCells xs ++ nodeCells ys
 nodeCells-append [] ys = refl

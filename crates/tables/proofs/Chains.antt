@@ -6,16 +6,13 @@ use native.Mathlib.Omega.{arith}
 use mathlib.Core.Bool.{Bool, true, false, cond, _&&_}
 use mathlib.Core.Option.{Option, none, some}
 use mathlib.Core.List.{List, [], _∷_}
-use lib.ListN.{length, getD}
 use lib.Dec.{ltb}
 use borrow.Author.Tests.{ltb-true, lt-ltb, le-ltb}
 use Rattle.grammar.specs.State.{nodeAt, entryAt}
 use Rattle.grammar.specs.Record.{Tables, entriesIn, chain, put, badString, whole, soundAt}
-use Rattle.tables.specs.Looking.{links, isSome, isNone, stringAt, Names, after}
-use Rattle.tables.proofs.Round.{lives, cut-walk, both-left}
-
-never : {X : Type 0} → _≡_ {A = Bool} false true → X
-never e = let apart : _≡_ {A = ℕ} 0 1 = cc in absurd (omega arith)
+use Rattle.grammar.proofs.Tests.{never, both-true}
+use Rattle.tables.specs.Looking.{links, isSome, isNone, stringAt, Names}
+use Rattle.tables.proofs.Round.{lives, cut-walk}
 
 -- A walk in a loop.
 module _ (fine : ℕ → Bool) (next : ℕ → ℕ) (steps first : ℕ) where
@@ -135,7 +132,7 @@ named-are t count first {room} {steps} has takes h =
           h ∙ ap (λ k. lives (spelt t) (onto (t .entries)) k first) (takes ∙ ap (min count) e)
           ∙ cut-walk (spelt t) (onto (t .entries)) (entriesIn (t .entries) (t .usedEntries))
           (λ e i. ltb-true e (entriesIn (t .entries) (t .usedEntries))
-          (both-left (inside (t .entries) (t .usedEntries) e) (stringAt (t .input) (t .nodes) (t .usedNodes) (entryAt (t .entries) e .child)) i))
+          (both-true (inside (t .entries) (t .usedEntries) e) (stringAt (t .input) (t .nodes) (t .usedNodes) (entryAt (t .entries) e .child)) i .0))
           count first
           ∙ sym (chain-strings t count first kids q);
     }

@@ -2,26 +2,24 @@
 use mathlib.Core.Path.{_≡_, refl, sym, ap, _∙_}
 use Prim.Native.Nat.{ℕ, zero, suc, _+_, _-_, _%_, _≤_, _<_}
 use native.Mathlib.Omega.{arith}
-use mathlib.Core.Bool.{Bool, true, false, cond, not, _&&_}
+use mathlib.Core.Bool.{Bool, true, false, cond, _&&_}
 use mathlib.Core.Option.{Option, none, some}
 use mathlib.Core.List.{List, [], _∷_}
-use lib.ListN.{length, getD, drop}
+use lib.ListN.{getD, drop}
 use lib.Seq.{drop-cons}
-use lib.Dec.{ltb, leb, eqb}
-use borrow.Author.Tests.{ltb-true, leb-true, eqb-true, lt-ltb, eq-eqb, ne-eqb}
-use Rattle.refusals.specs.Numbers.{accepted}
+use lib.Dec.{ltb, eqb}
+use borrow.Author.Tests.{eqb-true, eq-eqb, ne-eqb}
 use Rattle.grammar.specs.Letters as letter
 use Rattle.grammar.specs.Letters.{Class, refers, keeps, contains, codes, refuses, found, letters, classOf, among, isBytes, isTuple, isString}
-use Rattle.grammar.specs.Fields.{sumAt, codeFault, codeNumbers}
-use Rattle.grammar.specs.State.{Node, nodeAt, entryAt}
-use Rattle.grammar.specs.Steps.{Rule, whatever, asBytes, asTuple, asNames, asString, rules, codeParts, codePart, localsPart, kindsPart}
-use Rattle.grammar.specs.Record.{Tables, Looked, holds, faulty, look, lookedAs, lookedOf, judged, placedAt, orElse, unless, chain, whole, nodeOf, sound, soundAt, ruled, nodesIn, suited, names, badString, badPart, badEnd}
+use Rattle.grammar.specs.Fields.{sumAt}
+use Rattle.grammar.specs.State.{nodeAt, entryAt}
+use Rattle.grammar.specs.Steps.{Rule, whatever, asBytes, asTuple, asNames, asString, rules, codeParts}
+use Rattle.grammar.specs.Record.{Tables, holds, faulty, look, lookedAs, lookedOf, judged, orElse, unless, chain, whole, nodeOf, ruled, suited, names, badPart, badEnd}
+use Rattle.grammar.proofs.Tests.{never}
+use Rattle.grammar.proofs.Lettered.{class-passes}
+use Rattle.grammar.proofs.Passed.{sound-ruled, CodeRuled, code-ruled, sound-at, whole-some}
 use Rattle.tables.specs.Looking.{isSome, isNone, Held, Looks, Names, NamesFit, Parts, after, partOf, evenly}
-use Rattle.tables.proofs.Round.{both-left, both-right}
-use Rattle.tables.proofs.Chains.{onto, Headed, headed, chain-none, some-is, none-is, none-so, some-so}
-
-never : {X : Type 0} → _≡_ {A = Bool} false true → X
-never e = let apart : _≡_ {A = ℕ} 0 1 = cc in absurd (omega arith)
+use Rattle.tables.proofs.Chains.{onto, headed, chain-none, some-is, none-is, none-so, some-so}
 
 -- A letter that is none of these.
 abbrev pub Apart : Type 0 → ℕ → List ℕ → Type 0
@@ -68,22 +66,12 @@ pub no-tuple : (t : Tables) (v : ℕ) {b : Bool} {l : ℕ} → l ≡ nodeOf t v 
 no-tuple t v {b} {l} e f g =
     record { tells = λ kids q. ap (λ x. isNone (names t v x kids)) (sym g ∙ f ∙ ap isTuple e) }
 
-pub whole-chain : (t : Tables) (v : ℕ) (kids : List ℕ) → whole t v ≡ some kids
-    → (soundAt (t .input) (t .nodes) (t .usedNodes) v ≡ true) × (chain t (nodeOf t v .count) (nodeOf t v .first) ≡ some kids)
-unfolding whole
-whole-chain t v kids e = go (soundAt (t .input) (t .nodes) (t .usedNodes) v) refl e
-  where
-    go : (b : Bool) → soundAt (t .input) (t .nodes) (t .usedNodes) v ≡ b → cond b (chain t (nodeAt (t .nodes) v .count) (nodeAt (t .nodes) v .first)) none ≡ some kids
-        → (soundAt (t .input) (t .nodes) (t .usedNodes) v ≡ true) × (chain t (nodeOf t v .count) (nodeOf t v .first) ≡ some kids)
-    go true p e = (p, e)
-    go false p e = let z : _≡_ {A = ℕ} 0 1 = cc in absurd (omega arith)
-
 pub a-tuple : (t : Tables) (v : ℕ) {b r : Bool} {l first count : ℕ} → l ≡ nodeOf t v .letter → b ≡ isTuple l → b ≡ true
     → first ≡ nodeOf t v .first → count ≡ nodeOf t v .count → Names t first count r → NamesFit t v r
 a-tuple t v {b} {r} {l} {first} {count} e f g p q k =
     record {
       tells = λ kids w.
-          k .tells kids (ap (λ x. chain t x first) q ∙ ap (chain t (nodeOf t v .count)) p ∙ whole-chain t v kids w .1)
+          k .tells kids (ap (λ x. chain t x first) q ∙ ap (chain t (nodeOf t v .count)) p ∙ whole-some t v kids w .1)
           ∙ ap (λ x. isNone (names t v x kids)) (sym g ∙ f ∙ ap isTuple e);
     }
 
@@ -221,34 +209,17 @@ reaching-end {entries} {first} {part} {i} {e} {v} w l n =
 
 -- The whole test.
 
-abbrev OnlyCode : List (ℕ × Class) → Type 0
-OnlyCode [] = Unit
-OnlyCode ((l, refers) ∷ ls) = OnlyCode ls
-OnlyCode ((l, keeps f) ∷ ls) = OnlyCode ls
-OnlyCode ((l, contains s) ∷ ls) = OnlyCode ls
-OnlyCode ((l, codes) ∷ ls) = (l ≡ 0x63) × OnlyCode ls
-OnlyCode ((l, refuses n) ∷ ls) = OnlyCode ls
-
-found-code : (l : ℕ) (ls : List (ℕ × Class)) → OnlyCode ls → found l ls ≡ codes → l ≡ 0x63
-unfolding found
-found-code l [] o h = let z : _≡_ {A = ℕ} 0 1 = cc in absurd (omega arith)
-found-code l ((x, k) ∷ ls) o h = go k (eqb l x) refl (found-code l ls) o h
-  where
-    go : (k : Class) (b : Bool) → eqb l x ≡ b → (OnlyCode ls → found l ls ≡ codes → l ≡ 0x63) → OnlyCode ((x, k) ∷ ls) → cond b k (found l ls) ≡ codes → l ≡ 0x63
-    go refers true p more o h = let z : _≡_ {A = ℕ} 0 1 = cc in absurd (omega arith)
-    go (keeps f) true p more o h = let z : _≡_ {A = ℕ} 0 1 = cc in absurd (omega arith)
-    go (contains f) true p more o h = let z : _≡_ {A = ℕ} 0 1 = cc in absurd (omega arith)
-    go (refuses f) true p more o h = let z : _≡_ {A = ℕ} 0 1 = cc in absurd (omega arith)
-    go codes true p more o h = eqb-true l x p ∙ o .0
-    go refers false p more o h = more o h
-    go (keeps f) false p more o h = more o h
-    go (contains f) false p more o h = more o h
-    go (refuses f) false p more o h = more o h
-    go codes false p more o h = more (o .1) h
+-- no other letter than `c` is a code's
+abbrev codeOnly : ℕ → Class → Bool
+codeOnly l codes = eqb l 0x63
+codeOnly l refers = true
+codeOnly l (refuses number) = true
+codeOnly l (keeps form) = true
+codeOnly l (contains sort) = true
 
 pub only-code : (l : ℕ) → classOf l ≡ codes → l ≡ 0x63
-unfolding classOf letters
-only-code l h = found-code l letters (refl, tt) h
+unfolding letters
+only-code l h = eqb-true l 0x63 (ap (codeOnly l) (sym h) ∙ class-passes codeOnly (λ l. refl) refl l)
 
 pub code-class : (l : ℕ) → l ≡ 0x63 → classOf l ≡ codes
 unfolding classOf letters found
@@ -256,18 +227,14 @@ code-class l h = rw h refl
 
 module _ (t : Tables) (n : ℕ) (vs : List ℕ) (is : whole t n ≡ some vs) where
   rules-hold : ruled (t .input) (nodeOf t n) (classOf (nodeOf t n .letter)) ≡ true
-  unfolding soundAt sound
-  rules-hold =
-      let s = whole-chain t n vs is .0 in
-      both-right (leb (nodeOf t n .place + nodeOf t n .size) (length (t .input))) (ruled (t .input) (nodeOf t n) (classOf (nodeOf t n .letter)))
-      (both-right (ltb n (nodesIn (t .nodes) (t .usedNodes))) (sound (t .input) (nodeOf t n)) s)
+  rules-hold = sound-ruled (t .input) (nodeOf t n) (sound-at t n (whole-some t n vs is .0) .1) .1
 
   looked-is : look t n ≡ lookedAs t n vs (classOf (nodeOf t n .letter))
   unfolding look
   looked-is = ap (lookedOf t n) is
 
   pub look-plain : (nodeOf t n .letter ≡ 0x63 → ⊥) → Held t n
-  look-plain h = record { kids = vs; holds-kids = looked-is ∙ go (classOf (nodeOf t n .letter)) refl rules-hold; chained = whole-chain t n vs is .1 }
+  look-plain h = record { kids = vs; holds-kids = looked-is ∙ go (classOf (nodeOf t n .letter)) refl rules-hold; chained = whole-some t n vs is .1 }
     where
       go : (k : Class) → classOf (nodeOf t n .letter) ≡ k → ruled (t .input) (nodeOf t n) k ≡ true → lookedAs t n vs k ≡ holds vs
       go refers p r = never r
@@ -277,29 +244,11 @@ module _ (t : Tables) (n : ℕ) (vs : List ℕ) (is : whole t n ≡ some vs) whe
       go codes p r = absurd (h (only-code (nodeOf t n .letter) p))
 
   module _ (code : nodeOf t n .letter ≡ 0x63) (first : ℕ) (at : first ≡ nodeOf t n .first) where
-    ruled-code : ruled (t .input) (nodeOf t n) codes ≡ true
-    ruled-code = sym (ap (ruled (t .input) (nodeOf t n)) (code-class (nodeOf t n .letter) code)) ∙ rules-hold
-
-    counted : nodeOf t n .count ≡ codeParts
-    counted = go (leb codeNumbers (nodeOf t n .size)) (leb (nodeOf t n .place + nodeOf t n .size + 4) (length (t .input))) (eqb (nodeOf t n .count) codeParts) refl (ltb (sumAt (t .input) (nodeOf t n .place)) 4294967296) ruled-code
-      where
-        go : (a b c : Bool) → eqb (nodeOf t n .count) codeParts ≡ c → (d : Bool) → (a && b && c && d) ≡ true → nodeOf t n .count ≡ codeParts
-        go true true true e d h = eqb-true (nodeOf t n .count) codeParts e
-        go true true false e d h = never h
-        go true false c e d h = never h
-        go false b c e d h = never h
-
-    summed : ltb (sumAt (t .input) (nodeOf t n .place)) 4294967296 ≡ true
-    summed = go (leb codeNumbers (nodeOf t n .size)) (leb (nodeOf t n .place + nodeOf t n .size + 4) (length (t .input))) (eqb (nodeOf t n .count) codeParts) (ltb (sumAt (t .input) (nodeOf t n .place)) 4294967296) ruled-code
-      where
-        go : (a b c d : Bool) → (a && b && c && d) ≡ true → d ≡ true
-        go true true true d h = h
-        go true true false d h = never h
-        go true false c d h = never h
-        go false b c d h = never h
+    rules-code : CodeRuled (t .input) (nodeOf t n)
+    rules-code = code-ruled (t .input) (nodeOf t n) (sym (ap (ruled (t .input) (nodeOf t n)) (code-class (nodeOf t n .letter) code)) ∙ rules-hold)
 
     pub ten : chain t codeParts first ≡ some vs
-    ten = ap (chain t codeParts) at ∙ sym (ap (λ k. chain t k (nodeOf t n .first)) counted) ∙ whole-chain t n vs is .1
+    ten = ap (chain t codeParts) at ∙ sym (ap (λ k. chain t k (nodeOf t n .first)) (rules-code .ten)) ∙ whole-some t n vs is .1
 
     judged-is : look t n ≡ judged n vs (orElse (badPart t rules vs) (badEnd t n vs))
     judged-is = looked-is ∙ ap (lookedAs t n vs) (code-class (nodeOf t n .letter) code)
@@ -315,7 +264,7 @@ module _ (t : Tables) (n : ℕ) (vs : List ℕ) (is : whole t n ≡ some vs) whe
         ap (λ a. evenly (t .nodes) a (partOf (t .entries) first 3) (partOf (t .entries) first 4)) (sym (part-of t 0 9 first vs ten))
         ∙ ap (λ a. evenly (t .nodes) (getD vs 0 0) a (partOf (t .entries) first 4)) (sym (part-of t 3 6 first vs ten))
         ∙ ap (evenly (t .nodes) (getD vs 0 0) (getD vs 3 0)) (sym (part-of t 4 5 first vs ten))
-        ∙ go (eqb (nodeOf t (getD vs 3 0) .count) (nodeOf t (getD vs 4 0) .size)) (eqb (nodeOf t (getD vs 0 0) .size % 2) 0) (ltb (sumAt (t .input) (nodeOf t n .place)) 4294967296) summed
+        ∙ go (eqb (nodeOf t (getD vs 3 0) .count) (nodeOf t (getD vs 4 0) .size)) (eqb (nodeOf t (getD vs 0 0) .size % 2) 0) (ltb (sumAt (t .input) (nodeOf t n .place)) 4294967296) (rules-code .summed)
       where
         go : (a b c : Bool) → c ≡ true → (a && b) ≡ isNone (unless (eqb (cond a (cond c (cond b 0 8) 18) 8) 0) n)
         go true true true e = refl
@@ -335,7 +284,7 @@ module _ (t : Tables) (n : ℕ) (vs : List ℕ) (is : whole t n ≡ some vs) whe
             record {
               kids = vs;
               holds-kids = judged-is ∙ ap (λ o. judged n vs (orElse o (badEnd t n vs))) fine ∙ ap (λ o. judged n vs o) (none-so (badEnd t n vs) q);
-              chained = whole-chain t n vs is .1;
+              chained = whole-some t n vs is .1;
             }
         go false q =
             let w = some-so (badEnd t n vs) q in

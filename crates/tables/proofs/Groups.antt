@@ -1,30 +1,28 @@
 -- Local names in their groups: names compared byte by byte, and a way along names and kinds together. Assumes nothing.
 use mathlib.Core.Path.{_≡_, refl, sym, ap, _∙_}
-use Prim.Native.Nat.{ℕ, zero, suc, _+_, _-_, _≤_, _<_}
+use Prim.Native.Nat.{ℕ, suc, _+_, _-_, _≤_, _<_}
 use native.Mathlib.Omega.{arith}
 use mathlib.Core.Bool.{Bool, true, false, cond, not, _&&_, _||_}
 use mathlib.Core.Option.{Option, none, some}
 use mathlib.Core.List.{List, [], _∷_, _++_}
 use lib.ListN.{length, getD}
 use lib.Seq.{slice, slice-empty, length-slice}
-use lib.Dec.{ltb, leb, eqb}
-use borrow.Author.Tests.{leb-true, eqb-true, eq-eqb, ne-eqb}
+use lib.Dec.{eqb}
+use borrow.Author.Tests.{eq-eqb, ne-eqb}
 use Rattle.localsplus.specs.Kind.{localBit, cellBit, freeBit, has}
-use Rattle.grammar.specs.Letters.{isString, classOf}
+use Rattle.grammar.specs.Letters.{isString}
 use Rattle.grammar.specs.Fields.{contents}
 use Rattle.grammar.specs.State.{nodeAt, entryAt}
-use Rattle.grammar.specs.Record.{Tables, chain, badString, sound, soundAt, ruled}
+use Rattle.grammar.specs.Record.{Tables, chain, badString, soundAt}
+use Rattle.grammar.proofs.Tests.{never, both-true}
+use Rattle.grammar.proofs.Passed.{sound-ruled, first-string}
 use Rattle.records.proofs.Soundness.{sound-node}
 use Rattle.writing.specs.Names.{contentsOf, sameBytes, having, namedIn, apartFrom, inGroups}
 use Rattle.writing.proofs.Numbers.{part-next}
 use Rattle.tables.specs.declared.Locals.{Locals}
 use Rattle.tables.specs.Looking.{isSome, stringAt}
 use Rattle.tables.specs.Groups.{orNone, namesIn, kindsIn, localsIn, inGroup, groupFrom, groupIn, Listed}
-use Rattle.tables.proofs.Round.{both-left, both-right}
-use Rattle.tables.proofs.Chains.{onto, headed, chain-none, some-is}
-
-never : {X : Type 0} → _≡_ {A = Bool} false true → X
-never e = let apart : _≡_ {A = ℕ} 0 1 = cc in absurd (omega arith)
+use Rattle.tables.proofs.Chains.{onto, headed, chain-none}
 
 -- Two parts, byte by byte.
 pub record Same (s : List ℕ) (a b size i : ℕ) : Type 0 where
@@ -80,15 +78,12 @@ unfolding sameBytes
 same-lengths [] [] e = refl
 same-lengths [] (y ∷ ys) e = never e
 same-lengths (x ∷ xs) [] e = never e
-same-lengths (x ∷ xs) (y ∷ ys) e = ap suc (same-lengths xs ys (both-right (eqb x y) (sameBytes xs ys) e))
+same-lengths (x ∷ xs) (y ∷ ys) e = ap suc (same-lengths xs ys (both-true (eqb x y) (sameBytes xs ys) e .1))
 
 -- a sound string lies in the input
 pub string-within : (s nodes : List ℕ) (used v : ℕ) → stringAt s nodes used v ≡ true → nodeAt nodes v .place + nodeAt nodes v .size ≤ length s
-unfolding sound
 string-within s nodes used v h =
-    let ok = sound-node s nodes used v (both-left (soundAt s nodes used v) (isString (nodeAt nodes v .letter)) h) in
-    leb-true (nodeAt nodes v .place + nodeAt nodes v .size) (length s)
-    (both-left (leb (nodeAt nodes v .place + nodeAt nodes v .size) (length s)) (ruled s (nodeAt nodes v) (classOf (nodeAt nodes v .letter))) ok)
+    sound-ruled s (nodeAt nodes v) (sound-node s nodes used v (both-true (soundAt s nodes used v) (isString (nodeAt nodes v .letter)) h .0)) .0
 
 module _ (s : List ℕ) (p m q n : ℕ) where
   pub sizes-differ : p + m ≤ length s → q + n ≤ length s → (m ≡ n → ⊥) → false ≡ sameBytes (contents s p m) (contents s q n)
@@ -114,7 +109,7 @@ pub record Along {X : Type 0} (t : Tables) (l : Locals) (P : List ℕ → List �
   pub fine : badString t rest ≡ none
   pub comes : P (slice (l .kinds + i) (l .kinds + l .count) (t .input)) rest ≡ goal
 
-some-of : (o : Option (List ℕ)) → isSome o ≡ true → o ≡ some (orNone o)
+pub some-of : (o : Option (List ℕ)) → isSome o ≡ true → o ≡ some (orNone o)
 some-of none e = never e
 some-of (some vs) e = refl
 
@@ -139,23 +134,13 @@ pub record Next {X : Type 0} (t : Tables) (l : Locals) (P : List ℕ → List �
   pub here : l .kinds + i < length (t .input)
   pub comes : P (getD (t .input) (l .kinds + i) 0 ∷ slice (l .kinds + (i + 1)) (l .kinds + l .count) (t .input)) (v ∷ rest) ≡ goal
 
-first-text : (t : Tables) (v : ℕ) (vs : List ℕ) → badString t (v ∷ vs) ≡ none
-    → (stringAt (t .input) (t .nodes) (t .usedNodes) v ≡ true) × (badString t vs ≡ none)
-unfolding badString
-first-text t v vs e = go (stringAt (t .input) (t .nodes) (t .usedNodes) v) refl e
-  where
-    go : (b : Bool) → stringAt (t .input) (t .nodes) (t .usedNodes) v ≡ b → cond b (badString t vs) (some v) ≡ none
-        → (stringAt (t .input) (t .nodes) (t .usedNodes) v ≡ true) × (badString t vs ≡ none)
-    go true p e = (p, e)
-    go false p e = let z : _≡_ {A = ℕ} 0 1 = cc in absurd (omega arith)
-
 pub along-next : {X : Type 0} (t : Tables) (l : Locals) (P : List ℕ → List ℕ → X) {goal : X} {i e : ℕ} (v : ℕ) → Listed t l → Along t l P goal i e
     → i < l .count → v ≡ entryAt (t .entries) e .child → Next t l P goal i e v
 along-next t l P {goal} {i} {e} v k w h is =
     let n : l .count - i ≡ suc (l .count - (i + 1)) = omega arith in
     let d = headed t (l .count - (i + 1)) e (w .rest) (sym (ap (λ c. chain t c e) n) ∙ w .chained) in
     let are : w .rest ≡ v ∷ d .rest = d .are ∙ ap (λ x. x ∷ d .rest) (sym is) in
-    let texts = first-text t v (d .rest) (sym (ap (badString t) are) ∙ w .fine) in
+    let texts = first-string t v (d .rest) (sym (ap (badString t) are) ∙ w .fine) in
     let room = k .kinds in
     record {
       rest = d .rest;

@@ -4,21 +4,11 @@
 use mathlib.Core.Path.{_≡_, refl, sym, ap, _∙_}
 use Prim.Native.Nat.{ℕ, zero, suc, _+_, _-_, _≤_, _<_, min}
 use native.Mathlib.Omega.{arith}
-use mathlib.Core.Bool.{Bool, true, false, cond, _&&_}
+use mathlib.Core.Bool.{Bool, true, false, _&&_}
 use mathlib.Core.Logic.{_⊎_, inl, inr}
-use lib.Dec.{ltb, leb, eqb}
-use borrow.Author.Tests.{ltb-true, ltb-false, leb-true, leb-false, eqb-true, eqb-false}
-
-never : {X : Type 0} → _≡_ {A = Bool} false true → X
-never e = let apart : _≡_ {A = ℕ} 0 1 = cc in absurd (omega arith)
-
-pub both-left : (a b : Bool) → (a && b) ≡ true → a ≡ true
-both-left true b e = refl
-both-left false b e = never e
-
-pub both-right : (a b : Bool) → (a && b) ≡ true → b ≡ true
-both-right true b e = e
-both-right false b e = never e
+use lib.Dec.{leb, eqb}
+use borrow.Author.Tests.{leb-true, leb-false, eqb-true, eqb-false}
+use Rattle.grammar.proofs.Tests.{never, both-true}
 
 both : {a b : Bool} → a ≡ true → b ≡ true → (a && b) ≡ true
 both e f = rw (e, f) refl
@@ -40,7 +30,7 @@ module _ (fine : ℕ → Bool) (next : ℕ → ℕ) (room : ℕ) (inside : (e : 
   less : (k e : ℕ) → goes (suc k) e ≡ true → goes k e ≡ true
   unfolding lives
   less zero e h = refl
-  less (suc k) e h = both (both-left (fine e) (goes (suc k) (next e)) h) (less k (next e) (both-right (fine e) (goes (suc k) (next e)) h))
+  less (suc k) e h = both (both-true (fine e) (goes (suc k) (next e)) h .0) (less k (next e) (both-true (fine e) (goes (suc k) (next e)) h .1))
 
   pub less-by : (j k e : ℕ) → goes (j + k) e ≡ true → goes k e ≡ true
   less-by zero k e h = let z : 0 + k ≡ k = omega arith in rw z at (h)
@@ -114,9 +104,9 @@ module _ (fine : ℕ → Bool) (next : ℕ → ℕ) (room : ℕ) (inside : (e : 
   stays-next : (k : ℕ) → Stays (suc k) → Stays (suc (suc k))
   unfolding lives
   stays-next k st e l h =
-      let f = both-left (fine e) (goes (suc k) (next e)) h in
-      let g = both-right (fine e) (goes (suc k) (next e)) h in
-      both f (st (next e) (inside (next e) (both-left (fine (next e)) (goes k (next (next e))) g)) g)
+      let f = both-true (fine e) (goes (suc k) (next e)) h .0 in
+      let g = both-true (fine e) (goes (suc k) (next e)) h .1 in
+      both f (st (next e) (inside (next e) (both-true (fine (next e)) (goes k (next (next e))) g .0)) g)
 
   falls-or-stays : (k : ℕ) → (tally (suc k) room + k ≤ room) ⊎ Stays (suc k)
   falls-or-stays zero = inl (omega (arith, tally-most 1 room))
@@ -146,7 +136,7 @@ module _ (fine : ℕ → Bool) (next : ℕ → ℕ) (room : ℕ) (inside : (e : 
 
   start : (e : ℕ) → goes (suc room) e ≡ true → e < room
   unfolding lives
-  start e h = inside e (both-left (fine e) (goes room (next e)) h)
+  start e h = inside e (both-true (fine e) (goes room (next e)) h .0)
 
   onwards : (j e : ℕ) → goes (suc room) e ≡ true → goes (suc (j + room)) e ≡ true
   onwards zero e h = let z : 0 + room ≡ room = omega arith in rw z h

@@ -1,4 +1,5 @@
 -- The local names of a code as the code goes through them: a chain of names, and the kinds that stand beside it.
+-- 01, 'Writing it back': "Local names are written as all Local, then Cell whose name equals no Local name, then Free".
 use mathlib.Core.Path.{_≡_}
 use Prim.Native.Nat.{ℕ, _+_, _≤_}
 use mathlib.Core.Bool.{Bool, true, cond, not, _&&_}

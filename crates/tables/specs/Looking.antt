@@ -1,4 +1,5 @@
--- The record test of a node with its chain, and of a code with its parts, as the code answers it.
+-- The record test of a node with its chain, and of a code with its parts, as the code answers it. 01, 'Writing it back': "16 is given exactly
+-- when ..".
 use mathlib.Core.Path.{_≡_}
 use Prim.Native.Nat.{ℕ, zero, suc, _%_}
 use mathlib.Core.Bool.{Bool, true, false, _&&_}

@@ -1,5 +1,5 @@
--- What bytes read as. The big-endian reading is the port's, byte for byte as the Rust reads; the little-endian one says what
--- the written bytes stand for, without the limits that reading a line table has.
+-- What bytes read as: 01, 'Locals, numbers and locations'. The big-endian reading is the port's, byte for byte as the Rust reads; the
+-- little-endian one says what the written bytes stand for, without the limits that reading a line table has.
 use Prim.Native.Nat.{ℕ, _+_, _*_, _/_, _%_, _^_}
 use mathlib.Core.Bool.{Bool, true, false, cond}
 use mathlib.Core.List.{List, [], _∷_}

@@ -1,31 +1,25 @@
 -- The whole writing: into a cleared output, of which as many bytes count as a place can tell. Assumes nothing.
-use mathlib.Core.Path.{_≡_, refl, sym, ap, subst, _∙_}
-use Prim.Native.Nat.{ℕ, zero, suc, _+_, _-_, _≤_, _<_, min}
+use mathlib.Core.Path.{_≡_, refl, sym, ap, _∙_}
+use Prim.Native.Nat.{ℕ, _-_, _≤_, _<_, min}
 use native.Mathlib.Omega.{arith}
-use native.Mathlib.Numerals.{unary-clauses}
-use mathlib.Core.Bool.{Bool, true, false, cond}
-use mathlib.Core.List.{List, [], _∷_, _++_, append-assoc}
-use lib.ListN.{length, take, drop, replicate, length-replicate, length-append, take-append-drop, length-drop}
+use mathlib.Core.Bool.{cond}
+use mathlib.Core.List.{List, [], _++_, append-assoc}
+use lib.ListN.{length, take, drop, length-replicate, take-append-drop}
 use lib.Seq.{length-take-le, drop-append-le}
-use lib.Dec.{ltb}
 use borrow.Author.Tests.{lt-ltb, le-ltb}
 use Rattle.refusals.specs.Numbers.{inputTooLong}
 use Rattle.refusals.specs.Limits.{mostBytes, mostNesting}
 use Rattle.lent.specs.Lent.{zeros, padded}
-use Rattle.grammar.specs.Reading.{Answer, gives, stops}
+use Rattle.lent.proofs.Laws.{drop-zeros}
+use Rattle.grammar.specs.Reading.{Answer, stops}
 use Rattle.grammar.specs.Record.{Tables}
-use Rattle.writing.specs.Writing.{Writing, into}
+use Rattle.writing.specs.Writing.{into}
 use Rattle.writing.specs.Steps.{writing}
 use Rattle.writing.specs.Answer.{mostOutput, written, outputHeld}
 use Rattle.puts.specs.declared.Wrote.{Wrote}
 use Rattle.puts.specs.declared.Wrote.the-variants as wrote
 use Rattle.puts.specs.Puts.{Agrees, Puts}
 use Rattle.writer.specs.Entry.{wroteOf, Serialized}
-
-drop-zeros : (k n : ℕ) → drop k (zeros n) ≡ zeros (n - k)
-drop-zeros zero n = simp unary-clauses
-drop-zeros (suc k) zero = let none : 0 - suc k ≡ 0 = omega arith in rw none
-drop-zeros (suc k) (suc n) = simp unary-clauses (drop-zeros k n)
 
 -- the output, where an answer is known
 answered : {answer x : Answer (List ℕ)} {n : ℕ} {r : Wrote} {o : List ℕ} → answer ≡ x → r ≡ wroteOf x → o ≡ outputHeld n x → Serialized answer n r o

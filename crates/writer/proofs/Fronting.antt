@@ -1,40 +1,37 @@
 -- A node's own bytes, letter by letter: what a sound record says of the input, and what each class is written as. Assumes nothing.
-use mathlib.Core.Path.{_≡_, refl, sym, ap, subst, _∙_}
+use mathlib.Core.Path.{_≡_, refl, sym, ap, _∙_}
 use Prim.Native.Nat.{ℕ, zero, suc, _+_, _-_, _*_, _≤_, _<_}
 use native.Mathlib.Omega.{arith}
-use mathlib.Core.Bool.{Bool, true, false, cond, not, _&&_}
-use mathlib.Core.List.{List, [], _∷_, _++_}
-use lib.ListN.{length, getD, take, drop}
+use mathlib.Core.Bool.{Bool, true, false, cond, _&&_}
+use mathlib.Core.List.{List, [], _∷_}
+use lib.ListN.{length, getD}
 use lib.Dec.{leb, ltb, eqb}
-use borrow.Author.Tests.{lt-ltb, le-ltb, eq-eqb, ne-eqb, ltb-true, ltb-false, leb-true, eqb-true, eqb-false}
+use borrow.Author.Tests.{eq-eqb, ltb-true, ltb-false, eqb-true}
 use Rattle.refusals.specs.Numbers.{unknownType, dataTooShort, invalidBytecode}
 use Rattle.grammar.specs.Reading.{Answer, gives, stops}
 use Rattle.grammar.specs.Letters as letter
-use Rattle.grammar.specs.Letters.{Class, refers, keeps, contains, codes, refuses, classOf, found, letters}
-use Rattle.grammar.specs.Fields.{Fields, items, span, field, fields, pylong, digits, lastDigit, digitCount, le16, le32, le64, contents, codeNumbers, sumAt}
+use Rattle.grammar.specs.Letters.{Class, keeps, contains, codes, refuses, classOf, found, letters}
+use Rattle.grammar.specs.Fields.{Fields, items, span, fields, pylong, digits, lastDigit, digitCount, le16, le32, le64, contents}
 use Rattle.grammar.specs.State.{Node}
 use Rattle.grammar.specs.Record.{sound, ruled, readsAs, counted}
+use Rattle.grammar.proofs.Tests.{never, both-true}
+use Rattle.grammar.proofs.Passed.{sound-ruled, code-ruled}
 use Rattle.fields.specs.Classes.{classes, classAt}
-use Rattle.records.proofs.Soundness.{fixed-held, double-held}
-use Rattle.writing.specs.Writing.{Writing, ended, refused, emit, then, each, into}
-use Rattle.writing.specs.Canonical.{bytes32, bytes64, words, sized, integerBytes, ofBits}
+use Rattle.writing.specs.Writing.{Writing, ended, emit, then, each}
+use Rattle.writing.specs.Canonical.{bytes32, bytes64, sized, integerBytes, ofBits}
 use Rattle.writing.specs.Shape as shape
-use Rattle.writing.specs.Shape.{numbersAt, longAt, classed}
+use Rattle.writing.specs.Shape.{longAt, classed}
 use Rattle.writing.specs.Steps.{shaped}
 use Rattle.writing.proofs.Numbers.{word-bytes, word-below, long-bytes, two-bytes, numbers-bytes, small-positive, small-negative, not-negative, is-negative}
 use Rattle.puts.specs.declared.Wrote.{Wrote}
 use Rattle.puts.specs.declared.Wrote.the-variants as wrote
-use Rattle.puts.specs.Puts.{Open, Agrees, Puts}
-use Rattle.tables.proofs.Round.{both-left, both-right}
+use Rattle.puts.specs.Puts.{Puts}
 use Rattle.writer.specs.declared.Opened.{Opened}
 use Rattle.writer.specs.declared.Opened.the-variants as opened
 use Rattle.writer.specs.Onward.{Onward}
 use Rattle.writer.specs.Heads.{closed, wholeOf, rowOf, pairsOf, partsOf, FrontAs, Fronts}
-use Rattle.writer.proofs.Under.{start, left-as, done, refused-in, written-in, last}
+use Rattle.writer.proofs.Under.{start, left-as, refused-in, written-in}
 use Rattle.writer.proofs.Naming.{puts-equal}
-
-never : {X : Type 0} → _≡_ {A = Bool} false true → X
-never e = let apart : _≡_ {A = ℕ} 0 1 = cc in absurd (omega arith)
 
 -- How a front is answered: the node is whole with its own bytes; or its row, or its parts, come next.
 module _ {s : List ℕ} {n : Node} {class : Class} {at : ℕ} {o o′ : List ℕ} {r : Wrote} where
@@ -90,10 +87,10 @@ found-small : (l : ℕ) (ls : List (ℕ × Class)) → allSmall ls ≡ true → 
 unfolding found
 found-small l [] b h = absurd (h refl)
 found-small l (x ∷ ls) b h =
-    go (eqb l (x .0)) refl (found-small l ls (both-right (ltb (x .0) 128) (allSmall ls) b)) h
+    go (eqb l (x .0)) refl (found-small l ls (both-true (ltb (x .0) 128) (allSmall ls) b .1)) h
   where
     go : (t : Bool) → eqb l (x .0) ≡ t → ((found l ls ≡ refuses unknownType → ⊥) → l < 128) → (cond t (x .1) (found l ls) ≡ refuses unknownType → ⊥) → l < 128
-    go true e more h = omega (arith, eqb-true l (x .0) e, ltb-true (x .0) 128 (both-left (ltb (x .0) 128) (allSmall ls) b))
+    go true e more h = omega (arith, eqb-true l (x .0) e, ltb-true (x .0) 128 (both-true (ltb (x .0) 128) (allSmall ls) b .0))
     go false e more h = more h
 
 pub letter-small : (l : ℕ) (form : letter.Form) → classOf l ≡ keeps form → l < 128
@@ -144,12 +141,10 @@ after12 k = suc (suc (suc (suc (suc (suc (suc (suc (suc (suc (suc (suc k))))))))
 
 module _ (s : List ℕ) (n : Node) (ok : sound s n ≡ true) where
   rules : ruled s n (classOf (n .letter)) ≡ true
-  unfolding sound
-  rules = both-right (leb (n .place + n .size) (length s)) (ruled s n (classOf (n .letter))) ok
+  rules = sound-ruled s n ok .1
 
   pub sound-within : n .place + n .size ≤ length s
-  unfolding sound
-  sound-within = leb-true (n .place + n .size) (length s) (both-left (leb (n .place + n .size) (length s)) (ruled s n (classOf (n .letter))) ok)
+  sound-within = sound-ruled s n ok .0
 
   -- a long, read again
   pub long-read : classOf (n .letter) ≡ keeps letter.long → fields s letter.long (n .place) ≡ span (n .place) (n .size) (items 0)
@@ -158,20 +153,11 @@ module _ (s : List ℕ) (n : Node) (ok : sound s n ≡ true) where
       go : (x : Answer Fields) → fields s letter.long (n .place) ≡ x → readsAs x n ≡ true → fields s letter.long (n .place) ≡ span (n .place) (n .size) (items 0)
       go (stops number place) e r = never r
       go (gives f) e r =
-          let z : n .size ≡ f .size = eqb-true (n .size) (f .size) (both-left (eqb (n .size) (f .size)) (counted (f .children) (n .count)) r) in
+          let z : n .size ≡ f .size = eqb-true (n .size) (f .size) (both-true (eqb (n .size) (f .size)) (counted (f .children) (n .count)) r .0) in
           e ∙ ap gives (long-gives s (n .place) f e) ∙ ap (λ m. span (n .place) m (items 0)) (sym z)
 
   pub code-numbers : classOf (n .letter) ≡ codes → n .place + 20 ≤ length s
-  code-numbers is =
-      let r : ruled s n codes ≡ true = sym (ap (ruled s n) is) ∙ rules in
-      omega (arith, sound-within, leb-true codeNumbers (n .size) (first (ltb (sumAt s (n .place)) 4294967296) r))
-    where
-      first : (b : Bool) → (leb codeNumbers (n .size) && leb (n .place + n .size + 4) (length s) && eqb (n .count) 10 && b) ≡ true → leb codeNumbers (n .size) ≡ true
-      first b h = go (leb codeNumbers (n .size)) (leb (n .place + n .size + 4) (length s)) (eqb (n .count) 10) b h
-        where
-          go : (x y z w : Bool) → (x && y && z && w) ≡ true → x ≡ true
-          go true y z w h = refl
-          go false y z w h = never h
+  code-numbers is = omega (arith, sound-within, code-ruled s n (sym (ap (ruled s n) is) ∙ rules) .numbers)
 
   -- whatever is none of the first twelve classes is a code
   pub code-else : (class : ℕ) → 12 ≤ class → classAt class ≡ classOf (n .letter) → classOf (n .letter) ≡ codes

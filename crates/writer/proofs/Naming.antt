@@ -2,36 +2,37 @@
 use mathlib.Core.Path.{_≡_, refl, sym, ap, subst, _∙_}
 use Prim.Native.Nat.{ℕ, zero, suc, _+_, _-_, _≤_, _<_}
 use native.Mathlib.Omega.{arith}
-use mathlib.Core.Bool.{Bool, true, false, cond, not, _&&_}
+use mathlib.Core.Bool.{Bool, true, false, cond}
 use mathlib.Core.Option.{Option, none, some}
-use mathlib.Core.List.{List, [], _∷_, _++_}
+use mathlib.Core.List.{List, _∷_, _++_}
 use lib.ListN.{length, getD, take, drop, length-append}
 use lib.Seq.{slice}
 use Rattle.refusals.specs.Numbers.{tooDeep}
 use Rattle.localsplus.specs.Kind.{localBit, cellBit, freeBit}
-use Rattle.grammar.specs.Reading.{Answer, gives, stops}
+use Rattle.grammar.specs.Reading.{Answer}
 use Rattle.grammar.specs.Letters.{isTuple}
 use Rattle.grammar.specs.Fields.{contents}
-use Rattle.grammar.specs.State.{nodeAt, entryAt}
+use Rattle.grammar.specs.State.{entryAt}
 use Rattle.grammar.specs.Steps.{asNames}
-use Rattle.grammar.specs.Record.{Tables, chain, badString, nodeOf, suited, names, whole, look, holds, soundAt}
-use Rattle.writing.specs.Writing.{Writing, ended, refused, emit, then, each, into}
+use Rattle.grammar.specs.Record.{Tables, chain, badString, nodeOf, suited, names, whole, look, holds}
+use Rattle.writing.specs.Writing.{Writing, ended, emit, then, each, into}
 use Rattle.writing.specs.Canonical.{bytes32, codeString}
 use Rattle.writing.specs.Names.{contentsOf, inGroups}
 use Rattle.writing.specs.Steps.{levelled, stringPart, namesPart, someOf, kidsOf}
+use Rattle.grammar.proofs.Tests.{never, none-some, same-some}
+use Rattle.grammar.proofs.Passed.{whole-some, chain-length, first-string}
 use Rattle.writing.proofs.Into.{each-append, then-then}
 use Rattle.puts.specs.declared.Wrote.{Wrote}
 use Rattle.puts.specs.declared.Wrote.the-variants as wrote
-use Rattle.puts.specs.Puts.{Open, Agrees, Puts}
+use Rattle.puts.specs.Puts.{Puts}
 use Rattle.tables.specs.declared.Locals.{Locals}
 use Rattle.tables.specs.Looking.{isSome, stringAt, Held}
 use Rattle.tables.specs.Groups.{orNone, namesIn, kindsIn, localsIn, inGroup, groupFrom, groupIn, Listed}
-use Rattle.tables.proofs.Chains.{onto, headed, chain-none}
-use Rattle.tables.proofs.Codes.{whole-chain, look-plain}
+use Rattle.tables.proofs.Codes.{look-plain}
 use Rattle.tables.proofs.Groups.{Along, along-none, Next, along-next, along-on, along-end, groups-are}
 use Rattle.writer.specs.Onward.{Onward}
 use Rattle.writer.specs.Heads.{kidsFrom, Localed}
-use Rattle.writer.proofs.Under.{start, left-as, done, stopped, refused-in, written-in, last}
+use Rattle.writer.proofs.Under.{start, left-as, done, refused-in, written-in}
 
 -- A level.
 
@@ -59,26 +60,11 @@ string-put t a v {p} {m} h ep em k =
 abbrev pub Texts : Tables → List ℕ → Type 0
 Texts t vs = badString t vs ≡ none
 
-first-text : (t : Tables) (v : ℕ) (vs : List ℕ) → Texts t (v ∷ vs) → (stringAt (t .input) (t .nodes) (t .usedNodes) v ≡ true) × Texts t vs
-unfolding badString
-first-text t v vs e = go (stringAt (t .input) (t .nodes) (t .usedNodes) v) refl e
-  where
-    go : (b : Bool) → stringAt (t .input) (t .nodes) (t .usedNodes) v ≡ b → cond b (badString t vs) (some v) ≡ none
-        → (stringAt (t .input) (t .nodes) (t .usedNodes) v ≡ true) × Texts t vs
-    go true p e = (p, e)
-    go false p e = let z : _≡_ {A = ℕ} 0 1 = cc in absurd (omega arith)
-
 pub text-here : (t : Tables) (v : ℕ) (vs : List ℕ) → Texts t (v ∷ vs) → stringAt (t .input) (t .nodes) (t .usedNodes) v ≡ true
-text-here t v vs e = first-text t v vs e .0
+text-here t v vs e = first-string t v vs e .0
 
 pub texts-later : (t : Tables) (v : ℕ) (vs : List ℕ) → Texts t (v ∷ vs) → Texts t vs
-texts-later t v vs e = first-text t v vs e .1
-
-pub chain-length : (t : Tables) (k e : ℕ) (kids : List ℕ) → chain t k e ≡ some kids → length kids ≡ k
-chain-length t zero e kids h = ap length (chain-none t e kids h)
-chain-length t (suc k) e kids h =
-    let d = headed t k e kids h in
-    ap length (d .are) ∙ ap suc (chain-length t k (onto (t .entries) e) (d .rest) (d .more))
+texts-later t v vs e = first-string t v vs e .1
 
 -- What a part that must be a tuple of names is, by its count and its first entry.
 pub record Tuple (t : Tables) (v count first : ℕ) : Type 0 where
@@ -87,23 +73,20 @@ pub record Tuple (t : Tables) (v count first : ℕ) : Type 0 where
   pub are : kidsOf t v ≡ kidsFrom t count first
   pub long : length (kidsFrom t count first) ≡ count
 
-never : {X : Type 0} → _≡_ {A = Bool} false true → X
-never e = let apart : _≡_ {A = ℕ} 0 1 = cc in absurd (omega arith)
-
 tuple-of : (t : Tables) (v : ℕ) → suited t asNames v (whole t v) ≡ none → Tuple t v (nodeOf t v .count) (nodeOf t v .first)
 tuple-of t v h = go (whole t v) refl h
   where
     tupled : (b : Bool) (kids : List ℕ) → names t v b kids ≡ none → (b ≡ true) × Texts t kids
     tupled true kids e = (refl, e)
-    tupled false kids e = let z : _≡_ {A = ℕ} 0 1 = cc in absurd (omega arith)
+    tupled false kids e = none-some (sym e)
 
     letter-not : (l : ℕ) → isTuple l ≡ true → l ≡ 0x63 → ⊥
     letter-not l e f = let g : isTuple 0x63 ≡ true = sym (ap isTuple f) ∙ e in never g
 
     go : (o : Option (List ℕ)) → whole t v ≡ o → suited t asNames v o ≡ none → Tuple t v (nodeOf t v .count) (nodeOf t v .first)
-    go none q h = let z : _≡_ {A = ℕ} 0 1 = cc in absurd (omega arith)
+    go none q h = none-some (sym h)
     go (some kids) q h =
-        let w = whole-chain t v kids q in
+        let w = whole-some t v kids q in
         let b = tupled (isTuple (nodeOf t v .letter)) kids h in
         let held = look-plain t v kids q (letter-not (nodeOf t v .letter) (b .0)) in
         let e : kidsFrom t (nodeOf t v .count) (nodeOf t v .first) ≡ kids = ap orNone (w .1) in
@@ -115,10 +98,7 @@ tuple-of t v h = go (whole t v) refl h
         }
       where
         looks : (t : Tables) (v : ℕ) {kids : List ℕ} (k : Held t v) → chain t (nodeOf t v .count) (nodeOf t v .first) ≡ some kids → look t v ≡ holds kids
-        looks t v {kids} k e = k .holds-kids ∙ ap holds (is (sym (k .chained) ∙ e))
-          where
-            is : {x y : List ℕ} → some x ≡ some y → x ≡ y
-            is e = cc
+        looks t v {kids} k e = k .holds-kids ∙ ap holds (same-some (sym (k .chained) ∙ e))
 
 pub tuple-at : (t : Tables) (v : ℕ) {count first : ℕ} → suited t asNames v (whole t v) ≡ none → count ≡ nodeOf t v .count → first ≡ nodeOf t v .first
     → Tuple t v count first

@@ -1,37 +1,31 @@
 -- A node up to its children: levels, record, own bytes. Assumes nothing.
 use mathlib.Core.Path.{_≡_, refl, sym, ap, subst, _∙_}
-use Prim.Native.Nat.{ℕ, zero, suc, _+_, _-_, _≤_, _<_}
+use Prim.Native.Nat.{ℕ, zero, suc, _-_, _≤_, _<_}
 use native.Mathlib.Omega.{arith}
 use mathlib.Core.Bool.{Bool, true, false, cond, _&&_}
-use mathlib.Core.Option.{Option, none, some}
-use mathlib.Core.List.{List, [], _∷_}
-use lib.ListN.{length, take}
+use mathlib.Core.List.{List}
+use lib.ListN.{length}
 use lib.Dec.{ltb, eqb}
-use borrow.Author.Tests.{lt-ltb, le-ltb, eq-eqb, ltb-true}
+use borrow.Author.Tests.{lt-ltb, le-ltb, eq-eqb}
 use Rattle.refusals.specs.Numbers.{tooDeep, badTable}
-use Rattle.grammar.specs.Letters.{Class, codes, classOf}
-use Rattle.grammar.specs.Fields.{le32}
+use Rattle.grammar.specs.Letters.{codes, classOf}
 use Rattle.grammar.specs.State.{Node, nodeAt}
-use Rattle.grammar.specs.Record.{Tables, holds, faulty, look, chain, nodeOf, nodesIn, sound, soundAt, whole, lookedOf, Looked}
-use Rattle.writing.specs.Writing.{Writing, ended, refused, emit, then, each, into}
+use Rattle.grammar.specs.Record.{Tables, holds, faulty, look, chain, nodeOf, nodesIn, sound, soundAt}
+use Rattle.writing.specs.Writing.{Writing, refused, then, each}
 use Rattle.writing.specs.Shape.{classed, shapeOf}
 use Rattle.writing.specs.Steps.{shaped, looked, isCode, noParts, parted, writing}
-use Rattle.puts.specs.declared.Wrote.{Wrote}
 use Rattle.puts.specs.declared.Wrote.the-variants as wrote
-use Rattle.puts.specs.Puts.{Puts}
 use Rattle.tables.specs.Looking.{isSome, Held, Looks}
 use Rattle.tables.specs.Groups.{orNone}
-use Rattle.tables.proofs.Round.{both-left, both-right}
-use Rattle.tables.proofs.Codes.{only-code, whole-chain}
+use Rattle.grammar.proofs.Tests.{never}
+use Rattle.grammar.proofs.Passed.{sound-at, whole-some, chain-length, looked-held}
+use Rattle.tables.proofs.Codes.{only-code}
 use Rattle.writer.specs.declared.Opened.{Opened}
 use Rattle.writer.specs.declared.Opened.the-variants as opened
 use Rattle.writer.specs.Onward.{Onward}
-use Rattle.writer.specs.Heads.{Levels, outOfLevels, closed, kidsFrom, rowOfNode, lineOf, Coded, FrontAs, Fronts, HeadAs, Heads}
+use Rattle.writer.specs.Heads.{Levels, outOfLevels, closed, kidsFrom, rowOfNode, lineOf, FrontAs, Fronts, HeadAs, Heads}
 use Rattle.writer.proofs.Under.{start, left-as, stopped}
-use Rattle.writer.proofs.Naming.{puts-equal, chain-length}
-
-never : {X : Type 0} → _≡_ {A = Bool} false true → X
-never e = let apart : _≡_ {A = ℕ} 0 1 = cc in absurd (omega arith)
+use Rattle.writer.proofs.Naming.{puts-equal}
 
 -- Levels.
 
@@ -73,7 +67,7 @@ module _ (nodes : List ℕ) (used a n : ℕ) where
 
 -- A node by its levels and its record.
 
-abbrev partsBy : Tables → (allowance node : ℕ) → ℕ → List ℕ → Writing
+abbrev pub partsBy : Tables → (allowance node : ℕ) → ℕ → List ℕ → Writing
 partsBy t zero n = noParts n
 partsBy t (suc zero) n = noParts n
 partsBy t (suc (suc a)) n = parted t a (writing a t)
@@ -94,7 +88,7 @@ writing-looked t (suc (suc a)) n h =
     let z : suc a ≡ suc (suc a) - 1 = omega arith in
     ap (λ k. looked (writing k t) (parted t a (writing a t)) t n (look t n)) z
 
-writing-holds : (t : Tables) (a n : ℕ) → false ≡ outOfLevels t a n → (kids : List ℕ) → look t n ≡ holds kids
+pub writing-holds : (t : Tables) (a n : ℕ) → false ≡ outOfLevels t a n → (kids : List ℕ) → look t n ≡ holds kids
     → writing a t n ≡ shaped (writing (a - 1) t) (partsBy t a n) (classed (t .input) (nodeOf t n) kids (classOf (nodeOf t n .letter)))
 unfolding shapeOf
 writing-holds t a n h kids e = writing-looked t a n h ∙ ap (looked (writing (a - 1) t) (partsBy t a n) t n) e
@@ -119,25 +113,15 @@ two-levels t (suc (suc a)) n h c =
     let z : a ≡ suc (suc a) - 2 = omega arith in
     (omega arith, λ line kids. ap (λ k. parted t k (writing k t) line kids) z)
 
-held-sound : (t : Tables) (n : ℕ) (kids : List ℕ) → look t n ≡ holds kids → soundAt (t .input) (t .nodes) (t .usedNodes) n ≡ true
-unfolding look
-held-sound t n kids h = go (whole t n) refl h
-  where
-    go : (w : Option (List ℕ)) → whole t n ≡ w → lookedOf t n w ≡ holds kids → soundAt (t .input) (t .nodes) (t .usedNodes) n ≡ true
-    go none e q = let z : _≡_ {A = ℕ} 0 1 = cc in absurd (omega arith)
-    go (some vs) e q = whole-chain t n vs e .0
+held-sound : (t : Tables) (n : ℕ) → Held t n → soundAt (t .input) (t .nodes) (t .usedNodes) n ≡ true
+held-sound t n k = whole-some t n (k .kids) (looked-held t n (k .kids) (k .holds-kids) .linked) .0
 
 pub held-node : (t : Tables) (n : ℕ) → Held t n → sound (t .input) (nodeOf t n) ≡ true
-unfolding soundAt
-held-node t n k = both-right (ltb n (nodesIn (t .nodes) (t .usedNodes))) (sound (t .input) (nodeOf t n)) (held-sound t n (k .kids) (k .holds-kids))
-
-held-below : (t : Tables) (n : ℕ) → Held t n → ltb n (nodesIn (t .nodes) (t .usedNodes)) ≡ true
-unfolding soundAt
-held-below t n k = both-left (ltb n (nodesIn (t .nodes) (t .usedNodes))) (sound (t .input) (nodeOf t n)) (held-sound t n (k .kids) (k .holds-kids))
+held-node t n k = looked-held t n (k .kids) (k .holds-kids) .own
 
 held-code : (t : Tables) (n : ℕ) → Held t n → classOf (nodeOf t n .letter) ≡ codes → isCode t n ≡ true
 held-code t n k e =
-    ap (λ b. b && eqb (nodeOf t n .letter) 0x63) (held-below t n k) ∙ eq-eqb (nodeOf t n .letter) 0x63 (only-code (nodeOf t n .letter) e)
+    ap (λ b. b && eqb (nodeOf t n .letter) 0x63) (lt-ltb n (nodesIn (t .nodes) (t .usedNodes)) (sound-at t n (held-sound t n k) .0)) ∙ eq-eqb (nodeOf t n .letter) 0x63 (only-code (nodeOf t n .letter) e)
 
 pub row-held : (t : Tables) (n : ℕ) (k : Held t n) → rowOfNode t n ≡ k .kids
 row-held t n k = ap orNone (k .chained)

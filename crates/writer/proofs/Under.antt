@@ -1,26 +1,32 @@
 -- A writing under way: how it starts, goes on with each put, and ends. Every function that writes is carried by these. Assumes nothing.
 use mathlib.Core.Path.{_≡_, refl, sym, ap, subst, _∙_}
 use Prim.Native.Nat.{ℕ, suc, _+_, _-_, _≤_, _<_}
-use mathlib.Core.Bool.{Bool, true, false}
-use mathlib.Core.Option.{Option, none, some}
+use mathlib.Core.Bool.{true}
+use mathlib.Core.Option.{some}
 use native.Mathlib.Omega.{arith}
-use mathlib.Core.List.{List, [], _∷_}
+use mathlib.Core.List.{List, _∷_}
 use lib.ListN.{length, take, drop}
 use lib.Seq.{drop-drop}
-use Rattle.grammar.specs.Reading.{Answer, gives, stops}
+use Rattle.grammar.specs.Reading.{stops}
 use Rattle.grammar.specs.State.{entryAt}
 use Rattle.grammar.specs.Record.{Tables, chain}
-use Rattle.writing.specs.Writing.{Writing, ended, refused, emit, then, each, into}
+use Rattle.writing.specs.Writing.{Writing, ended, refused, then, each, into}
 use Rattle.writing.specs.Answer.{mostOutput}
 use Rattle.writing.proofs.Into.{then-ended, into-then, into-stops}
 use Rattle.puts.specs.declared.Wrote.{Wrote}
 use Rattle.puts.specs.declared.Wrote.the-variants as wrote
 use Rattle.puts.specs.Puts.{Open, Agrees, Puts}
 use Rattle.tables.specs.Looking.{isSome}
-use Rattle.tables.specs.Groups.{orNone}
+use Rattle.tables.proofs.Groups.{some-of}
 use Rattle.tables.proofs.Chains.{onto, headed, chain-none}
 use Rattle.writer.specs.Onward.{Onward}
 use Rattle.writer.specs.Heads.{kidsFrom}
+
+-- what is untouched from a place on is so from a later one
+pub later : (o o₀ : List ℕ) (p a : ℕ) → drop p o ≡ drop p o₀ → p ≤ a → drop a o ≡ drop a o₀
+later o o₀ p a e h =
+    let n : p + (a - p) ≡ a = omega arith in
+    sym (ap (λ m. drop m o) n) ∙ sym (drop-drop (a - p) p o) ∙ ap (drop (a - p)) e ∙ drop-drop (a - p) p o₀ ∙ ap (λ m. drop m o₀) n
 
 pub start : {o : List ℕ} {at : ℕ} {w : Writing} → at ≤ length o → Onward o at w o at w
 start h = record { same = refl; ahead = omega arith; inside = h; kept = refl; comes = refl }
@@ -60,14 +66,9 @@ module _ {o₀ : List ℕ} {at : ℕ} {w₀ : Writing} {o : List ℕ} {p : ℕ} 
           same = put .same ∙ k .same;
           ahead = omega (arith, k .ahead, e .1);
           inside = omega (arith, k .same, e .2);
-          kept = e .3 ∙ later (k .kept) (e .1);
+          kept = e .3 ∙ later o o₀ p a (k .kept) (e .1);
           comes = sym (into-then (length o₀) (take p o) u v (take a o′) (ap (λ n. into n (take p o) u) (sym (k .same)) ∙ e .0)) ∙ k .comes;
         }
-      where
-        later : drop p o ≡ drop p o₀ → p ≤ a → drop a o ≡ drop a o₀
-        later e h =
-            let n : p + (a - p) ≡ a = omega arith in
-            sym (ap (λ m. drop m o) n) ∙ sym (drop-drop (a - p) p o) ∙ ap (drop (a - p)) e ∙ drop-drop (a - p) p o₀ ∙ ap (λ m. drop m o₀) n
 
 -- the last put answers for all
 pub last : {o₀ : List ℕ} {at : ℕ} {w₀ : Writing} {o : List ℕ} {p : ℕ} {o′ : List ℕ} {u : Writing} {r : Wrote} → Onward o₀ at w₀ o p u → Puts u p o r o′ → Puts w₀ at o₀ r o′
@@ -85,37 +86,38 @@ pub record Rowing (t : Tables) (f : ℕ → Writing) (Fine : List ℕ → Type 0
   pub fine : Fine rest
   pub way : Onward o₀ at w₀ o p (each f rest)
 
-some-of : (c : Option (List ℕ)) → isSome c ≡ true → c ≡ some (orNone c)
-some-of none h = let z : _≡_ {A = ℕ} 0 1 = cc in absurd (omega arith)
-some-of (some vs) h = refl
+-- the child that comes next
+pub record Turn (t : Tables) (f : ℕ → Writing) (Fine : List ℕ → Type 0) (count : ℕ) (o₀ : List ℕ) (at : ℕ) (w₀ : Writing) (o : List ℕ) (i e p v : ℕ) : Type 0 where
+  pub rest : List ℕ
+  pub chained : chain t (count - (i + 1)) (onto (t .entries) e) ≡ some rest
+  pub fine : Fine (v ∷ rest)
+  pub way : Onward o₀ at w₀ o p (then (f v) (each f rest))
 
-module _ (t : Tables) (f : ℕ → Writing) (Fine : List ℕ → Type 0) (count first : ℕ) (o₀ : List ℕ) (at : ℕ) where
-  abbrev pub all : Writing
-  all = each f (kidsFrom t count first)
-
-  pub row-start : isSome (chain t count first) ≡ true → Fine (kidsFrom t count first) → at ≤ length o₀ → Rowing t f Fine count o₀ at all o₀ 0 first at
-  row-start h q l =
+module _ {t : Tables} {f : ℕ → Writing} {Fine : List ℕ → Type 0} {count : ℕ} {o₀ : List ℕ} {at : ℕ} {w₀ : Writing} where
+  pub row-start : {first : ℕ} → isSome (chain t count first) ≡ true → Fine (kidsFrom t count first) → w₀ ≡ each f (kidsFrom t count first) → at ≤ length o₀
+      → Rowing t f Fine count o₀ at w₀ o₀ 0 first at
+  row-start {first} h q is l =
       let z : count - 0 ≡ count = omega arith in
-      record { within = omega arith; rest = kidsFrom t count first; chained = ap (λ c. chain t c first) z ∙ some-of (chain t count first) h; fine = q; way = start l }
+      record {
+        within = omega arith;
+        rest = kidsFrom t count first;
+        chained = ap (λ c. chain t c first) z ∙ some-of (chain t count first) h;
+        fine = q;
+        way = left-as (start l) is;
+      }
 
-  -- the child that comes next
-  pub record Turn (o : List ℕ) (i e p v : ℕ) : Type 0 where
-    pub rest : List ℕ
-    pub chained : chain t (count - (i + 1)) (onto (t .entries) e) ≡ some rest
-    pub fine : Fine (v ∷ rest)
-    pub way : Onward o₀ at all o p (then (f v) (each f rest))
-
-  pub row-turn : {o : List ℕ} {i e p : ℕ} (v : ℕ) → Rowing t f Fine count o₀ at all o i e p → i < count → v ≡ entryAt (t .entries) e .child → Turn o i e p v
+  pub row-turn : {o : List ℕ} {i e p v : ℕ} → Rowing t f Fine count o₀ at w₀ o i e p → i < count → v ≡ entryAt (t .entries) e .child
+      → Turn t f Fine count o₀ at w₀ o i e p v
   unfolding each
-  row-turn {o} {i} {e} {p} v w l is =
+  row-turn {o} {i} {e} {p} {v} w l is =
       let n : count - i ≡ suc (count - (i + 1)) = omega arith in
       let d = headed t (count - (i + 1)) e (w .rest) (sym (ap (λ c. chain t c e) n) ∙ w .chained) in
       let are : w .rest ≡ v ∷ d .rest = d .are ∙ ap (λ x. x ∷ d .rest) (sym is) in
       record { rest = d .rest; chained = d .more; fine = subst Fine are (w .fine); way = left-as (w .way) (ap (each f) are) }
 
-  pub row-more : {o o′ : List ℕ} {i e e′ p v a : ℕ} {r : Wrote} (k : Turn o i e p v) → ((vs : List ℕ) → Fine (v ∷ vs) → Fine vs) → i < count → e′ ≡ entryAt (t .entries) e .next
-      → Puts (f v) p o r o′ → r ≡ wrote.Done a → Rowing t f Fine count o₀ at all o′ (i + 1) e′ a
-  row-more {o} {o′} {i} {e} {e′} {p} {v} {a} {r} k less l on put is =
+  pub row-more : {o o′ : List ℕ} {i e e′ p v a : ℕ} {r : Wrote} → Turn t f Fine count o₀ at w₀ o i e p v → ((vs : List ℕ) → Fine (v ∷ vs) → Fine vs) → i < count
+      → e′ ≡ entryAt (t .entries) e .next → Puts (f v) p o r o′ → r ≡ wrote.Done a → Rowing t f Fine count o₀ at w₀ o′ (i + 1) e′ a
+  row-more {i = i} k less l on put is =
       record {
         within = omega arith;
         rest = k .rest;
@@ -124,11 +126,11 @@ module _ (t : Tables) (f : ℕ → Writing) (Fine : List ℕ → Type 0) (count 
         way = written-in (k .way) put is;
       }
 
-  pub row-refused : {o o′ : List ℕ} {i e p v number place : ℕ} {r : Wrote} (k : Turn o i e p v) → Puts (f v) p o r o′ → r ≡ wrote.Refused number place
-      → Puts all at o₀ (wrote.Refused number place) o′
+  pub row-refused : {o o′ : List ℕ} {i e p v number place : ℕ} {r : Wrote} → Turn t f Fine count o₀ at w₀ o i e p v → Puts (f v) p o r o′ → r ≡ wrote.Refused number place
+      → Puts w₀ at o₀ (wrote.Refused number place) o′
   row-refused k put is = refused-in (each f (k .rest)) (k .way) put is
 
-  pub row-end : {o : List ℕ} {i e p : ℕ} → Rowing t f Fine count o₀ at all o i e p → count ≤ i → Puts all at o₀ (wrote.Done p) o
+  pub row-end : {o : List ℕ} {i e p : ℕ} → Rowing t f Fine count o₀ at w₀ o i e p → count ≤ i → Puts w₀ at o₀ (wrote.Done p) o
   unfolding each
   row-end {o} {i} {e} {p} w h =
       let z : count - i ≡ 0 = omega arith in

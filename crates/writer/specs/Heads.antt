@@ -1,4 +1,5 @@
--- What the parts of the writer answer: a leaf, the front of a node, and the parts of a code.
+-- What the parts of the writer answer: a leaf, the front of a node, and the parts of a code. 01, 'Writing it back': "Node by node in writing
+-- order", "its own bytes as they come".
 use mathlib.Core.Path.{_≡_}
 use Prim.Native.Nat.{ℕ, zero, suc, _+_, _-_, _≤_, _<_}
 use mathlib.Core.Bool.{Bool, true, false, cond}
@@ -30,7 +31,7 @@ use Rattle.writer.specs.declared.Opened.the-variants as opened
 abbrev pub kidsFrom : Tables → (count first : ℕ) → List ℕ
 kidsFrom t count first = orNone (chain t count first)
 
--- "Dict's closing byte", which comes where it stands
+-- a dict's closing byte, which comes where it stands
 abbrev pub closed : Writing
 closed = emit (0x30 ∷ []) ended
 
@@ -99,7 +100,7 @@ outOfLevels t zero n = true
 outOfLevels t (suc zero) n = isCode t n
 outOfLevels t (suc (suc a)) n = false
 
--- "Code's first line", which comes where it stands: before the ninth part
+-- a code's first line, which comes where it stands: before the ninth part
 abbrev pub lineAt : (i line : ℕ) → Writing → Writing
 lineAt i line w = cond (eqb i linePart) (emit (bytes32 (shownLine line)) w) w
 

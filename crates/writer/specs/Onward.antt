@@ -1,4 +1,4 @@
--- A writing under way: what is written so far, and what is left still comes to the same answer.
+-- A writing under way: what is written so far, and what is left still comes to the same answer. 01, 'Writing it back': "as they come".
 use mathlib.Core.Path.{_≡_}
 use Prim.Native.Nat.{ℕ, _≤_}
 use mathlib.Core.List.{List}

@@ -39,6 +39,11 @@ unfolding digitsFrom
 digits-next zero h = absurd (omega arith)
 digits-next (suc m) h = ap (λ l. suc m % 32768 ∷ l) (digits-bound m (suc m / 32768) (suc m / 32768) (omega arith) (omega arith))
 
+pub digit-bytes-length : (ds : List ℕ) → length (digitBytes ds) ≡ 2 * length ds
+unfolding digitBytes
+digit-bytes-length [] = refl
+digit-bytes-length (d ∷ ds) = omega (arith, digit-bytes-length ds)
+
 length-next : (m : ℕ) → 0 < m → length (digitsOf m) ≡ suc (length (digitsOf (m / 32768)))
 length-next m h = ap length (digits-next m h)
 

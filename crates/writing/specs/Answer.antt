@@ -1,5 +1,5 @@
--- The whole answer to the writing of a node, and the exact contents of the output, whether it is accepted or refused: a function of the
--- input, the stores, the counts used, the node, the nesting and the output's length.
+-- 01, 'Writing it back': the whole answer to the writing of a node, and the exact contents of the output, accepted or refused: a function of
+-- the input, the stores, the counts used, the node, the nesting and the output's length.
 use Prim.Native.Nat.{ℕ, min}
 use mathlib.Core.Bool.{cond}
 use mathlib.Core.List.{List, []}

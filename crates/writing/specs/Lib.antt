@@ -4,3 +4,4 @@ pub mod Shape
 pub mod Names
 pub mod Steps
 pub mod Answer
+pub mod Unread

@@ -17,7 +17,7 @@ pub record Reached (bytes : List ℕ) (at k : ℕ) (e : Expected) : Type 0 where
   pub inside : at + k ≤ length bytes
   pub same : allows (drop at bytes) point ≡ allows (drop (at + k) bytes) e
 
--- Table 3-7's bounds of the second byte, by a first byte from E0 to F4.
+-- The Unicode Standard's Table 3-7: bounds of the second byte, by a first byte from E0 to F4.
 abbrev pub lowAfter : ℕ → ℕ
 lowAfter lead = cond (eqb lead 0xE0) 0xA0 (cond (eqb lead 0xF0) 0x90 0x80)
 

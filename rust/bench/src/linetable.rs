@@ -1,8 +1,9 @@
 //! Line tables: linetable_to_locations, which makes a new slice of locations at each call, and the port's two functions,
-//! which fill stores lent to them.
-use crate::timing::{Way, side_by_side, timed};
+//! which fill stores lent to them. The port's caller keeps its stores from call to call, or allocates and frees them at each
+//! call: the result alone, as the Rust does, with the structs' store of numbers kept, or both stores.
+use crate::timing::{Way, side_by_side, timed_again};
 use carried::marshal::linetable_to_locations;
-use sillgarland_sys::{Located, Location, sill_locate, sill_locations};
+use sillgarland_sys::{Location, sill_locate, sill_locations};
 use std::hint::black_box;
 
 pub struct Table {
@@ -61,48 +62,59 @@ fn made(count: u32) -> Table {
 fn compare(title: &str, tables: &[Table]) {
     let instructions: usize = tables.iter().map(|table| table.count as usize).sum();
     let most = tables.iter().map(|table| table.count as usize).max().unwrap_or(0);
-    let mut records = vec![0; 4 * most];
-    let (mut flat, mut out) =
-        (records.clone(), vec![Location { line: 0, column: 0, end_line: 0, end_column: 0 }; most]);
+    let (mut kept, mut kept_flat, mut kept_out) = (store(4 * most), store(4 * most), store(most));
+    let mut scratch = store(4 * most);
     let rust = || {
         for table in tables {
             black_box(linetable_to_locations(black_box(&table.bytes), table.first_line, table.count as usize));
         }
     };
-    let port = || {
+    let numbers = || tables.iter().for_each(|table| locate(table, &mut kept));
+    let new_numbers = || tables.iter().for_each(|table| locate(table, &mut store(4 * table.count as usize)));
+    let structs = || tables.iter().for_each(|table| locations(table, &mut kept_flat, &mut kept_out));
+    let new_structs =
+        || tables.iter().for_each(|table| locations(table, &mut scratch, &mut store(table.count as usize)));
+    let all_new = || {
         for table in tables {
-            let room = &mut records[..4 * table.count as usize];
-            assert_eq!(locate(black_box(table), room).refusal, 0);
-            black_box(room);
-        }
-    };
-    let port_structs = || {
-        for table in tables {
-            let (flat, out) = (&mut flat[..4 * table.count as usize], &mut out[..table.count as usize]);
-            assert_eq!(locations(black_box(table), flat, out).refusal, 0);
-            black_box(out);
+            locations(table, &mut store(4 * table.count as usize), &mut store(table.count as usize));
         }
     };
     side_by_side(
         &format!("{title}, {instructions} instructions"),
         (instructions, "an instruction"),
         vec![
-            Way { name: "the Rust", work: timed(rust) },
-            Way { name: "the port, numbers", work: timed(port) },
-            Way { name: "the port, structs", work: timed(port_structs) },
+            Way { name: "the Rust", work: timed_again(rust) },
+            Way { name: "numbers, kept", work: timed_again(numbers) },
+            Way { name: "numbers, new", work: timed_again(new_numbers) },
+            Way { name: "structs, kept", work: timed_again(structs) },
+            Way { name: "structs, new result", work: timed_again(new_structs) },
+            Way { name: "structs, both new", work: timed_again(all_new) },
         ],
     );
 }
 
-fn locate(table: &Table, records: &mut [u32]) -> Located {
-    let (bytes, len) = (table.bytes.as_ptr(), table.bytes.len());
-    // SAFETY: table and store are lent for the lengths given.
-    unsafe { sill_locate(bytes, len, table.first_line, table.count, records.as_mut_ptr(), records.len()) }
+/// Room for so many elements, which nothing is written to yet.
+fn store<T>(len: usize) -> Vec<T> {
+    Vec::with_capacity(len)
 }
 
-fn locations(table: &Table, flat: &mut [u32], out: &mut [Location]) -> Located {
-    let (bytes, len) = (table.bytes.as_ptr(), table.bytes.len());
-    let (flat, flat_len) = (flat.as_mut_ptr(), flat.len());
-    // SAFETY: table and stores are lent for the lengths given.
-    unsafe { sill_locations(bytes, len, table.first_line, table.count, flat, flat_len, out.as_mut_ptr(), out.len()) }
+fn locate(table: &Table, records: &mut Vec<u32>) {
+    let table = black_box(table);
+    let (bytes, len, room) = (table.bytes.as_ptr(), table.bytes.len(), 4 * table.count as usize);
+    assert!(room <= records.capacity());
+    // SAFETY: table and store are lent for the lengths given, and the port writes all of the store.
+    let located = unsafe { sill_locate(bytes, len, table.first_line, table.count, records.as_mut_ptr(), room) };
+    assert_eq!(located.refusal, 0);
+    black_box(records);
+}
+
+fn locations(table: &Table, flat: &mut Vec<u32>, out: &mut Vec<Location>) {
+    let table = black_box(table);
+    let (bytes, len, room) = (table.bytes.as_ptr(), table.bytes.len(), table.count as usize);
+    assert!(4 * room <= flat.capacity() && room <= out.capacity());
+    let (flat_at, out_at) = (flat.as_mut_ptr(), out.as_mut_ptr());
+    // SAFETY: table and stores are lent for the lengths given, and the port writes all of the stores before it reads them.
+    let located = unsafe { sill_locations(bytes, len, table.first_line, table.count, flat_at, 4 * room, out_at, room) };
+    assert_eq!(located.refusal, 0);
+    black_box((flat, out));
 }

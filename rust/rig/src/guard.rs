@@ -22,6 +22,8 @@ pub fn hold() -> bool {
         ask::<linetable::LineTables>(&mut tally, "line tables, as numbers and as structs", tables);
         ask::<localsplus::LocalNames>(&mut tally, "splits", localsplus::carried_side::asks_to_list());
         ask::<Reads>(&mut tally, "values read, with their leaves", values::random_inputs(21, OF_EACH));
+        last_asked("a writing from a single record");
+        hostile::ask_single_records(&mut tally, "writings from one record of every letter, size and count");
         ask::<Writes>(&mut tally, "values written", write::carried_side::random_asks(22, OF_EACH));
         last_asked("a leaf or a node's line table of a damaged store");
         leaf::ask(&mut tally, |_| "leaves and line tables of damaged stores", 11, values::random_inputs(23, OF_EACH));

@@ -55,6 +55,30 @@ fn of_reading(ask: crate::read::Ask) -> Option<Case> {
     accepted.then_some(Case { input: ask.input, nodes, entries, used, root: 0, nesting: 0 })
 }
 
+pub fn ask_single_records(tally: &mut Tally, class: &'static str) {
+    single_records().for_each(|case| tally.count(class, case.answer(200).1));
+}
+
+/// One node of every letter, size and count over a few contents; should it have children, they are none.
+fn single_records() -> impl Iterator<Item = Case> {
+    let sizes = |letter: u32| (0..=24u32).map(move |size| (letter, size));
+    let records =
+        (0..=256).flat_map(sizes).flat_map(|(letter, size)| (0..=11u32).map(move |count| (letter, size, count)));
+    records.flat_map(|(letter, size, count)| {
+        let after = |number: u32, byte: u8| [&number.to_le_bytes()[..], &[byte; 24]].concat();
+        let digits = size.saturating_sub(4) / 2;
+        let (counted, long, negative) = (after(count, 0), after(digits, 1), after(digits.wrapping_neg(), 0x41));
+        [counted, long, negative, vec![0xC3; 28]].map(|input| Case {
+            input,
+            nodes: vec![letter, 0, size, 0, count, u32::from(b'N'), 0, 0, NOTHING, 0],
+            entries: (1..=12).flat_map(|next| [1, if next < 12 { next } else { NOTHING }]).collect(),
+            used: [2, 12],
+            root: 0,
+            nesting: 2000,
+        })
+    })
+}
+
 /// Records of letters and small numbers, links among few entries.
 fn of_nothing(random: &mut Random) -> Case {
     let [nodes, entries, bytes] = [8, 12, 30].map(|most| 1 + random.below(most));
@@ -162,24 +186,19 @@ type Held = (&'static str, Result<(), String>);
 
 /// One case, in an output of some size; of few bytes, in outputs of every size.
 fn answers(random: &mut Random, case: Case) -> Vec<Held> {
-    let Case { input, nodes, entries, used, root, nesting } = &case;
-    let store = Store { input, nodes, entries, used: *used };
-    let source = Source::new(&store);
+    let source = Source::new(&case.store());
     let room = random.one_of(&[4096, 4096, 600, 0]);
-    let len = model::write(&store, *root, *nesting, room).map_or(0, |bytes| bytes.len());
+    let len = model::write(&source.store(), case.root, case.nesting, room).map_or(0, |bytes| bytes.len());
     let every = len < 80 && random.below(8) == 0;
     let rooms = if every { (0..=len + 2).collect() } else { vec![room.max(random.below(len + 2))] };
-    let answer = |room: usize| {
-        let (class, held) = hold_one(&source, (*root, *nesting, room));
-        (class, held.map_err(|fault| format!("{}; {fault}", case.row(room))))
-    };
-    rooms.into_iter().map(answer).collect()
+    rooms.into_iter().map(|room| case.answer_from(&source, room)).collect()
 }
 
 fn hold_one(source: &Source, asked: (u32, u32, usize)) -> Held {
     let (root, nesting, room) = asked;
     let expected = model::write(&source.store(), root, nesting, room);
     let class = match expected {
+        Ok(_) if has_code(&source.store()) => "written alike, with code in the stores, and read and written again",
         Ok(_) => "written alike, and read and written again",
         Err(Refused { number: refusals::TOO_DEEP, .. }) => "refused 10",
         Err(Refused { number: refusals::BAD_TABLE, .. }) => "refused 16",
@@ -192,7 +211,24 @@ fn hold_one(source: &Source, asked: (u32, u32, usize)) -> Held {
     (class, held)
 }
 
+fn has_code(store: &Store) -> bool {
+    store.nodes.chunks(5).any(|node| node[0] == u32::from(b'c'))
+}
+
 impl Case {
+    fn store(&self) -> Store<'_> {
+        Store { input: &self.input, nodes: &self.nodes, entries: &self.entries, used: self.used }
+    }
+
+    fn answer(&self, room: usize) -> Held {
+        self.answer_from(&Source::new(&self.store()), room)
+    }
+
+    fn answer_from(&self, source: &Source, room: usize) -> Held {
+        let (class, held) = hold_one(source, (self.root, self.nesting, room));
+        (class, held.map_err(|fault| format!("{}; {fault}", self.row(room))))
+    }
+
     /// As a line of tests/vectors/write.txt.
     fn row(&self, capacity: usize) -> String {
         let Self { input, nodes, entries, used, root, nesting } = self;

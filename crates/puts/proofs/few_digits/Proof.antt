@@ -1,5 +1,5 @@
 -- One digit at a time. Assumes nothing.
-use Rattle.puts.proofs.Laws.{digits-0, digits-1, digits-2, digits-3}
+use Rattle.puts.proofs.Integers.{digits-0, digits-1, digits-2, digits-3}
 use native.Mathlib.Omega.{arith}
 use borrow.Author.Needs.{needs}
 use Rattle.puts.proofs.few_digits.Statement.{statement}

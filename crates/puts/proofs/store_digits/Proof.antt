@@ -1,5 +1,5 @@
 -- Carried by `Digiting`: the digits of what is left still come to the same output. Assumes nothing.
-use Rattle.puts.proofs.Laws.{Digiting, digiting-none, digiting-room, digiting-more, digiting-all}
+use Rattle.puts.proofs.Integers.{Digiting, digiting-none, digiting-room, digiting-more, digiting-all}
 use lib.ListN.{length-set}
 use native.Mathlib.Omega.{arith}
 use borrow.Author.Needs.{needs}

@@ -1,5 +1,5 @@
 -- Carried by the laws of room and of digits. Assumes nothing.
-use Rattle.puts.proofs.Laws.{digits-full, digits-placed}
+use Rattle.puts.proofs.Integers.{digits-full, digits-placed}
 use lib.ListN.{length-set}
 use native.Mathlib.Omega.{arith}
 use mathlib.Core.Path.{_∙_}

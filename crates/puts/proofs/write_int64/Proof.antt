@@ -1,5 +1,6 @@
 -- Carried by the laws of integers of 64 bits. Assumes nothing.
-use Rattle.puts.proofs.Laws.{puts-as, int64-low, int64-high, int64-positive, int64-negative}
+use Rattle.puts.proofs.Laws.{puts-as}
+use Rattle.puts.proofs.Integers.{int64-low, int64-high, int64-positive, int64-negative}
 use Rattle.grammar.specs.Fields.{le64}
 use Rattle.writing.specs.Canonical.{longBytes}
 use native.Mathlib.Omega.{arith}

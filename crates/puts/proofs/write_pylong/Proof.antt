@@ -1,6 +1,7 @@
 -- Carried by the laws of longs. Assumes nothing.
 use Rattle.writing.proofs.Digits.{long-within}
-use Rattle.puts.proofs.Laws.{puts-as, long-few, long-many, long-positive, long-great, long-negative, long-less, long-above}
+use Rattle.puts.proofs.Laws.{puts-as}
+use Rattle.puts.proofs.Integers.{long-few, long-many, long-positive, long-great, long-negative, long-less, long-above}
 use native.Mathlib.Omega.{arith}
 use borrow.Author.Needs.{needs}
 use Rattle.puts.proofs.write_pylong.Statement.{statement}

@@ -2,11 +2,13 @@
 -- measures: a value's is four times its allowance, a child's one more, and that of what a node holds two more. Assumes nothing.
 use lib.ListN.{length}
 use native.Mathlib.Omega.{arith}
-use mathlib.Core.Path.{refl}
-use Rattle.reader.proofs.Chains.{stands-safe}
-use Rattle.reader.proofs.Values.{head-in, inside-safe, inside-line, value-refused, value-known, value-cut, value-whole}
-use Rattle.reader.proofs.Children.{child-cut, child-unfit, child-linked, attach-asks}
-use Rattle.reader.proofs.Bodies.{InvBody, below-le, body-start, body-done, body-refused, body-stands, body-cut, body-next, body-less}
+use mathlib.Core.Path.{refl, _∙_}
+use Rattle.plain.proofs.Chains.{stands-safe}
+use Rattle.plain.proofs.Values.{head-in, inside-safe, inside-line, value-refused, value-known, value-cut, value-whole}
+use Rattle.plain.proofs.Children.{child-cut, child-unfit, child-linked, attach-asks}
+use Rattle.plain.specs.Turns.{InvBody}
+use Rattle.plain.proofs.Bodies.{below-le, body-start}
+use Rattle.plain.proofs.Running.{ran-done, ran-refused, ran-stands, ran-cut, ran-next, ran-less}
 use borrow.Author.Needs.{needs}
 use Prim.Native.Nat.{ℕ, _+_, _-_, _*_, _<_}
 use borrow.Fn.Kinds.{In}
@@ -23,7 +25,7 @@ use Rattle.reader.proofs.+child+typed+value.Lts-value as value-lts
 use Rattle.steps.proofs.attach.Reads as attach-reads
 use Rattle.steps.proofs.below.Reads as below-reads
 use Rattle.steps.proofs.front.Reads as front-reads
-use Rattle.steps.proofs.next_child.Reads as next-child-reads
+use Rattle.plain.proofs.run.Reads as run-reads
 use Rattle.steps.proofs.node_size.Reads as node-size-reads
 use Rattle.steps.proofs.suits.Reads as suits-reads
 use Rattle.stores.proofs.fill_slot.Reads as fill-slot-reads
@@ -64,7 +66,7 @@ abbrev child-calls : ℕ → child-lts.Claims
 child-calls t = (value-below t, value.Post, suits-reads.Asked, suits-reads.Learnt, attach-reads.Asked, attach-reads.Learnt)
 
 abbrev typed-calls : ℕ → typed-lts.Claims
-typed-calls t = (below-reads.Asked, below-reads.Learnt, next-child-reads.Asked, next-child-reads.Learnt, child-below t, child.Post)
+typed-calls t = (below-reads.Asked, below-reads.Learnt, run-reads.Asked, run-reads.Learnt, child-below t, child.Post)
 
 abbrev value-calls : ℕ → value-lts.Claims
 value-calls t = (front-reads.Asked, front-reads.Learnt, typed-below t, typed.Post, node-size-reads.Asked, node-size-reads.Learnt, write-node-reads.Asked, write-node-reads.Learnt, fill-slot-reads.Asked, fill-slot-reads.Learnt)
@@ -136,9 +138,9 @@ typed-below-requires t c κs =
 typed-loop-holds : (t : ℕ) → typed-lts.Need-loop-holds (typed-calls t) (typed-at t) typed.Post typed-Inv-loop typed-μ-loop
 typed-loop-holds t c = search (body-start, needs)
 
-typed-next-child-requires : (t : ℕ) → typed-lts.Need-next-child-requires (typed-calls t) (typed-at t) typed.Post typed-Inv-loop typed-μ-loop
-typed-next-child-requires t c κs =
-    (stands-safe (c .before .before .before .before .before .before .before .pre .1 .0) (c .before .loop .inv .stands) .at, c .before .before .before .before .before .before .before .pre .1 .0 .input, λ q. c .before .before .before .before .before .before .before .pre .1 .3 q .1)
+typed-run-requires : (t : ℕ) → typed-lts.Need-run-requires (typed-calls t) (typed-at t) typed.Post typed-Inv-loop typed-μ-loop
+typed-run-requires t c κs =
+    (stands-safe (c .before .before .before .before .before .before .before .before .before .pre .1 .0) (c .before .before .before .loop .inv .stands), c .before .before .before .loop .inv .stands .lineIn, λ q. c .before .before .before .before .before .before .before .before .before .pre .1 .3 q .1)
 
 typed-enum-known-n : (t : ℕ) → typed-lts.Need-enum-known-n (typed-calls t) (typed-at t) typed.Post typed-Inv-loop typed-μ-loop
 typed-enum-known-n t c = search needs
@@ -154,7 +156,7 @@ typed-same-length-3 t c = search needs
 
 typed-returns : (t : ℕ) → typed-lts.Need-returns (typed-calls t) (typed-at t) typed.Post typed-Inv-loop typed-μ-loop
 typed-returns t c =
-    body-refused (λ q. c .before .before .before .before .before .before .before .before .before .before .before .pre .1 .3 q .0) (c .before .before .before .before .before .loop .inv) (c .before .before .before .next-child .ensures) (c .before .n .given .1)
+    ran-refused (λ q. c .before .before .before .before .before .before .before .before .before .before .before .before .before .before .before .before .before .before .before .pre .1 .3 q .0) (c .before .before .before .before .before .before .before .before .before .before .before .before .before .before .below .ensures) (c .before .before .before .before .before .before .before .before .before .before .before .before .before .loop .inv) (c .before .before .before .before .before .before .before .before .before .run .ensures) (c .before .n .given .1)
 
 typed-enum-known-n-2 : (t : ℕ) → typed-lts.Need-enum-known-n-2 (typed-calls t) (typed-at t) typed.Post typed-Inv-loop typed-μ-loop
 typed-enum-known-n-2 t c = search needs
@@ -170,41 +172,44 @@ typed-same-length-6 t c = search needs
 
 typed-returns-2 : (t : ℕ) → typed-lts.Need-returns-2 (typed-calls t) (typed-at t) typed.Post typed-Inv-loop typed-μ-loop
 typed-returns-2 t c =
-    body-done (λ q. c .before .before .before .before .before .before .before .before .before .before .before .pre .1 .3 q .0) (c .before .before .before .before .before .loop .inv) (c .before .before .before .next-child .ensures) (c .before .n2 .given .1)
+    ran-done (λ q. c .before .before .before .before .before .before .before .before .before .before .before .before .before .before .before .before .before .before .before .pre .1 .3 q .0) (c .before .before .before .before .before .before .before .before .before .before .before .before .before .before .below .ensures) (c .before .before .before .before .before .before .before .before .before .before .before .before .before .loop .inv) (c .before .before .before .before .before .before .before .before .before .run .ensures) (c .before .n2 .given .1)
 
 typed-enum-known-n-3 : (t : ℕ) → typed-lts.Need-enum-known-n-3 (typed-calls t) (typed-at t) typed.Post typed-Inv-loop typed-μ-loop
 typed-enum-known-n-3 t c = search needs
 
 typed-child-requires : (t : ℕ) → typed-lts.Need-child-requires (typed-calls t) (typed-at t) typed.Post typed-Inv-loop typed-μ-loop
 typed-child-requires t c κs =
-    (omega (arith, c .before .before .before .before .before .before .before .before .before .before .before .before .before .before .pre .0, c .before .before .before .before .before .before .before .before .before .below .ensures, below-le (c .before .before .before .before .before .before .before .before .before .before .before .before .before .before .args .kids) (c .before .before .before .before .before .before .before .before .before .before .before .before .before .before .args .allowance)), (stands-safe (c .before .before .before .before .before .before .before .before .before .before .before .before .before .before .pre .1 .0) (body-stands (λ q. c .before .before .before .before .before .before .before .before .before .before .before .before .before .before .pre .1 .3 q .0) (c .before .before .before .before .before .before .before .before .loop .inv) (c .before .before .before .before .before .before .next-child .ensures) (c .before .before .before .before .n3 .given .1)), body-stands (λ q. c .before .before .before .before .before .before .before .before .before .before .before .before .before .before .pre .1 .3 q .0) (c .before .before .before .before .before .before .before .before .loop .inv) (c .before .before .before .before .before .before .next-child .ensures) (c .before .before .before .before .n3 .given .1) .lineIn))
+    (omega (arith, c .before .before .before .before .before .before .before .before .before .before .before .before .before .before .before .before .before .before .before .before .before .before .pre .0, c .before .before .before .before .before .before .before .before .before .before .before .before .before .before .before .before .before .below .ensures, below-le (c .before .before .before .before .before .before .before .before .before .before .before .before .before .before .before .before .before .before .before .before .before .before .args .kids) (c .before .before .before .before .before .before .before .before .before .before .before .before .before .before .before .before .before .before .before .before .before .before .args .allowance)), (stands-safe (c .before .before .before .before .before .before .before .before .before .before .before .before .before .before .before .before .before .before .before .before .before .before .pre .1 .0) (ran-stands (λ q. c .before .before .before .before .before .before .before .before .before .before .before .before .before .before .before .before .before .before .before .before .before .before .pre .1 .3 q .0) (c .before .before .before .before .before .before .before .before .before .before .before .before .before .before .before .before .before .below .ensures) (c .before .before .before .before .before .before .before .before .before .before .before .before .before .before .before .before .loop .inv) (c .before .before .before .before .before .before .before .before .before .before .before .before .run .ensures) (c .before .before .before .before .n3 .given .1)), ran-stands (λ q. c .before .before .before .before .before .before .before .before .before .before .before .before .before .before .before .before .before .before .before .before .before .before .pre .1 .3 q .0) (c .before .before .before .before .before .before .before .before .before .before .before .before .before .before .before .before .before .below .ensures) (c .before .before .before .before .before .before .before .before .before .before .before .before .before .before .before .before .loop .inv) (c .before .before .before .before .before .before .before .before .before .before .before .before .run .ensures) (c .before .before .before .before .n3 .given .1) .lineIn))
 
 typed-enum-known-r : (t : ℕ) → typed-lts.Need-enum-known-r (typed-calls t) (typed-at t) typed.Post typed-Inv-loop typed-μ-loop
 typed-enum-known-r t c = search needs
 
 typed-same-length-7 : (t : ℕ) → typed-lts.Need-same-length-7 (typed-calls t) (typed-at t) typed.Post typed-Inv-loop typed-μ-loop
-typed-same-length-7 t c = search needs
+typed-same-length-7 t c =
+    c .before .before .before .before .before .before .before .before .before .child .kept .1 .0 ∙ c .before .before .before .before .before .before .before .before .before .before .before .before .before .before .before .before .before .before .before .before .before .before .run .kept .1 .0 ∙ c .before .before .before .before .before .before .before .before .before .before .before .before .before .before .before .before .before .before .before .before .before .before .before .before .before .before .loop .inv .stands .nodeStore
 
 typed-same-length-8 : (t : ℕ) → typed-lts.Need-same-length-8 (typed-calls t) (typed-at t) typed.Post typed-Inv-loop typed-μ-loop
-typed-same-length-8 t c = search needs
+typed-same-length-8 t c =
+    c .before .before .before .before .before .before .before .before .before .child .kept .1 .1 .0 ∙ c .before .before .before .before .before .before .before .before .before .before .before .before .before .before .before .before .before .before .before .before .before .before .run .kept .1 .1 .0 ∙ c .before .before .before .before .before .before .before .before .before .before .before .before .before .before .before .before .before .before .before .before .before .before .before .before .before .before .loop .inv .stands .entryStore
 
 typed-same-length-9 : (t : ℕ) → typed-lts.Need-same-length-9 (typed-calls t) (typed-at t) typed.Post typed-Inv-loop typed-μ-loop
-typed-same-length-9 t c = search needs
+typed-same-length-9 t c =
+    c .before .before .before .before .before .before .before .before .before .child .kept .1 .1 .1 .0 ∙ c .before .before .before .before .before .before .before .before .before .before .before .before .before .before .before .before .before .before .before .before .before .before .run .kept .1 .1 .1 .0 ∙ c .before .before .before .before .before .before .before .before .before .before .before .before .before .before .before .before .before .before .before .before .before .before .before .before .before .before .loop .inv .stands .slotStore
 
 typed-returns-3 : (t : ℕ) → typed-lts.Need-returns-3 (typed-calls t) (typed-at t) typed.Post typed-Inv-loop typed-μ-loop
 typed-returns-3 t c =
-    body-cut (λ q. c .before .before .before .before .before .before .before .before .before .before .before .before .before .before .before .before .before .before .before .before .before .before .before .before .pre .1 .3 q .0) (c .before .before .before .before .before .before .before .before .before .before .before .before .before .before .before .before .before .before .loop .inv) (c .before .before .before .before .before .before .before .before .before .before .before .before .before .before .before .before .next-child .ensures) (c .before .before .before .before .before .before .before .before .before .before .before .before .before .before .n3 .given .1) (c .before .before .before .before .before .before .before .before .before .before .before .before .before .before .before .before .before .before .before .below .ensures) (c .before .before .before .before .before .before .before .before .before .child .ensures) (c .before .r .given .1)
+    ran-cut (λ q. c .before .before .before .before .before .before .before .before .before .before .before .before .before .before .before .before .before .before .before .before .before .before .before .before .before .before .before .before .before .before .before .before .pre .1 .3 q .0) (c .before .before .before .before .before .before .before .before .before .before .before .before .before .before .before .before .before .before .before .before .before .before .before .before .before .before .before .below .ensures) (c .before .before .before .before .before .before .before .before .before .before .before .before .before .before .before .before .before .before .before .before .before .before .before .before .before .before .loop .inv) (c .before .before .before .before .before .before .before .before .before .before .before .before .before .before .before .before .before .before .before .before .before .before .run .ensures) (c .before .before .before .before .before .before .before .before .before .before .before .before .before .before .n3 .given .1) (c .before .before .before .before .before .before .before .before .before .child .ensures) (c .before .r .given .1)
 
 typed-enum-known-r-2 : (t : ℕ) → typed-lts.Need-enum-known-r-2 (typed-calls t) (typed-at t) typed.Post typed-Inv-loop typed-μ-loop
 typed-enum-known-r-2 t c = search needs
 
 typed-loop-less : (t : ℕ) → typed-lts.Need-loop-less (typed-calls t) (typed-at t) typed.Post typed-Inv-loop typed-μ-loop
 typed-loop-less t c =
-    body-less (λ q. c .before .before .before .before .before .before .before .before .before .before .before .before .before .before .before .before .before .before .before .before .before .before .before .before .pre .1 .3 q .0) (c .before .before .before .before .before .before .before .before .before .before .before .before .before .before .before .before .before .before .loop .inv) (c .before .before .before .before .before .before .before .before .before .before .before .before .before .before .before .before .next-child .ensures) (c .before .before .before .before .before .before .before .before .before .before .before .before .before .before .n3 .given .1) (c .before .before .before .before .before .before .before .before .before .before .before .before .before .before .before .before .before .before .before .below .ensures) (c .before .before .before .before .before .before .before .before .before .child .ensures) (c .before .r2 .given .1)
+    ran-less (λ q. c .before .before .before .before .before .before .before .before .before .before .before .before .before .before .before .before .before .before .before .before .before .before .before .before .before .before .before .before .before .before .before .before .pre .1 .3 q .0) (c .before .before .before .before .before .before .before .before .before .before .before .before .before .before .before .before .before .before .before .before .before .before .before .before .before .before .before .below .ensures) (c .before .before .before .before .before .before .before .before .before .before .before .before .before .before .before .before .before .before .before .before .before .before .before .before .before .before .loop .inv) (c .before .before .before .before .before .before .before .before .before .before .before .before .before .before .before .before .before .before .before .before .before .before .run .ensures) (c .before .before .before .before .before .before .before .before .before .before .before .before .before .before .n3 .given .1) (c .before .before .before .before .before .before .before .before .before .child .ensures) (c .before .r2 .given .1)
 
 typed-loop-again : (t : ℕ) → typed-lts.Need-loop-again (typed-calls t) (typed-at t) typed.Post typed-Inv-loop typed-μ-loop
 typed-loop-again t c =
-    body-next (λ q. c .before .before .before .before .before .before .before .before .before .before .before .before .before .before .before .before .before .before .before .before .before .before .before .before .pre .1 .3 q .0) (c .before .before .before .before .before .before .before .before .before .before .before .before .before .before .before .before .before .before .loop .inv) (c .before .before .before .before .before .before .before .before .before .before .before .before .before .before .before .before .next-child .ensures) (c .before .before .before .before .before .before .before .before .before .before .before .before .before .before .n3 .given .1) (c .before .before .before .before .before .before .before .before .before .before .before .before .before .before .before .before .before .before .before .below .ensures) (c .before .before .before .before .before .before .before .before .before .child .ensures) (c .before .r2 .given .1) (c .before .before .before .before .before .before .before .before .before .child .kept .1 .0) (c .before .before .before .before .before .before .before .before .before .child .kept .1 .1 .0) (c .before .before .before .before .before .before .before .before .before .child .kept .1 .1 .1 .0)
+    ran-next (λ q. c .before .before .before .before .before .before .before .before .before .before .before .before .before .before .before .before .before .before .before .before .before .before .before .before .before .before .before .before .before .before .before .before .pre .1 .3 q .0) (c .before .before .before .before .before .before .before .before .before .before .before .before .before .before .before .before .before .before .before .before .before .before .before .before .before .before .before .below .ensures) (c .before .before .before .before .before .before .before .before .before .before .before .before .before .before .before .before .before .before .before .before .before .before .before .before .before .before .loop .inv) (c .before .before .before .before .before .before .before .before .before .before .before .before .before .before .before .before .before .before .before .before .before .before .run .ensures) (c .before .before .before .before .before .before .before .before .before .before .before .before .before .before .n3 .given .1) (c .before .before .before .before .before .before .before .before .before .child .ensures) (c .before .r2 .given .1) (c .before .before .before .before .before .before .before .before .before .child .kept .1 .0) (c .before .before .before .before .before .before .before .before .before .child .kept .1 .1 .0) (c .before .before .before .before .before .before .before .before .before .child .kept .1 .1 .1 .0)
 
 value-front-requires : (t : ℕ) → value-lts.Need-front-requires (value-calls t) (value-at t) value.Post
 value-front-requires t c κs = search needs
@@ -320,7 +325,7 @@ pub +child+typed+value-spec : {M : Type 1} → statement M
     typed-μ-loop
     (typed-below-requires t)
     (typed-loop-holds t)
-    (typed-next-child-requires t)
+    (typed-run-requires t)
     (typed-enum-known-n t)
     (typed-same-length t)
     (typed-same-length-2 t)

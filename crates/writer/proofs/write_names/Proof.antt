@@ -6,26 +6,31 @@ use Rattle.tables.specs.Looking.{lent}
 use Rattle.writing.specs.Steps.{stringPart}
 use Rattle.writing.specs.Writing.{each}
 use native.Mathlib.Omega.{arith}
-use mathlib.Core.Path.{_∙_}
+use mathlib.Core.Path.{refl, _∙_}
 use Prim.Native.Nat.{_-_}
 use borrow.Author.Needs.{needs}
 use Rattle.writer.proofs.write_names.Statement.{statement}
 use Rattle.writer.proofs.write_names.Tie as tie
 
 abbrev Inv-loop : tie.InvT-loop
-Inv-loop s nodes entries out₀ used allowance first count at e₀ i₀ p₀ out e i p = let t = lent s nodes entries used in Rowing t (stringPart t allowance) (Texts t) count out₀ at (each (stringPart t allowance) (kidsFrom t count first)) out i e p
+Inv-loop s nodes entries out₀ used allowance first count at e₀ i₀ p₀ out e i p =
+    let t = lent s nodes entries used in
+    Rowing t (stringPart t allowance) (Texts t) count out₀ at (each (stringPart t allowance) (kidsFrom t count first)) out i e p
 
 abbrev μ-loop : tie.MeasureT-loop
 μ-loop s nodes entries out₀ used allowance first count at e₀ i₀ p₀ out e i p = count - i
 
 loop-holds : tie.Need-loop-holds Inv-loop μ-loop
-loop-holds c = row-start (lent (c .before .before .before .before .args .s .now) (c .before .before .before .before .args .nodes .now) (c .before .before .before .before .args .entries .now) (c .before .before .before .before .args .used)) (stringPart (lent (c .before .before .before .before .args .s .now) (c .before .before .before .before .args .nodes .now) (c .before .before .before .before .args .entries .now) (c .before .before .before .before .args .used)) (c .before .before .before .before .args .allowance)) (Texts (lent (c .before .before .before .before .args .s .now) (c .before .before .before .before .args .nodes .now) (c .before .before .before .before .args .entries .now) (c .before .before .before .before .args .used))) (c .before .before .before .before .args .count) (c .before .before .before .before .args .first) (c .before .before .before .before .args .out .now) (c .before .before .before .before .args .at) (c .before .before .before .before .pre .1) (c .before .before .before .before .pre .2) (c .before .before .before .before .pre .0 .inside)
+loop-holds c = row-start (c .before .before .before .before .pre .1) (c .before .before .before .before .pre .2) refl (c .before .before .before .before .pre .0 .inside)
 
 child-requires : tie.Need-child-requires Inv-loop μ-loop
 child-requires c κs = search needs
 
 write-string-requires : tie.Need-write-string-requires Inv-loop μ-loop
-write-string-requires c κs = (opens (c .before .before .before .loop .inv .way) (c .before .before .before .before .before .before .before .before .pre .0 .counts), text-here (lent (c .before .before .before .before .before .before .before .before .args .s .now) (c .before .before .before .before .before .before .before .before .args .nodes .now) (c .before .before .before .before .before .before .before .before .args .entries .now) (c .before .before .before .before .before .before .before .before .args .used)) _ _ ((row-turn (lent (c .before .before .before .before .before .before .before .before .args .s .now) (c .before .before .before .before .before .before .before .before .args .nodes .now) (c .before .before .before .before .before .before .before .before .args .entries .now) (c .before .before .before .before .before .before .before .before .args .used)) (stringPart (lent (c .before .before .before .before .before .before .before .before .args .s .now) (c .before .before .before .before .before .before .before .before .args .nodes .now) (c .before .before .before .before .before .before .before .before .args .entries .now) (c .before .before .before .before .before .before .before .before .args .used)) (c .before .before .before .before .before .before .before .before .args .allowance)) (Texts (lent (c .before .before .before .before .before .before .before .before .args .s .now) (c .before .before .before .before .before .before .before .before .args .nodes .now) (c .before .before .before .before .before .before .before .before .args .entries .now) (c .before .before .before .before .before .before .before .before .args .used))) (c .before .before .before .before .before .before .before .before .args .count) (c .before .before .before .before .before .before .before .before .args .first) (c .before .before .before .before .before .before .before .before .args .out .now) (c .before .before .before .before .before .before .before .before .args .at) (c .before .child .result) (c .before .before .before .loop .inv) (c .before .before .loop-test .taken) (c .before .child .ensures)) .fine))
+write-string-requires c κs =
+    let a = c .before .before .before .before .before .before .before .before .args in
+    let t = lent (a .s .now) (a .nodes .now) (a .entries .now) (a .used) in
+    (opens (c .before .before .before .loop .inv .way) (c .before .before .before .before .before .before .before .before .pre .0 .counts), text-here t _ _ (row-turn (c .before .before .before .loop .inv) (c .before .before .loop-test .taken) (c .before .child .ensures) .fine))
 
 enum-known-number : tie.Need-enum-known-number Inv-loop μ-loop
 enum-known-number c = search needs
@@ -34,7 +39,7 @@ same-length : tie.Need-same-length Inv-loop μ-loop
 same-length c = c .before .before .before .before .before .write-string .kept .1 .1 .1 .0 ∙ c .before .before .before .before .before .before .before .before .before .loop .inv .way .same
 
 returns : tie.Need-returns Inv-loop μ-loop
-returns c = row-refused (lent (c .before .before .before .before .before .before .before .before .before .before .before .before .before .before .args .s .now) (c .before .before .before .before .before .before .before .before .before .before .before .before .before .before .args .nodes .now) (c .before .before .before .before .before .before .before .before .before .before .before .before .before .before .args .entries .now) (c .before .before .before .before .before .before .before .before .before .before .before .before .before .before .args .used)) (stringPart (lent (c .before .before .before .before .before .before .before .before .before .before .before .before .before .before .args .s .now) (c .before .before .before .before .before .before .before .before .before .before .before .before .before .before .args .nodes .now) (c .before .before .before .before .before .before .before .before .before .before .before .before .before .before .args .entries .now) (c .before .before .before .before .before .before .before .before .before .before .before .before .before .before .args .used)) (c .before .before .before .before .before .before .before .before .before .before .before .before .before .before .args .allowance)) (Texts (lent (c .before .before .before .before .before .before .before .before .before .before .before .before .before .before .args .s .now) (c .before .before .before .before .before .before .before .before .before .before .before .before .before .before .args .nodes .now) (c .before .before .before .before .before .before .before .before .before .before .before .before .before .before .args .entries .now) (c .before .before .before .before .before .before .before .before .before .before .before .before .before .before .args .used))) (c .before .before .before .before .before .before .before .before .before .before .before .before .before .before .args .count) (c .before .before .before .before .before .before .before .before .before .before .before .before .before .before .args .first) (c .before .before .before .before .before .before .before .before .before .before .before .before .before .before .args .out .now) (c .before .before .before .before .before .before .before .before .before .before .before .before .before .before .args .at) (row-turn (lent (c .before .before .before .before .before .before .before .before .before .before .before .before .before .before .args .s .now) (c .before .before .before .before .before .before .before .before .before .before .before .before .before .before .args .nodes .now) (c .before .before .before .before .before .before .before .before .before .before .before .before .before .before .args .entries .now) (c .before .before .before .before .before .before .before .before .before .before .before .before .before .before .args .used)) (stringPart (lent (c .before .before .before .before .before .before .before .before .before .before .before .before .before .before .args .s .now) (c .before .before .before .before .before .before .before .before .before .before .before .before .before .before .args .nodes .now) (c .before .before .before .before .before .before .before .before .before .before .before .before .before .before .args .entries .now) (c .before .before .before .before .before .before .before .before .before .before .before .before .before .before .args .used)) (c .before .before .before .before .before .before .before .before .before .before .before .before .before .before .args .allowance)) (Texts (lent (c .before .before .before .before .before .before .before .before .before .before .before .before .before .before .args .s .now) (c .before .before .before .before .before .before .before .before .before .before .before .before .before .before .args .nodes .now) (c .before .before .before .before .before .before .before .before .before .before .before .before .before .before .args .entries .now) (c .before .before .before .before .before .before .before .before .before .before .before .before .before .before .args .used))) (c .before .before .before .before .before .before .before .before .before .before .before .before .before .before .args .count) (c .before .before .before .before .before .before .before .before .before .before .before .before .before .before .args .first) (c .before .before .before .before .before .before .before .before .before .before .before .before .before .before .args .out .now) (c .before .before .before .before .before .before .before .before .before .before .before .before .before .before .args .at) (c .before .before .before .before .before .before .before .child .result) (c .before .before .before .before .before .before .before .before .before .loop .inv) (c .before .before .before .before .before .before .before .before .loop-test .taken) (c .before .before .before .before .before .before .before .child .ensures)) (c .before .before .before .before .before .write-string .ensures) (c .before .number .given .1)
+returns c = row-refused (row-turn (c .before .before .before .before .before .before .before .before .before .loop .inv) (c .before .before .before .before .before .before .before .before .loop-test .taken) (c .before .before .before .before .before .before .before .child .ensures)) (c .before .before .before .before .before .write-string .ensures) (c .before .number .given .1)
 
 enum-known-a : tie.Need-enum-known-a Inv-loop μ-loop
 enum-known-a c = search needs
@@ -49,13 +54,17 @@ loop-less : tie.Need-loop-less Inv-loop μ-loop
 loop-less c = search needs
 
 loop-again : tie.Need-loop-again Inv-loop μ-loop
-loop-again c = row-more (lent (c .before .before .before .before .before .before .before .before .before .before .before .before .before .before .before .args .s .now) (c .before .before .before .before .before .before .before .before .before .before .before .before .before .before .before .args .nodes .now) (c .before .before .before .before .before .before .before .before .before .before .before .before .before .before .before .args .entries .now) (c .before .before .before .before .before .before .before .before .before .before .before .before .before .before .before .args .used)) (stringPart (lent (c .before .before .before .before .before .before .before .before .before .before .before .before .before .before .before .args .s .now) (c .before .before .before .before .before .before .before .before .before .before .before .before .before .before .before .args .nodes .now) (c .before .before .before .before .before .before .before .before .before .before .before .before .before .before .before .args .entries .now) (c .before .before .before .before .before .before .before .before .before .before .before .before .before .before .before .args .used)) (c .before .before .before .before .before .before .before .before .before .before .before .before .before .before .before .args .allowance)) (Texts (lent (c .before .before .before .before .before .before .before .before .before .before .before .before .before .before .before .args .s .now) (c .before .before .before .before .before .before .before .before .before .before .before .before .before .before .before .args .nodes .now) (c .before .before .before .before .before .before .before .before .before .before .before .before .before .before .before .args .entries .now) (c .before .before .before .before .before .before .before .before .before .before .before .before .before .before .before .args .used))) (c .before .before .before .before .before .before .before .before .before .before .before .before .before .before .before .args .count) (c .before .before .before .before .before .before .before .before .before .before .before .before .before .before .before .args .first) (c .before .before .before .before .before .before .before .before .before .before .before .before .before .before .before .args .out .now) (c .before .before .before .before .before .before .before .before .before .before .before .before .before .before .before .args .at) (row-turn (lent (c .before .before .before .before .before .before .before .before .before .before .before .before .before .before .before .args .s .now) (c .before .before .before .before .before .before .before .before .before .before .before .before .before .before .before .args .nodes .now) (c .before .before .before .before .before .before .before .before .before .before .before .before .before .before .before .args .entries .now) (c .before .before .before .before .before .before .before .before .before .before .before .before .before .before .before .args .used)) (stringPart (lent (c .before .before .before .before .before .before .before .before .before .before .before .before .before .before .before .args .s .now) (c .before .before .before .before .before .before .before .before .before .before .before .before .before .before .before .args .nodes .now) (c .before .before .before .before .before .before .before .before .before .before .before .before .before .before .before .args .entries .now) (c .before .before .before .before .before .before .before .before .before .before .before .before .before .before .before .args .used)) (c .before .before .before .before .before .before .before .before .before .before .before .before .before .before .before .args .allowance)) (Texts (lent (c .before .before .before .before .before .before .before .before .before .before .before .before .before .before .before .args .s .now) (c .before .before .before .before .before .before .before .before .before .before .before .before .before .before .before .args .nodes .now) (c .before .before .before .before .before .before .before .before .before .before .before .before .before .before .before .args .entries .now) (c .before .before .before .before .before .before .before .before .before .before .before .before .before .before .before .args .used))) (c .before .before .before .before .before .before .before .before .before .before .before .before .before .before .before .args .count) (c .before .before .before .before .before .before .before .before .before .before .before .before .before .before .before .args .first) (c .before .before .before .before .before .before .before .before .before .before .before .before .before .before .before .args .out .now) (c .before .before .before .before .before .before .before .before .before .before .before .before .before .before .before .args .at) (c .before .before .before .before .before .before .before .before .child .result) (c .before .before .before .before .before .before .before .before .before .before .loop .inv) (c .before .before .before .before .before .before .before .before .before .loop-test .taken) (c .before .before .before .before .before .before .before .before .child .ensures)) (texts-later (lent (c .before .before .before .before .before .before .before .before .before .before .before .before .before .before .before .args .s .now) (c .before .before .before .before .before .before .before .before .before .before .before .before .before .before .before .args .nodes .now) (c .before .before .before .before .before .before .before .before .before .before .before .before .before .before .before .args .entries .now) (c .before .before .before .before .before .before .before .before .before .before .before .before .before .before .before .args .used)) (c .before .before .before .before .before .before .before .before .child .result)) (c .before .before .before .before .before .before .before .before .before .loop-test .taken) (c .next .ensures) (c .before .before .before .before .before .before .write-string .ensures) (c .before .before .a .given .1)
+loop-again c =
+    let a = c .before .before .before .before .before .before .before .before .before .before .before .before .before .before .before .args in
+    let t = lent (a .s .now) (a .nodes .now) (a .entries .now) (a .used) in
+    row-more {w₀ = each (stringPart t (a .allowance)) (kidsFrom t (a .count) (a .first))} (row-turn (c .before .before .before .before .before .before .before .before .before .before .loop .inv) (c .before .before .before .before .before .before .before .before .before .loop-test .taken) (c .before .before .before .before .before .before .before .before .child .ensures)) (texts-later t (c .before .before .before .before .before .before .before .before .child .result)) (c .before .before .before .before .before .before .before .before .before .loop-test .taken) (c .next .ensures)
+    (c .before .before .before .before .before .before .write-string .ensures) (c .before .before .a .given .1)
 
 same-length-2 : tie.Need-same-length-2 Inv-loop μ-loop
 same-length-2 c = c .before .loop .inv .way .same
 
 returns-2 : tie.Need-returns-2 Inv-loop μ-loop
-returns-2 c = row-end (lent (c .before .before .before .before .before .before .args .s .now) (c .before .before .before .before .before .before .args .nodes .now) (c .before .before .before .before .before .before .args .entries .now) (c .before .before .before .before .before .before .args .used)) (stringPart (lent (c .before .before .before .before .before .before .args .s .now) (c .before .before .before .before .before .before .args .nodes .now) (c .before .before .before .before .before .before .args .entries .now) (c .before .before .before .before .before .before .args .used)) (c .before .before .before .before .before .before .args .allowance)) (Texts (lent (c .before .before .before .before .before .before .args .s .now) (c .before .before .before .before .before .before .args .nodes .now) (c .before .before .before .before .before .before .args .entries .now) (c .before .before .before .before .before .before .args .used))) (c .before .before .before .before .before .before .args .count) (c .before .before .before .before .before .before .args .first) (c .before .before .before .before .before .before .args .out .now) (c .before .before .before .before .before .before .args .at) (c .before .loop .inv) (omega arith)
+returns-2 c = row-end (c .before .loop .inv) (omega arith)
 
 pub write-names-spec : {M : Type 1} → statement M
 write-names-spec =

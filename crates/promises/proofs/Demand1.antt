@@ -1,0 +1,208 @@
+-- DEMAND 1: no export asks anything; each call returns; and it ends in its answer, or in a refusal of 01's table with every store lent for
+-- writing all zero. By cases of the definition that each contract cites, with Numbers. Of `sill_read` it assumes that the input is bytes.
+use mathlib.Core.Path.{_≡_, refl, ap, _∙_}
+use Prim.Native.Nat.{ℕ, _/_, min}
+use mathlib.Core.Bool.{Bool}
+use mathlib.Core.List.{List}
+use lib.ListN.{length, replicate}
+use mir.Syntax.{w32}
+use mir.Val.{ofZ}
+use base.Logic.{emp, id⊢}
+use contract.Monad.{fact-mono}
+use denote.Ref.{now}
+use Rattle.grammar.specs.Reading.{Answer, gives, stops}
+use Rattle.grammar.specs.State.{State}
+use Rattle.grammar.specs.Answer.{outcomeOf, reading, readOf}
+use Rattle.grammar.specs.Leaf.{Leaf, leafOf}
+use Rattle.grammar.proofs.Bounded.{Bytes}
+use Rattle.leaf.specs.Answers.{toldOf, answeredOf}
+use Rattle.leaf.specs.declared.Answered.the-variants as leaf
+use Rattle.lineentry.specs.declared.Location.{Location}
+use Rattle.linetable.specs.Walk as table
+use Rattle.linetable.specs.Answer.{located, firstLine, answer, recordsOf, locationsOf, blank}
+use Rattle.locate.specs.Part.{locatedAt}
+use Rattle.localsplus.specs.declared.Split.{Split}
+use Rattle.localsplus.specs.declared.Split.the-variants as split
+use Rattle.localsplus.specs.Kind.{localBit, cellBit, freeBit}
+use Rattle.localsplus.specs.Lists.{positions, derefMap, cellToArgument}
+use Rattle.localsplus.specs.Sum.{argumentSum}
+use Rattle.localsplus.specs.Answer.{roomsOf, splitOf, stored as storedOf}
+use Rattle.varint.specs.declared.Written.{Written}
+use Rattle.varint.specs.declared.Written.the-variants as varint
+use Rattle.varint.specs.Writing.{littleEndian, bigEndian, bigEndianWithStart}
+use Rattle.varint.specs.Answers.{stored, storedSigned}
+use Rattle.puts.specs.declared.Wrote.the-variants as wrote
+use Rattle.sillgarland.specs.Leaves.{leafStruct}
+use Rattle.sillgarland.specs.Locals.{splitStruct}
+use Rattle.sillgarland.specs.Locations.{locatedStruct}
+use Rattle.sillgarland.specs.Values.{readStruct, ReadAs, wroteStruct, WroteAs}
+use Rattle.sillgarland.specs.Varints.{writtenAs}
+use Rattle.sillgarland.specs.declared.leaves.SillLeaf.{SillLeaf}
+use Rattle.sillgarland.specs.declared.locals.SillSplit.{SillSplit}
+use Rattle.sillgarland.specs.declared.locations.SillLocated.{SillLocated}
+use Rattle.sillgarland.specs.declared.values.SillRead.{SillRead}
+use Rattle.sillgarland.specs.declared.varints.SillWritten.{SillWritten}
+use Rattle.sillgarland.proofs as sillgarland
+use Rattle.promises.specs.Calls.{sillWrite}
+use Rattle.promises.specs.Demand1.{Ends, answers, refuses, Zero, LocateEnds, VarintEnds, Demand1}
+use Rattle.promises.proofs.Reading.{writtenBy}
+use Rattle.promises.proofs.Numbers.{Tabled, reading-in-table, leaf-in-table, TabledLines, located-in-table, located-at-in-table, TabledSplit, split-in-table, TabledStore, stored-in-table, signed-in-table, written-in-table}
+
+-- Each kind of definition: what its contract says of an outcome gives the end.
+read-ends : (s : List ℕ) → Bytes s → (nodes entries slots : List ℕ) (nesting : ℕ) (r : SillRead) (ns es ss : List ℕ)
+    → ReadAs (readOf s (length nodes) (length entries) (length slots) nesting) r ns es ss
+    → Ends r (λ counts. readStruct (gives counts)) (λ number place. readStruct (stops number place)) (Zero nodes ns × Zero entries es × Zero slots ss)
+unfolding readOf
+read-ends s bytes nodes entries slots nesting r ns es ss h = go (reading s (length nodes) (length entries) (length slots) nesting) refl h
+  where
+    go : (a : Answer (ℕ × State)) → reading s (length nodes) (length entries) (length slots) nesting ≡ a → ReadAs (outcomeOf (length nodes) (length entries) (length slots) a) r ns es ss
+        → Ends r (λ counts. readStruct (gives counts)) (λ number place. readStruct (stops number place)) (Zero nodes ns × Zero entries es × Zero slots ss)
+    go (gives x) e k = answers _ (k .numbers)
+    go (stops n p) e k =
+        refuses n p (reading-in-table s bytes (length nodes) (length entries) (length slots) nesting n p e) (k .numbers) (k .holds-nodes, k .holds-entries, k .holds-slots)
+
+write-ends : (a : Answer (List ℕ)) → Tabled a → (out : List ℕ) (r : SillWritten) (left : List ℕ) → WroteAs a (length out) r left
+    → Ends r (λ count. wroteStruct (wrote.Done count)) (λ number place. wroteStruct (wrote.Refused number place)) (Zero out left)
+write-ends (gives bytes) t out r left h = answers _ (h .numbers)
+write-ends (stops n p) t out r left h = refuses n p t (h .numbers) (h .holds)
+
+leaf-ends : (a : Answer Leaf) → Tabled a → (r : SillLeaf) → r ≡ leafStruct (answeredOf a)
+    → Ends r (λ told. leafStruct (leaf.Told told)) (λ number place. leafStruct (leaf.Refused number place)) Unit
+leaf-ends (gives l) t r h = answers (toldOf l) h
+leaf-ends (stops n p) t r h = refuses n p t h tt
+
+locate-ends : (x : table.Reading) → TabledLines x → (lent left : List ℕ) (r : SillLocated) → r ≡ locatedStruct (answer x) → left ≡ recordsOf (length lent) x → LocateEnds r (Zero lent left)
+unfolding recordsOf
+locate-ends (table.done at k whole) t lent left r e h = answers (k, whole) e
+locate-ends (table.refused n p) t lent left r e h = refuses n p t e h
+
+locations-end : (x : table.Reading) → TabledLines x → (flat left : List ℕ) (out placed : List Location) (r : SillLocated)
+    → r ≡ locatedStruct (answer x) → left ≡ recordsOf (length flat) x → placed ≡ locationsOf (length out) x
+    → LocateEnds r (Zero flat left × (placed ≡ replicate (length out) blank))
+unfolding recordsOf locationsOf
+locations-end (table.done at k whole) t flat left out placed r e h h′ = answers (k, whole) e
+locations-end (table.refused n p) t flat left out placed r e h h′ = refuses n p t e (h, h′)
+
+varint-ends : (o : Written × List ℕ) (lent : List ℕ) → TabledStore (length lent) o → (r : SillWritten) (left : List ℕ) → (r, left) ≡ writtenAs o → VarintEnds r (Zero lent left)
+varint-ends (varint.Done count, xs) lent t r left e = answers count (ap (λ x. x .0) e)
+varint-ends (varint.Refused n p, xs) lent t r left e = refuses n p (t .0) (ap (λ x. x .0) e) (ap (λ x. x .1) e ∙ t .1)
+
+split-ends : (x : Split) → TabledSplit x → (r : SillSplit) → r ≡ splitStruct x → (l c f m a l′ c′ f′ m′ a′ ls cs fs ms bs : List ℕ)
+    → l′ ≡ storedOf x (length l) ls → c′ ≡ storedOf x (length c) cs → f′ ≡ storedOf x (length f) fs → m′ ≡ storedOf x (length m) ms → a′ ≡ storedOf x (length a) bs
+    → Ends r (λ (d : ℕ × ℕ × ℕ × Bool). splitStruct (split.Done (d .0) (d .1) (d .2) (d .3))) (λ number place. splitStruct (split.Refused number place))
+    (Zero l l′ × Zero c c′ × Zero f f′ × Zero m m′ × Zero a a′)
+unfolding storedOf
+split-ends (split.Done locals cells frees present) t r e l c f m a l′ c′ f′ m′ a′ ls cs fs ms bs hl hc hf hm ha = answers (locals, cells, frees, present) e
+split-ends (split.Refused n p) t r e l c f m a l′ c′ f′ m′ a′ ls cs fs ms bs hl hc hf hm ha = refuses n p t e (hl, hc, hf, hm, ha)
+
+pub demand-1 : Demand1
+demand-1 =
+    record {
+      sill-read =
+          record {
+            asks-nothing = λ κs a. tt;
+            returns = λ M. sillgarland.values.sill_read.Met.met;
+            ends =
+                λ c bytes.
+                let a = c .args in
+                read-ends (now (a .0)) bytes (now (a .1 .0)) (now (a .1 .1 .0)) (now (a .1 .1 .1 .0)) (a .1 .1 .1 .1 .0) (c .result) _ _ _ (c .meets);
+          };
+      sill-write =
+          record {
+            asks-nothing = λ κs a. tt;
+            returns = λ M. sillgarland.values.sill_write.Met.met;
+            ends =
+                λ c.
+                write-ends (writtenBy sillWrite c) (written-in-table (sillWrite .tables c) (sillWrite .root c) (sillWrite .nesting c) (sillWrite .room c))
+                (now (c .args .1 .1 .1 .1 .1 .1 .1 .0)) (c .result) _ (c .meets);
+          };
+      sill-leaf =
+          record {
+            asks-nothing = λ κs a. tt;
+            returns = λ M. sillgarland.leaves.sill_leaf.Met.met;
+            ends =
+                λ c.
+                let a = c .args in
+                leaf-ends (leafOf (now (a .0)) (now (a .1 .0)) (a .1 .1 .0) (a .1 .1 .1 .0)) (leaf-in-table (now (a .0)) (now (a .1 .0)) (a .1 .1 .0) (a .1 .1 .1 .0)) (c .result) (c .meets);
+          };
+      sill-locate =
+          record {
+            asks-nothing = λ κs a. tt;
+            returns = λ M. sillgarland.locations.sill_locate.Met.met;
+            ends =
+                λ c.
+                let a = c .args in
+                let room = length (now (a .1 .1 .1 .0)) / 4 in
+                locate-ends (located (now (a .0)) (firstLine (a .1 .0)) (a .1 .1 .0) room) (located-in-table (now (a .0)) (firstLine (a .1 .0)) (a .1 .1 .0) room)
+                (now (a .1 .1 .1 .0)) _ (c .result) (c .meets .0) (c .meets .1);
+          };
+      sill-locate-node =
+          record {
+            asks-nothing = λ κs a. tt;
+            returns = λ M. sillgarland.leaves.sill_locate_node.Met.met;
+            ends =
+                λ c.
+                let a = c .args in
+                let b = a .1 .1 .1 .1 in
+                let room = length (now (b .1 .1 .0)) / 4 in
+                locate-ends (locatedAt (now (a .0)) (now (a .1 .0)) (a .1 .1 .0) (a .1 .1 .1 .0) (firstLine (b .0)) (b .1 .0) room)
+                (located-at-in-table (now (a .0)) (now (a .1 .0)) (a .1 .1 .0) (a .1 .1 .1 .0) (firstLine (b .0)) (b .1 .0) room)
+                (now (b .1 .1 .0)) _ (c .result) (c .meets .0) (c .meets .1);
+          };
+      sill-locations =
+          record {
+            asks-nothing = λ M 𝓤 H A mem run κs a g. id⊢ 𝓤 (emp 𝓤);
+            returns = λ M. sillgarland.locations.sill_locations.Met.met;
+            ends =
+                λ M 𝓤 H A mem run κs a g r ws.
+                let b = a .1 .1 .1 in
+                let room = min (length (now (b .0)) / 4) (length (now (b .1 .0))) in
+                fact-mono 𝓤 _ _ (λ p.
+                locations-end (located (now (a .0)) (firstLine (a .1 .0)) (a .1 .1 .0) room) (located-in-table (now (a .0)) (firstLine (a .1 .0)) (a .1 .1 .0) room)
+                (now (b .0)) (ws .1 .1 .1 .0) (now (b .1 .0)) (ws .1 .1 .1 .1 .0) r (p .0) (p .1) (p .2));
+          };
+      sill-split =
+          record {
+            asks-nothing = λ κs a. tt;
+            returns = λ M. sillgarland.locals.sill_split.Met.met;
+            ends =
+                λ c.
+                let a = c .args in
+                let b = a .1 .1 .1 .1 .1 in
+                let rooms = roomsOf (now (b .0)) (now (b .1 .0)) (now (b .1 .1 .0)) (now (b .1 .1 .1 .0)) (now (b .1 .1 .1 .1 .0)) in
+                let sum = argumentSum (a .1 .1 .0) (a .1 .1 .1 .0) (a .1 .1 .1 .1 .0) in
+                let s = c .meets .stores in
+                split-ends (splitOf (now (a .0)) (a .1 .0) (a .1 .1 .0) (a .1 .1 .1 .0) (a .1 .1 .1 .1 .0) rooms)
+                (split-in-table (now (a .0)) (a .1 .0) (a .1 .1 .0) (a .1 .1 .1 .0) (a .1 .1 .1 .1 .0) rooms) (c .result) (c .meets .numbers)
+                (now (b .0)) (now (b .1 .0)) (now (b .1 .1 .0)) (now (b .1 .1 .1 .0)) (now (b .1 .1 .1 .1 .0)) _ _ _ _ _
+                (positions localBit (now (a .0))) (positions cellBit (now (a .0))) (positions freeBit (now (a .0))) (derefMap (now (a .0))) (cellToArgument sum (now (a .0)))
+                (s .holds-locals) (s .holds-cells) (s .holds-frees) (s .holds-map) (s .holds-arguments);
+          };
+      sill-write-varint =
+          record {
+            asks-nothing = λ κs a. tt;
+            returns = λ M. sillgarland.varints.sill_write_varint.Met.met;
+            ends = λ c. varint-ends (stored (length (now (c .args .0))) (littleEndian (c .args .1 .0))) (now (c .args .0)) (stored-in-table _ (littleEndian (c .args .1 .0))) (c .result) _ (c .meets);
+          };
+      sill-write-signed-varint =
+          record {
+            asks-nothing = λ κs a. tt;
+            returns = λ M. sillgarland.varints.sill_write_signed_varint.Met.met;
+            ends = λ c. varint-ends (storedSigned (length (now (c .args .0))) (ofZ w32 (c .args .1 .0))) (now (c .args .0)) (signed-in-table _ (ofZ w32 (c .args .1 .0))) (c .result) _ (c .meets);
+          };
+      sill-write-varint-be =
+          record {
+            asks-nothing = λ κs a. tt;
+            returns = λ M. sillgarland.varints.sill_write_varint_be.Met.met;
+            ends = λ c. varint-ends (stored (length (now (c .args .0))) (bigEndian (c .args .1 .0))) (now (c .args .0)) (stored-in-table _ (bigEndian (c .args .1 .0))) (c .result) _ (c .meets);
+          };
+      sill-write-varint-with-start =
+          record {
+            asks-nothing = λ κs a. tt;
+            returns = λ M. sillgarland.varints.sill_write_varint_with_start.Met.met;
+            ends = λ c. varint-ends (stored (length (now (c .args .0))) (bigEndianWithStart (c .args .1 .0))) (now (c .args .0)) (stored-in-table _ (bigEndianWithStart (c .args .1 .0))) (c .result) _ (c .meets);
+          };
+      sill-read-varint = record { asks-nothing = λ κs a. tt; returns = λ M. sillgarland.varints.sill_read_varint.Met.met; ends = λ c. tt };
+      sill-read-varint-with-start =
+          record { asks-nothing = λ κs a. tt; returns = λ M. sillgarland.varints.sill_read_varint_with_start.Met.met; ends = λ c. tt };
+    }

@@ -1,0 +1,48 @@
+-- One answer for each call of the functions of `tables`: the answer, by an equation; of the record test, since a node
+-- that holds its children is not faulty.
+use mathlib.Core.Path.{_≡_, refl, sym, ap}
+use Prim.Native.Nat.{ℕ}
+use mathlib.Core.Bool.{Bool, true, false}
+use native.Mathlib.Omega.{arith}
+use Rattle.grammar.specs.Record.{Tables, Looked, holds, faulty}
+use Rattle.records.specs.Nodes.{nodeOf}
+use Rattle.tables.specs.Looking.{Looks}
+use Rattle.tables.proofs as tables
+use Rattle.promises.specs.Agreement.{Agree}
+use Rattle.promises.proofs.Same.{one, retold}
+use Rattle.promises.proofs.Records.{nodeFrom}
+
+-- a node holds its children, or is faulty, and not both
+abbrev isHeld : Looked → ℕ
+isHeld (holds kids) = 1
+isHeld (faulty place) = 0
+
+looks-one : (t : Tables) (n : ℕ) (r r′ : Bool) → Looks t n r → Looks t n r′ → r ≡ r′
+looks-one t n true true p q = refl
+looks-one t n true false p q = let z : _≡_ {A = ℕ} 1 0 = ap isHeld (one (sym (p .holds-kids)) (sym q)) in absurd (omega arith)
+looks-one t n false true p q = let z : _≡_ {A = ℕ} 0 1 = ap isHeld (one (sym p) (sym (q .holds-kids))) in absurd (omega arith)
+looks-one t n false false p q = refl
+
+pub child-agrees : Agree tables.child.ended tables.child.Reads.Asked tables.child.Reads.Learnt
+child-agrees κs a asked r r′ ws ws′ p p′ = (one p p′, refl)
+
+pub next-agrees : Agree tables.next.ended tables.next.Reads.Asked tables.next.Reads.Learnt
+next-agrees κs a asked r r′ ws ws′ p p′ = (one p p′, refl)
+
+pub node-at-agrees : Agree tables.node_at.ended tables.node_at.Reads.Asked tables.node_at.Reads.Learnt
+node-at-agrees κs a asked r r′ ws ws′ p p′ = (retold nodeOf nodeFrom (λ n. refl) p p′, refl)
+
+pub linked-agrees : Agree tables.linked.ended tables.linked.Reads.Asked tables.linked.Reads.Learnt
+linked-agrees κs a asked r r′ ws ws′ p p′ = (one p p′, refl)
+
+pub part-at-agrees : Agree tables.part_at.ended tables.part_at.Reads.Asked tables.part_at.Reads.Learnt
+part-at-agrees κs a asked r r′ ws ws′ p p′ = (one p p′, refl)
+
+pub look-agrees : Agree tables.look.ended tables.look.Reads.Asked tables.look.Reads.Learnt
+look-agrees κs a asked r r′ ws ws′ p p′ = (looks-one _ _ r r′ p p′, refl)
+
+pub belongs-agrees : Agree tables.belongs.ended tables.belongs.Reads.Asked tables.belongs.Reads.Learnt
+belongs-agrees κs a asked r r′ ws ws′ p p′ = (one p p′, refl)
+
+pub count-group-agrees : Agree tables.count_group.ended tables.count_group.Reads.Asked tables.count_group.Reads.Learnt
+count-group-agrees κs a asked r r′ ws ws′ p p′ = (one (p .0) (p′ .0), refl)

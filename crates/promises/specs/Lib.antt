@@ -1,0 +1,7 @@
+pub mod Agreement
+pub mod Partly
+pub mod Calls
+pub mod Demand1
+pub mod Demand2
+pub mod Lines
+pub mod Demand3
