@@ -24,6 +24,7 @@ struct Case {
 pub fn hold(seed: u64, count: usize) -> bool {
     let mut tally = Tally::new("hostile stores");
     ask(&mut tally, |class| class, seed, count);
+    ask_single_records(&mut tally, "one record of every letter, size and count: as the model says");
     tally.finish()
 }
 
