@@ -5,7 +5,7 @@ use Prim.Native.Nat.{ℕ, _+_, _-_, _≤_}
 use native.Mathlib.Omega.{arith}
 use mathlib.Core.List.{List}
 use lib.ListN.{length}
-use Rattle.grammar.specs.Reading.{done, refused, bind}
+use Rattle.grammar.specs.Reading.{done, refused}
 use Rattle.grammar.specs.Room.{run}
 use Rattle.grammar.specs.Steps.{Chain}
 use Rattle.steps.specs.declared.Room.{Room}

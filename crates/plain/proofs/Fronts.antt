@@ -3,10 +3,8 @@
 use mathlib.Core.Path.{_≡_, refl, subst}
 use Prim.Native.Nat.{ℕ, _+_, _/_, _%_, _≤_, _<_}
 use native.Mathlib.Omega.{arith}
-use mathlib.Core.Bool.{cond}
 use mathlib.Core.List.{List}
 use lib.ListN.{length, getD}
-use lib.Dec.{eqb}
 use borrow.Author.Tests.{ne-eqb}
 use Rattle.grammar.specs.Letters.{classOf}
 use Rattle.fields.specs.Classes.{classAt}
@@ -15,12 +13,11 @@ use Rattle.fields.specs.declared.Kids.{Kids}
 use Rattle.fields.specs.declared.Kids.the-variants as kind
 use Rattle.fields.specs.declared.Behind.{Behind}
 use Rattle.fields.specs.declared.Behind.the-variants as behind
-use Rattle.fields.proofs.Laws.{of-class}
 use Rattle.steps.specs.declared.Room.{Room}
 use Rattle.steps.specs.declared.Walk.{Walk}
 use Rattle.steps.specs.declared.Opened.{Opened}
 use Rattle.steps.specs.declared.Opened.the-variants as opened
-use Rattle.steps.specs.Opening.{References, Opens, Fronts}
+use Rattle.steps.specs.Opening.{References}
 use Rattle.steps.proofs.Fronts.{node-opened, front-known, front-opened}
 use Rattle.plain.specs.declared.Plain.{Plain}
 use Rattle.plain.specs.declared.Plain.the-variants as plain

@@ -1,7 +1,7 @@
 -- The answers of `leaf` and `leaf_child`: what `front` takes is read as `value` and `child` of the reader read it, with no children.
 -- Assumes nothing.
-use mathlib.Core.Path.{_≡_, refl, sym, subst}
-use Prim.Native.Nat.{ℕ, _+_, _-_, _*_, _≤_, _<_}
+use mathlib.Core.Path.{_≡_, refl, subst}
+use Prim.Native.Nat.{ℕ, _+_, _*_, _≤_, _<_}
 use native.Mathlib.Omega.{arith}
 use mathlib.Core.Bool.{Bool, true, false, not}
 use mathlib.Core.List.{List}
@@ -30,7 +30,7 @@ use Rattle.plain.specs.declared.Taken.the-variants as taken
 use Rattle.plain.specs.declared.Tried.the-variants as tried
 use Rattle.plain.specs.Fronts.{FrontOf, Plainly}
 use Rattle.plain.specs.Readings.{ReadsValue, ReadsChild}
-use Rattle.plain.specs.Turns.{SafeLeaf, TakesOf, Takes, Tries}
+use Rattle.plain.specs.Turns.{TakesOf, Takes, Tries}
 use Rattle.plain.proofs.Loops.{kids-start, kids-end}
 use Rattle.plain.proofs.Values.{head-in, inside-safe, inside-line, value-known, value-whole}
 use Rattle.plain.proofs.Children.{child-unfit, child-linked, attach-asks}

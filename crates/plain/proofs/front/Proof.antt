@@ -4,61 +4,46 @@ use Rattle.plain.proofs.Fronts.{front-refers, front-leaf}
 use borrow.Author.Needs.{needs}
 use Rattle.plain.proofs.front.Statement.{statement}
 use Rattle.plain.proofs.front.Tie as tie
-use Rattle.plain.proofs.front.Lts as lts
 
--- src/lib.rt:75:9
 returns : tie.Need-returns
 returns c = search needs
 
--- src/lib.rt:77:19
 cast-if2 : tie.Need-cast-if2
 cast-if2 c = search needs
 
--- src/lib.rt:78:9
 returns-2 : tie.Need-returns-2
 returns-2 c = search needs
 
--- src/lib.rt:80:9
 byte-at-requires : tie.Need-byte-at-requires
 byte-at-requires c κs = search needs
 
--- src/lib.rt:83:9
 class-of-requires : tie.Need-class-of-requires
 class-of-requires c κs = search needs
 
--- src/lib.rt:85:36
 add-reference : tie.Need-add-reference
 add-reference c = search needs
 
--- src/lib.rt:85:9
 reference-requires : tie.Need-reference-requires
 reference-requires c κs = search needs
 
--- src/lib.rt:85:9
 returns-3 : tie.Need-returns-3
 returns-3 c = search (front-refers, needs)
 
--- src/lib.rt:87:21
 add-if4 : tie.Need-add-if4
 add-if4 c = search needs
 
--- src/lib.rt:88:9
 returns-4 : tie.Need-returns-4
 returns-4 c = search needs
 
--- src/lib.rt:91:9
 returns-5 : tie.Need-returns-5
 returns-5 c = search needs
 
--- src/lib.rt:93:34
 add-head : tie.Need-add-head
 add-head c = search needs
 
--- src/lib.rt:93:5
 head-requires : tie.Need-head-requires
 head-requires c κs = search needs
 
--- src/lib.rt:69:1
 returns-6 : tie.Need-returns-6
 returns-6 c = search (front-leaf, needs)
 

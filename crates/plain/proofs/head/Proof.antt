@@ -4,49 +4,37 @@ use Rattle.plain.proofs.Fronts.{leaf-opened}
 use borrow.Author.Needs.{needs}
 use Rattle.plain.proofs.head.Statement.{statement}
 use Rattle.plain.proofs.head.Tie as tie
-use Rattle.plain.proofs.head.Lts as lts
 
--- src/lib.rt:48:11
 read-leaf-requires : tie.Need-read-leaf-requires
 read-leaf-requires c κs = search needs
 
--- src/lib.rt:49:42
 enum-told : tie.Need-enum-told
 enum-told c = search needs
 
--- src/lib.rt:50:30
 enum-known-place : tie.Need-enum-known-place
 enum-known-place c = search needs
 
--- src/lib.rt:51:36
 enum-told-2 : tie.Need-enum-told-2
 enum-told-2 c = search needs
 
--- src/lib.rt:52:36
 enum-told-3 : tie.Need-enum-told-3
 enum-told-3 c = search needs
 
--- src/lib.rt:53:33
 enum-known-kids : tie.Need-enum-known-kids
 enum-known-kids c = search needs
 
--- src/lib.rt:55:21
 returns : tie.Need-returns
 returns c = search needs
 
--- src/lib.rt:44:1
 returns-2 : tie.Need-returns-2
 returns-2 c = search needs
 
--- src/lib.rt:44:1
 returns-3 : tie.Need-returns-3
 returns-3 c = search needs
 
--- src/lib.rt:44:1
 returns-4 : tie.Need-returns-4
 returns-4 c = search needs
 
--- src/lib.rt:44:1
 returns-5 : tie.Need-returns-5
 returns-5 c = search (leaf-opened, needs)
 

@@ -10,59 +10,46 @@ use Rattle.plain.proofs.Fronts.{spans-read}
 use borrow.Author.Needs.{needs}
 use Rattle.plain.proofs.read_leaf.Statement.{statement}
 use Rattle.plain.proofs.read_leaf.Tie as tie
-use Rattle.plain.proofs.read_leaf.Lts as lts
 
--- src/lib.rt:34:27
 read-fixed-requires : tie.Need-read-fixed-requires
 read-fixed-requires c κs = search needs
 
--- src/lib.rt:35:27
 read-fixed-requires-2 : tie.Need-read-fixed-requires-2
 read-fixed-requires-2 c κs = search needs
 
--- src/lib.rt:36:26
 read-bytes-requires : tie.Need-read-bytes-requires
 read-bytes-requires c κs = search needs
 
--- src/lib.rt:37:25
 read-text-requires : tie.Need-read-text-requires
 read-text-requires c κs = search needs
 
--- src/lib.rt:38:26
 read-short-requires : tie.Need-read-short-requires
 read-short-requires c κs = search needs
 
--- src/lib.rt:28:1
 returns : tie.Need-returns
 unfolding classes classAt fieldsOf fields
 returns c = spans-read (omega (arith, c .match .keys1)) (of-class (ap classAt (c .match .keys1)) (record { ahead = (search needs, search needs); exact = refl }))
 
--- src/lib.rt:28:1
 returns-2 : tie.Need-returns-2
 unfolding classes classAt
 returns-2 c = spans-read (omega (arith, c .before .match .keys2)) (of-class (ap classAt (c .before .match .keys2)) (c .read-fixed .ensures))
 
--- src/lib.rt:28:1
 returns-3 : tie.Need-returns-3
 unfolding classes classAt
 returns-3 c = spans-read (omega (arith, c .before .match .keys3)) (of-class (ap classAt (c .before .match .keys3)) (c .read-fixed2 .ensures))
 
--- src/lib.rt:28:1
 returns-4 : tie.Need-returns-4
 unfolding classes classAt
 returns-4 c = spans-read (omega (arith, c .before .match .keys4)) (of-class (ap classAt (c .before .match .keys4)) (c .read-bytes .ensures))
 
--- src/lib.rt:28:1
 returns-5 : tie.Need-returns-5
 unfolding classes classAt
 returns-5 c = spans-read (omega (arith, c .before .match .keys5)) (of-class (ap classAt (c .before .match .keys5)) (c .read-text .ensures))
 
--- src/lib.rt:28:1
 returns-6 : tie.Need-returns-6
 unfolding classes classAt
 returns-6 c = spans-read (omega (arith, c .before .match .keys6)) (of-class (ap classAt (c .before .match .keys6)) (c .read-short .ensures))
 
--- src/lib.rt:28:1
 returns-7 : tie.Need-returns-7
 returns-7 c = search needs
 

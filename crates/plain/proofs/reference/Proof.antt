@@ -4,33 +4,25 @@ use Rattle.plain.proofs.Fronts.{refers-known}
 use borrow.Author.Needs.{needs}
 use Rattle.plain.proofs.reference.Statement.{statement}
 use Rattle.plain.proofs.reference.Tie as tie
-use Rattle.plain.proofs.reference.Lts as lts
 
--- src/lib.rt:20:11
 resolve-ref-requires : tie.Need-resolve-ref-requires
 resolve-ref-requires c κs = search needs
 
--- src/lib.rt:21:30
 enum-known-node : tie.Need-enum-known-node
 enum-known-node c = search needs
 
--- src/lib.rt:22:38
 enum-told : tie.Need-enum-told
 enum-told c = search needs
 
--- src/lib.rt:23:41
 enum-told-2 : tie.Need-enum-told-2
 enum-told-2 c = search needs
 
--- src/lib.rt:16:1
 returns : tie.Need-returns
 returns c = search (refers-known, needs)
 
--- src/lib.rt:16:1
 returns-2 : tie.Need-returns-2
 returns-2 c = search needs
 
--- src/lib.rt:16:1
 returns-3 : tie.Need-returns-3
 returns-3 c = search needs
 
