@@ -18,7 +18,7 @@ pub fn hold() -> bool {
     for mode in [Mode::AtEnd, Mode::AtStart] {
         lend(mode);
         ask::<varint::Varints>(&mut tally, "varints", varint::carried_side::asks_to_list());
-        let tables = linetable::carried_side::asks_to_list(Vec::new());
+        let tables = linetable::carried_side::asks_to_list(&[]);
         ask::<linetable::LineTables>(&mut tally, "line tables, as numbers and as structs", tables);
         ask::<localsplus::LocalNames>(&mut tally, "splits", localsplus::carried_side::asks_to_list());
         ask::<Reads>(&mut tally, "values read, with their leaves", values::random_inputs(21, OF_EACH));
@@ -26,9 +26,9 @@ pub fn hold() -> bool {
         hostile::ask_single_records(&mut tally, "writings from one record of every letter, size and count");
         ask::<Writes>(&mut tally, "values written", write::carried_side::random_asks(22, OF_EACH));
         last_asked("a leaf or a node's line table of a damaged store");
-        leaf::ask(&mut tally, |_| "leaves and line tables of damaged stores", values::random_inputs(23, OF_EACH));
+        leaf::ask(&mut tally, |_| "leaves and line tables of damaged stores", 11, values::random_inputs(23, OF_EACH));
         last_asked("a writing from a damaged store");
-        hostile::ask(&mut tally, |_| "writings from damaged stores", OF_EACH);
+        hostile::ask(&mut tally, |_| "writings from damaged stores", 15, OF_EACH);
     }
     lend(Mode::Marked);
     tally.finish()

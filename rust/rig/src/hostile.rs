@@ -21,16 +21,17 @@ struct Case {
     nesting: u32,
 }
 
-pub fn hold(count: usize) -> bool {
+pub fn hold(seed: u64, count: usize) -> bool {
     let mut tally = Tally::new("hostile stores");
-    ask(&mut tally, |class| class, count);
+    ask(&mut tally, |class| class, seed, count);
+    ask_single_records(&mut tally, "one record of every letter, size and count: as the model says");
     tally.finish()
 }
 
 /// Some cases from each reading, till there are so many; each is counted as `counted` says of its class.
-pub fn ask(tally: &mut Tally, counted: fn(&'static str) -> &'static str, count: usize) {
-    let mut random = Random::new(15);
-    let mut asks = random_inputs(16, usize::MAX);
+pub fn ask(tally: &mut Tally, counted: fn(&'static str) -> &'static str, seed: u64, count: usize) {
+    let mut random = Random::new(seed);
+    let mut asks = random_inputs(seed + 1, usize::MAX);
     let mut tried = 0;
     while tried < count {
         let made = if random.below(8) == 0 { Some(of_nothing(&mut random)) } else { asks.next().and_then(of_reading) };

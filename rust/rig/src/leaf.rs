@@ -18,15 +18,15 @@ struct Store<'a> {
     used: u32,
 }
 
-pub fn hold(asks: impl Iterator<Item = Ask>) -> bool {
+pub fn hold(seed: u64, asks: impl Iterator<Item = Ask>) -> bool {
     let mut tally = Tally::new("leaf");
-    ask(&mut tally, |class| class, asks);
+    ask(&mut tally, |class| class, seed, asks);
     tally.finish()
 }
 
 /// Every case is counted as `counted` says of its class.
-pub fn ask(tally: &mut Tally, counted: fn(&'static str) -> &'static str, asks: impl Iterator<Item = Ask>) {
-    let mut random = Random::new(11);
+pub fn ask(tally: &mut Tally, counted: fn(&'static str) -> &'static str, seed: u64, asks: impl Iterator<Item = Ask>) {
+    let mut random = Random::new(seed);
     for ask in asks {
         let part = Part::new(&ask.input);
         let reading = read(&part, ask.nesting, ample(&ask.input));

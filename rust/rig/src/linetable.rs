@@ -176,6 +176,7 @@ pub mod carried_side {
     use crate::panics::unless_overflow;
     use crate::random::Random;
     use crate::shape;
+    use crate::shrink::smaller;
     use crate::subject::Carried;
     use crate::varint::carried_side::strings_of;
     use carried::{SourceLocation, marshal, varint};
@@ -188,6 +189,10 @@ pub mod carried_side {
                 None => Answer::Refused { number: refusals::NUMBER_RANGE, place: place_of_panic(ask) },
                 Some(records) => Answer::Accepted { records, origin: origin(ask) },
             }
+        }
+
+        fn smaller(ask: &Ask) -> Vec<Ask> {
+            smaller(&ask.table).map(|table| Ask { table, ..*ask }).collect()
         }
     }
 
@@ -224,14 +229,24 @@ pub mod carried_side {
     const OF_THREE: [(i32, u32); 6] = [(10, 3), (i32::MAX, 9), (0, 17), (i32::MIN, 2), (-1, 1), (i32::MAX - 1, 24)];
 
     /// How much is asked: how many of OF_THREE, and how many random tables.
+    #[derive(Clone, Copy)]
     pub struct Extent {
         pub of_three: usize,
         pub random: usize,
     }
 
     /// Short tables, one above 16 MiB, random ones, and CPython's own: as they are and damaged.
-    pub fn asks(extent: Extent, made: Vec<Ask>) -> impl Iterator<Item = Ask> {
-        short_tables(extent.of_three).chain([too_long()]).chain(random_tables(extent.random)).chain(of_made(made))
+    pub fn asks(extent: Extent, made: &[Ask]) -> impl Iterator<Item = Ask> {
+        short_tables(extent.of_three).chain([too_long()]).chain(random_tables(3, extent.random)).chain(of_made(4, made))
+    }
+
+    /// Of one round of the long form: all tables of three bytes for another first line and count, then random ones.
+    pub fn asks_of_round(round: u64, random: usize, made: &[Ask]) -> impl Iterator<Item = Ask> {
+        let mut chance = Random::new(round);
+        let count = 1 + chance.below(24) as u32;
+        let first_line = chance.of_any_width() as i32 ^ chance.one_of(&[0, -1, i32::MIN]);
+        let of_three = strings_of(3).map(move |table| Ask { table, first_line, count });
+        of_three.chain(random_tables(1000 + round, random)).chain(of_made(2000 + round, made))
     }
 
     /// All tables of up to two bytes for every first line and count above; of three bytes for some of them.
@@ -244,19 +259,19 @@ pub mod carried_side {
     }
 
     /// A selection of the above for the list in the repository.
-    pub fn asks_to_list(made: Vec<Ask>) -> impl Iterator<Item = Ask> {
+    pub fn asks_to_list(made: &[Ask]) -> impl Iterator<Item = Ask> {
         let one_byte = (0..=1).flat_map(strings_of).map(|table| Ask { table, first_line: 10, count: 3 });
         let short_enough = |ask: &Ask| ask.table.len() < 60 && ask.count < 60;
-        let chosen = of_made(made).filter(short_enough).step_by(60).take(600);
-        one_byte.chain(random_tables(1800)).chain(chosen)
+        let chosen = of_made(4, made).filter(short_enough).step_by(60).take(600);
+        one_byte.chain(random_tables(3, 1800)).chain(chosen)
     }
 
     fn too_long() -> Ask {
         Ask { table: vec![0xF8; refusals::MOST_BYTES as usize + 1], first_line: 1, count: 2 }
     }
 
-    fn random_tables(count: usize) -> impl Iterator<Item = Ask> {
-        let mut random = Random::new(3);
+    fn random_tables(seed: u64, count: usize) -> impl Iterator<Item = Ask> {
+        let mut random = Random::new(seed);
         (0..count).map(move |_| random_table(&mut random))
     }
 
@@ -317,8 +332,8 @@ pub mod carried_side {
     }
 
     /// Each table as CPython made it, and the same damaged.
-    fn of_made(made: Vec<Ask>) -> impl Iterator<Item = Ask> {
-        let mut random = Random::new(4);
-        made.into_iter().flat_map(move |ask| [damaged(&mut random, ask.clone()), ask])
+    fn of_made(seed: u64, made: &[Ask]) -> impl Iterator<Item = Ask> {
+        let mut random = Random::new(seed);
+        made.iter().flat_map(move |ask| [damaged(&mut random, ask.clone()), ask.clone()])
     }
 }

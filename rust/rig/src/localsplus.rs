@@ -178,6 +178,7 @@ pub mod carried_side {
     use super::{Answer, Ask, LocalNames};
     use crate::panics::unless_overflow;
     use crate::random::Random;
+    use crate::shrink::smaller;
     use crate::subject::Carried;
     use carried::bytecode::CodeFlags;
     use carried::marshal::{LocalsPlusResult, split_localplus};
@@ -194,6 +195,13 @@ pub mod carried_side {
                 Some(Ok(split)) => Answer::Accepted { stores: stores(split) },
             }
         }
+
+        /// With a name less, or a kind of no bits.
+        fn smaller(ask: &Ask) -> Vec<Ask> {
+            let less =
+                |kinds: Vec<u8>| Ask { names: ask.names + kinds.len() as u32 - ask.kinds.len() as u32, kinds, ..*ask };
+            if (ask.names as usize) < ask.kinds.len() { Vec::new() } else { smaller(&ask.kinds).map(less).collect() }
+        }
     }
 
     fn stores(split: LocalsPlusResult<u32>) -> [Vec<u32>; 5] {
@@ -206,12 +214,17 @@ pub mod carried_side {
 
     /// All lists of up to so many kinds, for several arguments and flags; kinds above 16 MiB; then random ones.
     pub fn asks(longest: u32, random: usize) -> impl Iterator<Item = Ask> {
-        short_lists(longest).chain([too_long()]).chain(random_lists(random))
+        short_lists(longest).chain([too_long()]).chain(random_lists(5, random))
+    }
+
+    /// Of one round of the long form.
+    pub fn asks_of_round(round: u64, random: usize) -> impl Iterator<Item = Ask> {
+        random_lists(1000 + round, random)
     }
 
     /// A selection of the above for the list in the repository.
     pub fn asks_to_list() -> impl Iterator<Item = Ask> {
-        short_lists(2).step_by(3).chain(random_lists(2000).filter(|ask| ask.kinds.len() < 20))
+        short_lists(2).step_by(3).chain(random_lists(5, 2000).filter(|ask| ask.kinds.len() < 20))
     }
 
     fn short_lists(longest: u32) -> impl Iterator<Item = Ask> {
@@ -232,8 +245,8 @@ pub mod carried_side {
         Ask { kinds: vec![0; names as usize], names, args: 0, kwonly: 0, flags: 0 }
     }
 
-    fn random_lists(count: usize) -> impl Iterator<Item = Ask> {
-        let mut random = Random::new(5);
+    fn random_lists(seed: u64, count: usize) -> impl Iterator<Item = Ask> {
+        let mut random = Random::new(seed);
         (0..count).map(move |_| random_list(&mut random))
     }
 

@@ -217,6 +217,7 @@ pub mod carried_side {
     //! The Rust's answers.
     use super::{Answer, Ask, LONGEST_TEXT, Reads, Verdict};
     use crate::panics::unless_overflow;
+    use crate::shrink::smaller;
     use crate::subject::Carried;
     use crate::trace::Trace;
     use crate::tree::text_of;
@@ -233,8 +234,8 @@ pub mod carried_side {
             let notes = Notes::default();
             let mut trace = Trace::new(&ask.input, &notes);
             let read = unless_overflow(|| trace.value(nesting as usize).map(|tree| text_of(&tree, LONGEST_TEXT)));
-            if let Some(place) = trace.like_decimal.iter().find(|at| is_decimal_float(&ask.input, **at, nesting)) {
-                return listed(refusals::NOT_CARRIED, *place);
+            if let Some(place) = first_decimal_float(&ask.input, &trace, nesting) {
+                return listed(refusals::NOT_CARRIED, place);
             }
             let inside = notes.none() && !trace.other_flags && nesting == refusals::MOST_NESTING && read.is_some();
             let verdict = match read {
@@ -246,14 +247,8 @@ pub mod carried_side {
             Answer { verdict, inside }
         }
 
-        /// With a run of bytes taken out, long runs first.
         fn smaller(ask: &Ask) -> Vec<Ask> {
-            let len = ask.input.len();
-            let runs = [len / 2, len / 4, len / 8, 2, 1].into_iter().filter(|run| *run > 0 && *run <= len);
-            let cuts = runs.flat_map(|run| (0..=len - run).map(move |start| (start, run)));
-            let without =
-                |(start, run)| Ask { input: [&ask.input[..start], &ask.input[start + run..]].concat(), ..*ask };
-            cuts.take(10_000).map(without).collect()
+            smaller(&ask.input).map(|input| Ask { input, ..*ask }).collect()
         }
     }
 
@@ -288,6 +283,11 @@ pub mod carried_side {
         }
         let at_key = is_too_deep(input, trace.last(), nesting);
         refused(refusals::TOO_DEEP, if at_key { trace.last() } else { trace.position })
+    }
+
+    /// Where the reading met a value with letter `f` or `x`.
+    pub fn first_decimal_float(input: &[u8], trace: &Trace, nesting: u32) -> Option<usize> {
+        trace.like_decimal.iter().find(|at| is_decimal_float(input, **at, nesting)).copied()
     }
 
     /// Whether a value with letter `f` or `x` begins here: the Rust wants an object here if the bytes end before it.

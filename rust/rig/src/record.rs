@@ -1,4 +1,5 @@
 //! A node's record, judged by document 01's list of what it must be, and not by the port.
+use crate::plain::is_text;
 
 /// What the leaf question answers of a record, kind and values, if the record is as it must be: no chain and no parts are
 /// looked at.
@@ -58,15 +59,4 @@ fn long(span: &[u8]) -> Option<(u32, u64, u64)> {
     let magnitude = digits.iter().rev().fold(0i128, |sum, digit| sum << 15 | i128::from(*digit));
     let value = if count < 0 { -magnitude } else { magnitude };
     Some(i64::try_from(value).map_or((8, 0, 0), |value| (5, value as u64, 0)))
-}
-
-/// UTF-8, but for surrogates, which may stand as three bytes.
-fn is_text(mut bytes: &[u8]) -> bool {
-    while let Err(error) = std::str::from_utf8(bytes) {
-        bytes = match &bytes[error.valid_up_to()..] {
-            [0xED, 0xA0..=0xBF, 0x80..=0xBF, rest @ ..] => rest,
-            _ => return false,
-        };
-    }
-    true
 }

@@ -1,5 +1,7 @@
 //! What a subject of the rig is: a kind of question that the port answers, and that something else answers too. With it
 //! goes what is done with any subject: compare with the carried Rust, list the Rust's answers, replay a list.
+#[cfg(carried)]
+use crate::shares;
 use crate::tally::Tally;
 use std::fs;
 
@@ -40,17 +42,28 @@ pub fn held<S: Subject>(ask: &S::Ask, answer: &S::Answer) -> Result<(), String> 
     })
 }
 
+/// Compares with the carried Rust, shared out over the processors, up to the first difference.
 #[cfg(carried)]
-pub fn compare<S: Carried>(asks: impl Iterator<Item = S::Ask>) -> bool {
-    let mut tally = Tally::new(format!("rust {}", S::NAME));
-    for ask in asks {
-        let answer = S::by_the_rust(&ask);
-        let class = S::class(&ask, &answer);
-        let outcome = held::<S>(&ask, &answer);
-        let first = outcome.is_err() && tally.none_failed();
-        tally.count(class, if first { smallest::<S>(ask, outcome) } else { outcome });
-    }
+pub fn compare<S: Carried, I: Iterator<Item = S::Ask>>(asks: impl Fn() -> I + Sync) -> bool {
+    let name = format!("rust {}", S::NAME);
+    let tally = shares::tallied(&name, |share, tally| {
+        for ask in share.cases(asks()) {
+            compare_one::<S>(tally, ask);
+            if !tally.none_failed() {
+                share.stop();
+            }
+        }
+    });
     tally.finish()
+}
+
+#[cfg(carried)]
+fn compare_one<S: Carried>(tally: &mut Tally, ask: S::Ask) {
+    let answer = S::by_the_rust(&ask);
+    let class = S::class(&ask, &answer);
+    let outcome = held::<S>(&ask, &answer);
+    let first = outcome.is_err() && tally.none_failed();
+    tally.count(class, if first { smallest::<S>(ask, outcome) } else { outcome });
 }
 
 /// The difference that the smallest question shows to which this one can be shortened.

@@ -3,31 +3,58 @@
 use crate::nested::nested;
 use crate::random::Random;
 use crate::read::Ask;
-use sillgarland_sys::refusals::{MOST_BYTES, MOST_NESTING};
+#[cfg(carried)]
+use sillgarland_sys::refusals::MOST_BYTES;
+use sillgarland_sys::refusals::MOST_NESTING;
+use std::ops::Range;
 
-/// How many cases of each sort.
-pub struct Extent {
-    /// At most so many inputs of each length from 4 to 6 over the alphabet, evenly chosen.
-    pub of_each_length: usize,
-    pub random: usize,
-}
-
-pub fn asks(extent: Extent, modules: Vec<Ask>) -> impl Iterator<Item = Ask> {
-    let Extent { of_each_length, random } = extent;
+/// Of the short form: every input of up to three bytes, of four over the wide alphabet, of six over sixteen symbols; and so
+/// many made by the grammar.
+#[cfg(carried)]
+pub fn asks(random: usize, modules: &[Ask]) -> impl Iterator<Item = Ask> {
+    let little = all_over(&WIDE, 4).step_by(37).enumerate().map(|(i, ask)| Ask { nesting: 1 + i as u32 % 4, ..ask });
     sheets()
         .chain(code_faults())
         .chain(short_inputs())
-        .chain((4..=6).flat_map(move |len| over_alphabet(len, of_each_length)))
+        .chain(all_over(&WIDE, 4))
+        .chain(little)
+        .chain(all_over(&NARROW[..16], 6))
         .chain(deep_inputs(&[1990, 1999, 2000, 2001]))
         .chain(large_inputs())
         .chain(random_inputs(7, random))
-        .chain(of_modules(modules))
+        .chain(of_modules(modules, 9))
+}
+
+/// How many rounds of the long form come by every input of five bytes over the wide alphabet and of six over twenty symbols.
+#[cfg(carried)]
+pub const ROUNDS: u64 = 64;
+
+/// Of one round of the long form.
+#[cfg(carried)]
+pub fn asks_of_round(round: u64, random: usize, modules: &[Ask]) -> impl Iterator<Item = Ask> {
+    let seed = 1000 + round;
+    share_over(&WIDE, 5, round)
+        .chain(share_over(&NARROW, 6, round))
+        .chain(random_inputs(seed, random))
+        .chain(of_modules(modules, seed))
+}
+
+/// For the sweeps of rooms: short inputs, some longer ones, deep ones, faults of code, and so many made by the grammar.
+pub fn inputs_to_sweep(seed: u64, random: usize) -> impl Iterator<Item = Vec<u8>> {
+    let short = (0..=2).flat_map(|len| (0..1usize << (8 * len)).map(move |number| bytes_of(number, len)));
+    let longer = all_over(&WIDE, 4).step_by(101).chain(all_over(&NARROW, 6).step_by(401));
+    let made = sheets().chain(code_faults()).chain(longer).chain(deep_inputs(&[1, 2, 7, 1999, 2000, 2001, 2002]));
+    let asks = made.chain(random_inputs(seed, random));
+    short.chain(asks.map(|ask| ask.input))
 }
 
 /// A selection of the above for the list in the repository.
+#[cfg(carried)]
 pub fn asks_to_list() -> impl Iterator<Item = Ask> {
     let inputs = short_inputs().step_by(40_009);
-    let longer = (4..=6).flat_map(|len| over_alphabet(len, 150));
+    let longer = all_over(&WIDE, 4).step_by(50_021).chain(all_over(&NARROW, 6).step_by(210_011));
+    let nestings = [MOST_NESTING, 1, MOST_NESTING, 2, 3, MOST_NESTING + 1, 4];
+    let longer = longer.enumerate().map(move |(i, ask)| Ask { nesting: nestings[i % nestings.len()], ..ask });
     let deep = deep_inputs(&[6, 7, 8]).filter(|ask| ask.nesting < MOST_NESTING);
     sheets()
         .chain(code_faults())
@@ -38,17 +65,17 @@ pub fn asks_to_list() -> impl Iterator<Item = Ask> {
 }
 
 /// Of the above, what may be read and so written; a short input that starts otherwise is not whole.
-pub fn asks_of_the_writer(extent: Extent, modules: Vec<Ask>) -> impl Iterator<Item = Ask> {
-    let Extent { of_each_length, random } = extent;
+#[cfg(carried)]
+pub fn asks_of_the_writer(random: usize, modules: &[Ask]) -> impl Iterator<Item = Ask> {
     let may_be_whole = |ask: &Ask| ask.input.first().is_some_and(|byte| b"NFTS.zZ){".contains(&(byte & 0x7F)));
+    let some = short_inputs().chain(all_over(&WIDE, 4)).chain(all_over(&NARROW[..16], 6).step_by(7));
     sheets()
         .chain(code_faults())
         .chain(code_strings())
-        .chain(short_inputs().filter(may_be_whole))
-        .chain((4..=6).flat_map(move |len| over_alphabet(len, of_each_length)))
+        .chain(some.filter(may_be_whole))
         .chain(deep_inputs(&[1990, 1999, 2000]))
         .chain(random_inputs(14, random))
-        .chain(of_modules(modules))
+        .chain(of_modules(modules, 9))
 }
 
 /// P1 to P12 of document 01.
@@ -116,6 +143,7 @@ fn code_faults() -> impl Iterator<Item = Ask> {
 
 /// Codes with strings about as long as the short letter holds, ASCII to the end or not, as names, as a local name, as file,
 /// name and qualified name.
+#[cfg(carried)]
 pub fn code_strings() -> impl Iterator<Item = Ask> {
     let string = |len: usize, last: &str| {
         let text = "n".repeat(len - last.len()) + last;
@@ -138,6 +166,7 @@ const LETTERS: &[u8] = b"0NFTS.iIlgfxystr()[{cu<>:aAzZ";
 
 /// Every input of up to three bytes with the crate's own nesting, and those of up to two, and short containers, with
 /// little nesting too.
+#[cfg(carried)]
 fn short_inputs() -> impl Iterator<Item = Ask> {
     let two = (0..=2).flat_map(|len| (0..1usize << (8 * len)).map(move |number| bytes_of(number, len)));
     let little = two.clone().flat_map(|input| (0..4).map(move |nesting| Ask { input: input.clone(), nesting }));
@@ -152,20 +181,51 @@ fn bytes_of(number: usize, len: u32) -> Vec<u8> {
     (0..len).map(|i| (number >> (8 * i)) as u8).collect()
 }
 
-/// Letters, flagged and not, small counts and indices, a byte that no UTF-8 has.
-const ALPHABET: [u8; 24] = [
-    b'N', b'T', b'0', 0xB0, b')', 0xA9, b'(', b'[', b'>', b'{', 0xFB, b':', 0xBA, b'r', 0xF2, b'z', 0xFA, b'u', b'l',
-    b'f', 0x00, 0x01, 0x02, 0xFF,
+/// Each letter, with the flag and without; small counts, which are indices too; a byte that no UTF-8 has.
+const WIDE: [u8; 2 * LETTERS.len() + 5] = {
+    let mut wide = [0; 2 * LETTERS.len() + 5];
+    let mut i = 0;
+    while i < LETTERS.len() {
+        wide[2 * i] = LETTERS[i];
+        wide[2 * i + 1] = LETTERS[i] | 0x80;
+        i += 1;
+    }
+    i *= 2;
+    let counts = [0, 1, 2, 3, 0xFF];
+    while i < wide.len() {
+        wide[i] = counts[i - 2 * LETTERS.len()];
+        i += 1;
+    }
+    wide
+};
+
+/// Twenty symbols, the first sixteen of which serve the short form.
+const NARROW: [u8; 20] = [
+    b'N', 0xCE, b'0', 0xB0, b')', 0xA9, b'[', b'{', b':', b'r', b'z', b'l', 0x00, 0x01, 0x02, 0xFF, b'(', 0xFB, b'u',
+    b'f',
 ];
 
-fn over_alphabet(len: u32, most: usize) -> impl Iterator<Item = Ask> {
-    let all = ALPHABET.len().pow(len);
-    // A step that shares no factor with the alphabet's size comes by every digit.
-    let step = (all / most).max(1) | 1;
-    let step = if step.is_multiple_of(3) { step + 2 } else { step };
-    (0..all).step_by(step).enumerate().map(move |(i, number)| {
-        let input = (0..len).map(|digit| ALPHABET[number / ALPHABET.len().pow(digit) % ALPHABET.len()]).collect();
-        Ask { input, nesting: [MOST_NESTING, 1, MOST_NESTING, 2, 3, MOST_NESTING + 1, 4][i % 7] }
+fn all_over(alphabet: &'static [u8], len: u32) -> impl Iterator<Item = Ask> {
+    over(alphabet, len, 0..alphabet.len().pow(len))
+}
+
+/// One of ROUNDS shares of them; past the last round, none.
+#[cfg(carried)]
+fn share_over(alphabet: &'static [u8], len: u32, round: u64) -> impl Iterator<Item = Ask> {
+    let all = alphabet.len().pow(len);
+    let from = |round: u64| (all as u128 * u128::from(round.min(ROUNDS)) / u128::from(ROUNDS)) as usize;
+    over(alphabet, len, from(round)..from(round + 1))
+}
+
+/// The inputs of this length over the alphabet, by number.
+fn over(alphabet: &'static [u8], len: u32, numbers: Range<usize>) -> impl Iterator<Item = Ask> {
+    numbers.map(move |mut number| {
+        let mut digit = || {
+            let symbol = alphabet[number % alphabet.len()];
+            number /= alphabet.len();
+            symbol
+        };
+        Ask { input: (0..len).map(|_| digit()).collect(), nesting: MOST_NESTING }
     })
 }
 
@@ -183,6 +243,7 @@ fn deep_inputs(levels: &[u32]) -> impl Iterator<Item = Ask> {
 }
 
 /// Beyond a limit of document 01: more bytes than are read.
+#[cfg(carried)]
 fn large_inputs() -> impl Iterator<Item = Ask> {
     let too_long = vec![b'N'; MOST_BYTES as usize + 1];
     [Ask { input: too_long, nesting: MOST_NESTING }].into_iter()
@@ -212,12 +273,13 @@ pub fn random_inputs(seed: u64, count: usize) -> impl Iterator<Item = Ask> {
 }
 
 /// Each module as CPython marshalled it, and the same damaged.
-fn of_modules(modules: Vec<Ask>) -> impl Iterator<Item = Ask> {
-    let mut random = Random::new(9);
-    modules.into_iter().flat_map(move |ask| {
+#[cfg(carried)]
+fn of_modules(modules: &[Ask], seed: u64) -> impl Iterator<Item = Ask> {
+    let mut random = Random::new(seed);
+    modules.iter().flat_map(move |ask| {
         let mut damaged = ask.clone();
         damage(&mut random, &mut damaged.input);
-        [ask, damaged]
+        [ask.clone(), damaged]
     })
 }
 

@@ -195,6 +195,7 @@ pub mod carried_side {
     //! The Rust's answers, and the questions put to both.
     use super::{Answer, Ask, Number, Varints, WRITERS, Writer};
     use crate::random::Random;
+    use crate::shrink::smaller;
     use crate::subject::Carried;
     use carried::varint;
 
@@ -206,6 +207,17 @@ pub mod carried_side {
                     plain: read(varint::read_varint, data, *at),
                     marked: read(varint::read_varint_with_start, data, *at),
                 },
+            }
+        }
+
+        fn smaller(ask: &Ask) -> Vec<Ask> {
+            match ask {
+                Ask::Write(writer, value) => [value / 2, value.saturating_sub(1)]
+                    .into_iter()
+                    .filter(|less| less < value)
+                    .map(|less| Ask::Write(*writer, less))
+                    .collect(),
+                Ask::Read(data, at) => smaller(data).map(|data| Ask::Read(data, *at)).collect(),
             }
         }
     }
@@ -231,13 +243,18 @@ pub mod carried_side {
     /// Every value around a power of two and all strings up to three bytes; then so many random ones of each.
     pub fn asks(random: usize) -> impl Iterator<Item = Ask> {
         let strings = (0..=3).flat_map(strings_of).map(|data| Ask::Read(data, 0));
-        around_powers().chain(strings).chain(random_writes(random)).chain(random_reads(random))
+        around_powers().chain(strings).chain(random_writes(1, random)).chain(random_reads(2, random))
+    }
+
+    /// Of one round of the long form.
+    pub fn asks_of_round(round: u64, random: usize) -> impl Iterator<Item = Ask> {
+        random_writes(1000 + round, random).chain(random_reads(2000 + round, random))
     }
 
     /// A selection of the above for the list in the repository.
     pub fn asks_to_list() -> impl Iterator<Item = Ask> {
         let strings = (0..=1).flat_map(strings_of).map(|data| Ask::Read(data, 0));
-        around_powers().chain(strings).chain(random_writes(1000)).chain(random_reads(3000))
+        around_powers().chain(strings).chain(random_writes(1, 1000)).chain(random_reads(2, 3000))
     }
 
     fn around_powers() -> impl Iterator<Item = Ask> {
@@ -251,14 +268,14 @@ pub mod carried_side {
         (0..1u32 << (8 * len)).map(move |number| number.to_be_bytes()[4 - len as usize..].to_vec())
     }
 
-    fn random_writes(count: usize) -> impl Iterator<Item = Ask> {
-        let mut random = Random::new(1);
+    fn random_writes(seed: u64, count: usize) -> impl Iterator<Item = Ask> {
+        let mut random = Random::new(seed);
         (0..count).map(move |_| Ask::Write(random.one_of(&WRITERS), random.of_any_width()))
     }
 
     /// Strings in which most bytes say "more", read at any place, also beyond the end.
-    fn random_reads(count: usize) -> impl Iterator<Item = Ask> {
-        let mut random = Random::new(2);
+    fn random_reads(seed: u64, count: usize) -> impl Iterator<Item = Ask> {
+        let mut random = Random::new(seed);
         (0..count).map(move |_| {
             let len = random.below(12);
             let data = (0..len).map(|_| random.byte() | random.one_of(&[0, 0x40, 0x40, 0x80])).collect();

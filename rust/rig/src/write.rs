@@ -237,8 +237,8 @@ pub mod carried_side {
 
     /// The questions of the readers that the port reads; and those with code once more, with instructions that the Rust
     /// writes as they are.
-    pub fn asks(extent: values::Extent, modules: Vec<Ask>) -> impl Iterator<Item = Ask> {
-        twice(values::asks_of_the_writer(extent, modules))
+    pub fn asks(random: usize, modules: &[Ask]) -> impl Iterator<Item = Ask> {
+        twice(values::asks_of_the_writer(random, modules))
     }
 
     /// A selection of the above for the list in the repository.

@@ -1,0 +1,207 @@
+/* One input for libFuzzer, put to every exported function that takes bytes. Whatever is lent ends where a page begins that
+ * nobody may touch, and is just as long as it is said to be. Held besides: a refusal leaves zeros alone, an acceptance nothing
+ * past what it used; bytes appended change refusals 1 and 2 alone; what was read is written, and reads and is written as
+ * before (a code out of name order may not); a node's line table is its bytes' line table. tools/fuzz builds and runs this. */
+#include "../../include/sillgarland.h"
+#include <stdint.h>
+#include <stdio.h>
+#include <stdlib.h>
+#include <string.h>
+#include <sys/mman.h>
+
+#define NESTING 2000
+#define MOST 8192 /* bytes of input; stores have room for as many records */
+
+static void hold(int held, const char *what) {
+    if (!held) {
+        fprintf(stderr, "fuzz: %s\n", what);
+        abort();
+    }
+}
+
+/* Memory whose end is the start of a page that faults. */
+typedef struct {
+    uint8_t *end;
+} arena;
+
+static arena arena_of(size_t bytes) {
+    size_t page = 65536, whole = (bytes + page - 1) / page * page;
+    uint8_t *at = mmap(NULL, whole + 2 * page, PROT_NONE, MAP_PRIVATE | MAP_ANONYMOUS, -1, 0);
+    hold(at != MAP_FAILED && mprotect(at + page, whole, PROT_READ | PROT_WRITE) == 0, "no memory");
+    return (arena){at + page + whole};
+}
+
+static uint8_t *lend_bytes(arena *from, const uint8_t *bytes, size_t len) {
+    uint8_t *to = from->end - len;
+    if (bytes) memcpy(to, bytes, len);
+    else memset(to, 0xA5, len);
+    return to;
+}
+
+static uint32_t *lend_words(arena *from, size_t len) { return (uint32_t *)lend_bytes(from, NULL, 4 * len); }
+
+static int all_zero(const void *from, size_t bytes) {
+    const uint8_t *at = from;
+    for (size_t i = 0; i < bytes; i++)
+        if (at[i]) return 0;
+    return 1;
+}
+
+static arena inputs, nodes_a, entries_a, slots_a, outs, outs2, records_a, lists[5];
+
+typedef struct {
+    sill_read_t answer;
+    const uint8_t *input;
+    size_t len, room[3];
+    uint32_t *nodes, *entries, *slots;
+} reading;
+
+static reading read_with(const uint8_t *data, size_t len, const size_t room[3], uint32_t nesting) {
+    reading r = {.len = len, .room = {room[0], room[1], room[2]}};
+    r.input = lend_bytes(&inputs, data, len);
+    r.nodes = lend_words(&nodes_a, room[0]);
+    r.entries = lend_words(&entries_a, room[1]);
+    r.slots = lend_words(&slots_a, room[2]);
+    r.answer = sill_read(r.input, len, r.nodes, room[0], r.entries, room[1], r.slots, room[2], nesting);
+    size_t used[3] = {5 * (size_t)r.answer.nodes, 2 * (size_t)r.answer.entries, r.answer.slots};
+    for (int i = 0; i < 3; i++) {
+        uint32_t *store = i == 0 ? r.nodes : i == 1 ? r.entries : r.slots;
+        hold(used[i] <= room[i], "more is used than is lent");
+        hold(all_zero(store + used[i], 4 * (room[i] - used[i])), "a store is not zero past what is used");
+    }
+    hold(!r.answer.refusal || all_zero(used, sizeof used), "a refusal has counts");
+    hold(r.answer.refusal ? r.answer.consumed == 0 && r.answer.place <= len : r.answer.consumed <= len, "beyond the input");
+    return r;
+}
+
+static void hold_lines(const uint8_t *table, size_t len, int32_t first, uint32_t count, const sill_located_t *same) {
+    const uint8_t *at = lend_bytes(&outs2, table, len);
+    uint32_t *records = lend_words(&records_a, 4 * (size_t)count);
+    sill_located_t l = sill_locate(at, len, first, count, records, 4 * (size_t)count);
+    hold(!same || !memcmp(&l, same, sizeof l), "by node a line table is another");
+    hold(!l.refusal || (!l.from_entries && !l.whole && all_zero(records, 16 * (size_t)count)), "a refused line table");
+    hold(l.from_entries <= count && l.whole <= 1 && (!l.whole || l.from_entries == count), "instructions from entries");
+}
+
+/* The leaf of each node, the line table of each node of bytes, on stores that a reading made. */
+static void ask_nodes(const reading *r) {
+    uint32_t used = r->answer.nodes, most = used < 64 ? used : 64;
+    for (uint32_t n = 0; n <= most; n++) {
+        sill_leaf_t leaf = sill_leaf(r->input, r->len, r->nodes, r->room[0], used, n);
+        hold((leaf.refusal != 0) == (n == used), "a leaf");
+        if (n == used || r->nodes[5 * n] != 's') continue;
+        uint32_t count = r->nodes[5 * n + 2] % 64;
+        uint32_t *records = lend_words(&records_a, 4 * (size_t)count);
+        sill_located_t l =
+            sill_locate_node(r->input, r->len, r->nodes, r->room[0], used, n, 7, count, records, 4 * (size_t)count);
+        hold_lines(r->input + r->nodes[5 * n + 1], r->nodes[5 * n + 2], 7, count, &l);
+    }
+}
+
+static sill_written_t write_into(const reading *r, uint32_t root, uint32_t nesting, arena *to, size_t room, uint8_t **out) {
+    *out = lend_bytes(to, NULL, room);
+    sill_written_t w = sill_write(r->input, r->len, r->nodes, r->room[0], r->entries, r->room[1], r->answer.nodes,
+                                       r->answer.entries, root, nesting, *out, room);
+    hold(w.written <= room && all_zero(*out + w.written, room - w.written), "an output is not zero past what was written");
+    hold(!w.refusal || !w.written, "a refused writing has bytes");
+    return w;
+}
+
+/* What was read is written; what was written reads, and is written as before. Code out of name order may not read. */
+static void write_back(const reading *r) {
+    static uint8_t kept[64 * MOST];
+    uint8_t *out;
+    size_t ample = 16 * r->len + 64;
+    sill_written_t w = write_into(r, 0, NESTING, &outs, ample, &out);
+    hold(!w.refusal || w.refusal == 10 || w.refusal == 17, "what was read is not written");
+    if (w.refusal) return;
+    memcpy(kept, out, w.written);
+    sill_written_t tight = write_into(r, 0, NESTING, &outs, w.written, &out);
+    hold(!tight.refusal && !memcmp(kept, out, w.written), "in just enough room it is written otherwise");
+    sill_written_t short_of = write_into(r, 0, NESTING, &outs, w.written - 1, &out);
+    hold(short_of.refusal == 17 && short_of.place == w.written - 1, "one byte short is not 17");
+    if (w.written > MOST) return;
+    size_t room[3] = {5 * (size_t)w.written, 2 * (size_t)w.written, w.written};
+    reading again = read_with(kept, w.written, room, NESTING);
+    hold(!again.answer.refusal || again.answer.refusal == 8, "what was written does not read");
+    if (again.answer.refusal) return;
+    hold(again.answer.consumed == w.written && again.answer.slots == 0, "what was written reads otherwise");
+    sill_written_t same = write_into(&again, 0, NESTING, &outs, ample, &out);
+    int has_code = 0;
+    for (uint32_t n = 0; n < again.answer.nodes; n++) has_code |= again.nodes[5 * n] == 'c';
+    hold(!same.refusal && (has_code || !memcmp(kept, out, w.written)), "what was written is written otherwise the second time");
+}
+
+/* Stores that no reading made: the input's own bytes. */
+static void hostile(const uint8_t *data, size_t len) {
+    size_t words = len / 4, nodes = words / 2 / 5 * 5, entries = (words - nodes) / 2 * 2;
+    reading r = {.input = lend_bytes(&inputs, data, len), .len = len, .room = {nodes, entries, 0}};
+    r.nodes = lend_words(&nodes_a, nodes);
+    r.entries = lend_words(&entries_a, entries);
+    for (size_t i = 0; i < nodes; i++) r.nodes[i] = i % 5 ? data[4 * i] : data[4 * i] & 0x7F;
+    for (size_t i = 0; i < entries; i++) r.entries[i] = data[4 * (nodes + i)] % 8;
+    r.answer.nodes = nodes / 5;
+    r.answer.entries = entries / 2;
+    for (uint32_t n = 0; n <= r.answer.nodes && n < 16; n++) {
+        uint8_t *out;
+        sill_leaf(r.input, len, r.nodes, nodes, r.answer.nodes, n);
+        write_into(&r, n, 12, &outs, 512, &out);
+    }
+}
+
+static void others(const uint8_t *data, size_t len) {
+    uint32_t first, sum = 0;
+    for (size_t i = 0; i < len; i++) sum = sum * 31 + data[i];
+    memcpy(&first, len >= 4 ? data : (const uint8_t *)"\1\0\0\0", 4);
+    hold_lines(data, len, sum % 2 ? (int32_t)first : 1, sum % 300, NULL);
+    uint32_t *list[5];
+    size_t names = len < 512 ? len : 512;
+    for (int i = 0; i < 5; i++) list[i] = lend_words(&lists[i], names - (names && sum % 7 == (uint32_t)i));
+    const uint8_t *kinds = lend_bytes(&inputs, data, names);
+    size_t room[5];
+    for (int i = 0; i < 5; i++) room[i] = names - (names && sum % 7 == (uint32_t)i);
+    sill_split(kinds, names, names, sum % 5 ? sum % 9 : first, sum % 3, sum, list[0], room[0], list[1], room[1], list[2], room[2],
+               list[3], room[3], list[4], room[4]);
+    const uint8_t *bytes = lend_bytes(&inputs, data, len);
+    for (size_t at = 0; at <= len && at < 16; at++) {
+        sill_found_t found = sill_read_varint(bytes, len, at), marked = sill_read_varint_with_start(bytes, len, at);
+        hold(found.next <= len && (!marked.found || !memcmp(&found, &marked, sizeof found)), "a varint");
+    }
+}
+
+static int same_answer(sill_read_t answer, reading r) { return !memcmp(&answer, &r.answer, sizeof answer); }
+
+int LLVMFuzzerTestOneInput(const uint8_t *data, size_t len) {
+    static int made;
+    static uint8_t longer[MOST + 8];
+    if (!made++) {
+        inputs = arena_of(64 * MOST), nodes_a = arena_of(20 * MOST), entries_a = arena_of(8 * MOST), slots_a = arena_of(4 * MOST);
+        outs = arena_of(64 * MOST), outs2 = arena_of(64 * MOST), records_a = arena_of(16 * MOST);
+        for (int i = 0; i < 5; i++) lists[i] = arena_of(4 * MOST);
+    }
+    if (len > MOST - 8) return 0;
+    size_t ample[3] = {5 * len + 3, 2 * len + 1, len};
+    reading r = read_with(data, len, ample, NESTING);
+    sill_read_t plain = r.answer;
+    if (!plain.refusal) {
+        ask_nodes(&r);
+        write_back(&r);
+        size_t exact[3] = {5 * (size_t)plain.nodes, 2 * (size_t)plain.entries, plain.slots};
+        hold(same_answer(plain, read_with(data, len, exact, NESTING)), "in just enough room");
+        for (int i = 0; i < 3; i++) {
+            if (!exact[i]) continue;
+            exact[i]--;
+            hold(read_with(data, len, exact, NESTING).answer.refusal == (uint32_t[]){11, 12, 13}[i], "one short");
+            exact[i]++;
+        }
+    }
+    size_t little[3] = {len % 40, len % 9, len % 3};
+    for (uint32_t nesting = 0; nesting < 4; nesting++) read_with(data, len, little, nesting);
+    memcpy(longer, data, len);
+    memset(longer + len, 'N', 8);
+    if (plain.refusal != 1 && plain.refusal != 2)
+        hold(same_answer(plain, read_with(longer, len + 8, ample, NESTING)), "bytes appended");
+    hostile(data, len);
+    others(data, len);
+    return 0;
+}
