@@ -1,4 +1,3 @@
 pub mod Onward
 pub mod Heads
 pub mod Entry
-pub mod Leaves
