@@ -8,8 +8,8 @@ use sillgarland_sys::refusals::MOST_BYTES;
 use sillgarland_sys::refusals::MOST_NESTING;
 use std::ops::Range;
 
-/// Of the short form: every input of up to three bytes, of four over the wide alphabet, of six over sixteen symbols; and so
-/// many made by the grammar.
+/// Of the short form: every input of up to three bytes, of four over the wide alphabet, of five over twenty symbols, of six
+/// over sixteen; and so many made by the grammar.
 #[cfg(carried)]
 pub fn asks(random: usize, modules: &[Ask]) -> impl Iterator<Item = Ask> {
     let little = all_over(&WIDE, 4).step_by(37).enumerate().map(|(i, ask)| Ask { nesting: 1 + i as u32 % 4, ..ask });
@@ -18,6 +18,7 @@ pub fn asks(random: usize, modules: &[Ask]) -> impl Iterator<Item = Ask> {
         .chain(short_inputs())
         .chain(all_over(&WIDE, 4))
         .chain(little)
+        .chain(all_over(&NARROW, 5))
         .chain(all_over(&NARROW[..16], 6))
         .chain(deep_inputs(&[1990, 1999, 2000, 2001]))
         .chain(large_inputs())
