@@ -4,22 +4,11 @@ use crate::lent::Part;
 use crate::random::Random;
 use crate::reading::{ample, read};
 use crate::tally::Tally;
-use crate::text::{hex, numbers};
 use crate::values::random_inputs;
 use crate::write_model::{self as model, Refused, Store};
 use crate::write_same::hold_back;
-use crate::writing::Source;
+use crate::writing::{Case, Source};
 use sillgarland_sys::refusals::{self, NOTHING};
-
-/// Stores and the question put to them.
-struct Case {
-    input: Vec<u8>,
-    nodes: Vec<u32>,
-    entries: Vec<u32>,
-    used: [u32; 2],
-    root: u32,
-    nesting: u32,
-}
 
 pub fn hold(seed: u64, count: usize) -> bool {
     let mut tally = Tally::new("hostile stores");
@@ -217,10 +206,6 @@ fn has_code(store: &Store) -> bool {
 }
 
 impl Case {
-    fn store(&self) -> Store<'_> {
-        Store { input: &self.input, nodes: &self.nodes, entries: &self.entries, used: self.used }
-    }
-
     fn answer(&self, room: usize) -> Held {
         self.answer_from(&Source::new(&self.store()), room)
     }
@@ -228,12 +213,5 @@ impl Case {
     fn answer_from(&self, source: &Source, room: usize) -> Held {
         let (class, held) = hold_one(source, (self.root, self.nesting, room));
         (class, held.map_err(|fault| format!("{}; {fault}", self.row(room))))
-    }
-
-    /// As a line of tests/vectors/write.txt.
-    fn row(&self, capacity: usize) -> String {
-        let Self { input, nodes, entries, used, root, nesting } = self;
-        let stores = [hex(input), numbers(nodes), numbers(entries), numbers(used)].join(" ");
-        format!("write {stores} {root} {nesting} {capacity}")
     }
 }

@@ -174,18 +174,7 @@ impl Held<'_> {
 
     /// A long beyond 64 bits: its digits lie in the input.
     fn show_wide(&self, text: &mut Text, node: &Node) {
-        let (mut magnitude, mut held, mut bits) = (Vec::new(), 0u32, 0);
-        for digit in self.contents(node)[4..].chunks(2) {
-            held |= u32::from(u16::from_le_bytes([digit[0], digit[1]])) << bits;
-            bits += 15;
-            while bits >= 8 {
-                magnitude.push(held as u8);
-                held >>= 8;
-                bits -= 8;
-            }
-        }
-        magnitude.push(held as u8);
-        text.whole(self.long_count(node) < 0, &magnitude);
+        text.whole(self.long_count(node) < 0, &of_digits(&self.contents(node)[4..]));
     }
 
     fn show_other(&self, text: &mut Text, node: &Node, shown: Shown) -> Result<(), Fault> {
@@ -274,4 +263,20 @@ impl Held<'_> {
         };
         Ok(place - field - 1)
     }
+}
+
+/// The magnitude of a long's digits of 15 bits, as bytes, the least first.
+pub fn of_digits(digits: &[u8]) -> Vec<u8> {
+    let (mut magnitude, mut held, mut bits) = (Vec::new(), 0u32, 0);
+    for digit in digits.chunks(2) {
+        held |= u32::from(u16::from_le_bytes([digit[0], digit[1]])) << bits;
+        bits += 15;
+        while bits >= 8 {
+            magnitude.push(held as u8);
+            held >>= 8;
+            bits -= 8;
+        }
+    }
+    magnitude.push(held as u8);
+    magnitude
 }

@@ -4,10 +4,10 @@ use crate::lent::Part;
 use crate::read::Ask;
 use crate::reading::{ample, read};
 use crate::subject::Subject;
-use crate::text::{hex, numbers, of_hex, of_numbers};
-use crate::write_model::{self as model, Refused, Store};
+use crate::text::{hex, of_hex, of_numbers};
+use crate::write_model::{self as model, Refused};
 use crate::write_same::{Back, expected_back, hold_back};
-use crate::writing::{Source, no_room};
+use crate::writing::{Case, Source, no_room};
 use sillgarland_sys::refusals::{ACCEPTED, MOST_NESTING};
 
 /// Which side of document 01's domain of comparison a value is on, and what of it the Rust's writer keeps.
@@ -120,12 +120,7 @@ fn hold_nestings(source: &Source, nesting: u32, len: usize) -> Result<(), String
 }
 
 pub struct StoresAsk {
-    input: Vec<u8>,
-    nodes: Vec<u32>,
-    entries: Vec<u32>,
-    used: [u32; 2],
-    root: u32,
-    nesting: u32,
+    case: Case,
     capacity: usize,
 }
 
@@ -149,19 +144,17 @@ impl Subject for WriteStores {
     }
 
     fn check(ask: &StoresAsk, answer: &Self::Answer) -> Result<(), String> {
-        let StoresAsk { input, nodes, entries, used, root, nesting, capacity } = ask;
-        let store = Store { input, nodes, entries, used: *used };
-        let ours = model::write(&store, *root, *nesting, *capacity);
+        let StoresAsk { case, capacity } = ask;
+        let ours = model::write(&case.store(), case.root, case.nesting, *capacity);
         if ours != *answer {
             return Err(format!("our own model: {ours:?}"));
         }
-        Source::new(&store).hold((*root, *nesting, *capacity), answer.as_deref().map_err(|refused| *refused))
+        let asked = (case.root, case.nesting, *capacity);
+        Source::new(&case.store()).hold(asked, answer.as_deref().map_err(|refused| *refused))
     }
 
     fn row(ask: &StoresAsk, answer: &Self::Answer) -> String {
-        let StoresAsk { input, nodes, entries, used, root, nesting, capacity } = ask;
-        let stores = [hex(input), numbers(nodes), numbers(entries), numbers(used)].join(" ");
-        let asked = format!("write {stores} {root} {nesting} {capacity}");
+        let asked = ask.case.row(ask.capacity);
         match answer {
             Ok(bytes) => format!("{asked} {}", hex(bytes)),
             Err(Refused { number, place }) => format!("{asked} refused {number} {place}"),
@@ -174,15 +167,15 @@ impl Subject for WriteStores {
         else {
             return None;
         };
-        let ask = StoresAsk {
+        let case = Case {
             input: of_hex(input)?,
             nodes: of_numbers(nodes)?,
             entries: of_numbers(entries)?,
             used: of_numbers(used)?.try_into().ok()?,
             root: root.parse().ok()?,
             nesting: nesting.parse().ok()?,
-            capacity: capacity.parse().ok()?,
         };
+        let ask = StoresAsk { case, capacity: capacity.parse().ok()? };
         let answer = match rest {
             ["refused", number, place] => Err(Refused { number: number.parse().ok()?, place: place.parse().ok()? }),
             [bytes] => Ok(of_hex(bytes)?),

@@ -1,7 +1,7 @@
 //! What was written, read again: the same value as 01 has it, down to the names of codes that are out of name order; and
 //! written again, the same bytes.
 use crate::lent::Part;
-use crate::reading::{ample, read};
+use crate::reading::{ample, of_digits, read};
 use crate::write_model::{Node, Store};
 use crate::writing::Source;
 use sillgarland_sys::refusals::{ACCEPTED, INVALID_BYTECODE, MOST_BYTES, MOST_NESTING};
@@ -123,21 +123,6 @@ fn whole(contents: &[u8], letter: u8) -> (bool, Vec<u8>) {
         magnitude.pop();
     }
     (negative && !magnitude.is_empty(), magnitude)
-}
-
-fn of_digits(digits: &[u8]) -> Vec<u8> {
-    let (mut magnitude, mut held, mut bits) = (Vec::new(), 0u32, 0);
-    for digit in digits.chunks(2) {
-        held |= u32::from(u16::from_le_bytes([digit[0], digit[1]])) << bits;
-        bits += 15;
-        while bits >= 8 {
-            magnitude.push(held as u8);
-            held >>= 8;
-            bits -= 8;
-        }
-    }
-    magnitude.push(held as u8);
-    magnitude
 }
 
 fn of_twos_complement(contents: &[u8], negative: bool) -> Vec<u8> {

@@ -1,6 +1,7 @@
 //! A writing by the port: input and stores as it is lent them, the answer, and the output it was lent.
 use crate::lent::{Lent, Part};
 use crate::reading::Reading;
+use crate::text::{hex, numbers};
 use crate::write_model::{Refused, Store};
 use sillgarland_sys::{self as sys, Written, refusals};
 
@@ -76,4 +77,27 @@ impl Source {
 
 pub fn no_room(capacity: usize) -> Refused {
     Refused { number: refusals::NO_ROOM, place: capacity as u32 }
+}
+
+/// Stores and the question put to them.
+pub struct Case {
+    pub input: Vec<u8>,
+    pub nodes: Vec<u32>,
+    pub entries: Vec<u32>,
+    pub used: [u32; 2],
+    pub root: u32,
+    pub nesting: u32,
+}
+
+impl Case {
+    pub fn store(&self) -> Store<'_> {
+        Store { input: &self.input, nodes: &self.nodes, entries: &self.entries, used: self.used }
+    }
+
+    /// As a line of tests/vectors/write.txt begins.
+    pub fn row(&self, capacity: usize) -> String {
+        let Self { input, nodes, entries, used, root, nesting } = self;
+        let stores = [hex(input), numbers(nodes), numbers(entries), numbers(used)].join(" ");
+        format!("write {stores} {root} {nesting} {capacity}")
+    }
 }
