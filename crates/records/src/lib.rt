@@ -89,7 +89,7 @@ fn read_again(s: &[u8], node: Node, class: u32) -> bool
 }
 
 // A string's contents, at its place.
-fn well_formed(s: &[u8], place: u32, size: u32) -> bool
+pub fn well_formed(s: &[u8], place: u32, size: u32) -> bool
     requires { ⌜ (place + size ≤ length (now s)) × (length (now s) ≤ mostBytes) ⌝ }
     ensures { λ r. ⌜ r ≡ wellFormed (Fields.contents (now (s .entry)) place size) ⌝ }
 {

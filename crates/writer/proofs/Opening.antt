@@ -67,7 +67,7 @@ module _ (nodes : List ℕ) (used a n : ℕ) where
 
 -- A node by its levels and its record.
 
-abbrev partsBy : Tables → (allowance node : ℕ) → ℕ → List ℕ → Writing
+abbrev pub partsBy : Tables → (allowance node : ℕ) → ℕ → List ℕ → Writing
 partsBy t zero n = noParts n
 partsBy t (suc zero) n = noParts n
 partsBy t (suc (suc a)) n = parted t a (writing a t)
@@ -88,7 +88,7 @@ writing-looked t (suc (suc a)) n h =
     let z : suc a ≡ suc (suc a) - 1 = omega arith in
     ap (λ k. looked (writing k t) (parted t a (writing a t)) t n (look t n)) z
 
-writing-holds : (t : Tables) (a n : ℕ) → false ≡ outOfLevels t a n → (kids : List ℕ) → look t n ≡ holds kids
+pub writing-holds : (t : Tables) (a n : ℕ) → false ≡ outOfLevels t a n → (kids : List ℕ) → look t n ≡ holds kids
     → writing a t n ≡ shaped (writing (a - 1) t) (partsBy t a n) (classed (t .input) (nodeOf t n) kids (classOf (nodeOf t n .letter)))
 unfolding shapeOf
 writing-holds t a n h kids e = writing-looked t a n h ∙ ap (looked (writing (a - 1) t) (partsBy t a n) t n) e

@@ -1,3 +1,4 @@
 pub mod Onward
 pub mod Heads
 pub mod Entry
+pub mod Leaves

@@ -5,7 +5,7 @@ ghost use mathlib.Core.Bool.{true, cond};
 ghost use mathlib.Core.Option.{none};
 ghost use mathlib.Core.List.{_∷_};
 ghost use lib.Dec.{eqb};
-ghost use Prim.Native.Nat.{_+_, _≤_, _<_, min};
+ghost use Prim.Native.Nat.{_+_, _-_, _≤_, _<_, min};
 ghost use lib.ListN.{length};
 ghost use Rattle.refusals.specs.Limits.{mostBytes};
 ghost use Rattle.grammar.specs.Steps.{asNames};
@@ -23,6 +23,7 @@ ghost use Rattle.tables.specs.Looking.{lent, isSome, stringAt, Held};
 ghost use Rattle.tables.specs.Groups.{inGroup, groupIn, localsIn, kindsIn, namesIn, Listed};
 ghost use Rattle.writing.specs.Answer.{mostOutput, written};
 ghost use Rattle.writer.specs.Entry.{tablesOf, Serialized};
+ghost use Rattle.writer.specs.Leaves.{textIf, ledOf, LeafIs, Leaves, Leads, Rows};
 ghost use Rattle.writer.specs.Heads.{kidsFrom, Localed, wholeOf, rowOf, pairsOf, partsOf, Fronts, Heads, Levels, PartIn, linedPart, Coded, rowOfNode, lineOf};
 
 // What stands in front of a node's children: it is refused, or whole already; or its children, a dict's pairs, or a code's parts come next.
@@ -401,6 +402,146 @@ fn open_node(
     write_front(s, out, n, fields::class_of(n.letter), at)
 }
 
+// How a node without children is written, if it is of a common kind and its record is sound.
+pub enum Leaf {
+    Other,
+    Four,
+    Bytes,
+    Text,
+}
+
+// Whether the contents of a string are well formed.
+fn text_if(formed: bool) -> Leaf
+    ensures { λ r. ⌜ r ≡ textIf formed ⌝ }
+{
+    if formed { Leaf::Text } else { Leaf::Other }
+}
+
+fn leaf_of(s: &[u8], n: records::Node) -> Leaf
+    requires { ⌜ length (now s) ≤ mostBytes ⌝ }
+    ensures { λ r. ⌜ LeafIs (now (s .entry)) (nodeOf n) r ⌝ }
+{
+    if n.count != 0 {
+        return Leaf::Other;
+    }
+    if s.len() < n.place as usize + n.size as usize {
+        return Leaf::Other;
+    }
+    match fields::class_of(n.letter) {
+        fields::FIXED4 => {
+            if n.size != 4 {
+                return Leaf::Other;
+            }
+            Leaf::Four
+        }
+        fields::BYTES => Leaf::Bytes,
+        fields::TEXT => text_if(records::well_formed(s, n.place, n.size)),
+        fields::SHORT => {
+            if 255 < n.size {
+                return Leaf::Other;
+            }
+            text_if(records::well_formed(s, n.place, n.size))
+        }
+        _ => Leaf::Other,
+    }
+}
+
+// The same of a node of the stores that has a level left.
+fn leaf_at(s: &[u8], nodes: &[u32], used: tables::Used, allowance: u32, node: u32) -> Leaf
+    requires { ⌜ length (now s) ≤ mostBytes ⌝ }
+    ensures { λ r. ⌜ Leaves (now (s .entry)) (now (nodes .entry)) used allowance node r ⌝ }
+{
+    if allowance == 0 {
+        return Leaf::Other;
+    }
+    if records::nodes_in(nodes, used.nodes) <= node {
+        return Leaf::Other;
+    }
+    leaf_of(s, records::node_at(nodes, node))
+}
+
+// Where a leaf ends, or why it is refused; or it is no such leaf, and nothing is written.
+pub enum Led {
+    On(u32),
+    Refused(u32, u32),
+    Left,
+}
+
+fn led_by(wrote: puts::Wrote) -> Led
+    ensures { λ r. ⌜ r ≡ ledOf wrote ⌝ }
+{
+    match wrote {
+        puts::Wrote::Done(a) => Led::On(a),
+        puts::Wrote::Refused(number, place) => Led::Refused(number, place),
+    }
+}
+
+// A node that is a leaf of a common kind.
+fn write_leaf(
+    s: &[u8],
+    nodes: &[u32],
+    out: &mut [u8],
+    used: tables::Used,
+    allowance: u32,
+    node: u32,
+    at: u32,
+) -> Led
+    requires { ⌜ Open at (now out) × (length (now s) ≤ mostBytes) ⌝ }
+    ensures { λ r. ⌜ Leads (now (s .entry)) (now (nodes .entry)) used allowance node at (now (out .entry)) r (now (out .exit)) ⌝ }
+{
+    let n = tables::node_at(nodes, node);
+    match leaf_at(s, nodes, used, allowance, node) {
+        Leaf::Other => Led::Left,
+        Leaf::Four => led_by(puts::write_slice(out, at, 0x69, s, n.place, 4)),
+        Leaf::Bytes => led_by(puts::write_vec(out, at, 0x73, s, n.place, n.size)),
+        Leaf::Text => led_by(puts::write_vec(out, at, 0x75, s, n.place, n.size)),
+    }
+}
+
+// How far a row of children is written: the entry that comes next, how many are done, and the place behind them.
+pub enum Rowed {
+    On(u32, u32, u32),
+    Refused(u32, u32),
+}
+
+// The leaves of common kinds that come next in a row. What comes behind them is left to `write_value`.
+fn write_leaves(
+    s: &[u8],
+    nodes: &[u32],
+    entries: &[u32],
+    out: &mut [u8],
+    used: tables::Used,
+    allowance: u32,
+    count: u32,
+    first: u32,
+    done: u32,
+    at: u32,
+) -> Rowed
+    requires { ⌜ Open at (now out) × (length (now s) ≤ mostBytes) × (done ≤ count) × (isSome (Record.chain (lent (now s) (now nodes) (now entries) used) (count - done) first) ≡ true) ⌝ }
+    ensures { λ r. ⌜ Rows (lent (now (s .entry)) (now (nodes .entry)) (now (entries .entry)) used) allowance count first done at (now (out .entry)) r (now (out .exit)) ⌝ }
+{
+    let mut e = first;
+    let mut i = done;
+    let mut p = at;
+    while i < count {
+        let child = tables::child(entries, e);
+        match write_leaf(s, nodes, out, used, allowance, child, p) {
+            Led::Left => {
+                return Rowed::On(e, i, p);
+            }
+            Led::Refused(number, place) => {
+                return Rowed::Refused(number, place);
+            }
+            Led::On(a) => {
+                p = a;
+            }
+        }
+        e = tables::next(entries, e);
+        i += 1;
+    }
+    Rowed::On(e, i, p)
+}
+
 // A first line of 0 or less is written as 0.
 fn shown(line: u32) -> u32
     ensures { λ r. ⌜ r ≡ shownLine line ⌝ }
@@ -465,20 +606,29 @@ fn write_children(
     let mut e = n.first;
     let mut i = 0u32;
     let mut p = at;
-    while i < count {
-        let child = tables::child(entries, e);
-        match write_value(s, nodes, entries, out, used, allowance, child, p) {
-            puts::Wrote::Refused(number, place) => {
+    loop {
+        match write_leaves(s, nodes, entries, out, used, allowance, count, e, i, p) {
+            Rowed::Refused(number, place) => {
                 return puts::Wrote::Refused(number, place);
             }
-            puts::Wrote::Done(a) => {
-                p = a;
+            Rowed::On(here, done, a) => {
+                if count <= done {
+                    return puts::Wrote::Done(a);
+                }
+                let child = tables::child(entries, here);
+                match write_value(s, nodes, entries, out, used, allowance, child, a) {
+                    puts::Wrote::Refused(number, place) => {
+                        return puts::Wrote::Refused(number, place);
+                    }
+                    puts::Wrote::Done(b) => {
+                        p = b;
+                    }
+                }
+                e = tables::next(entries, here);
+                i = done + 1;
             }
         }
-        e = tables::next(entries, e);
-        i += 1;
     }
-    puts::Wrote::Done(p)
 }
 
 // A part of a code: as any value is, as names, as local names, or as a code string; the first line comes before the ninth.

@@ -24,6 +24,7 @@ use Rattle.tables.proofs.node_at.Reads as node-at
 use Rattle.tables.proofs.part_at.Reads as part-at
 use Rattle.writer.proofs.open_node.Reads as open-node
 use Rattle.writer.proofs.shown.Reads as shown
+use Rattle.writer.proofs.write_leaves.Reads as write-leaves
 use Rattle.writer.proofs.write_locals.Reads as write-locals
 use Rattle.writer.proofs.write_marshal_name_tuple.Reads as write-marshal-name-tuple
 use Rattle.writer.proofs.write_string.Reads as write-string
@@ -66,7 +67,7 @@ abbrev pub write-value-below : ℕ → In 4 write-value-kinds.ps
 write-value-below m = and 4 write-value-kinds.ps (falls 4 write-value-kinds.ps _<_ μ-write-value m) write-value.Pre
 
 abbrev pub write-children-calls : ℕ → write-children-lts.Claims
-write-children-calls m = (node-at.Asked, node-at.Learnt, child.Asked, child.Learnt, write-value-below m, write-value.Post, next.Asked, next.Learnt)
+write-children-calls m = (node-at.Asked, node-at.Learnt, write-leaves.Asked, write-leaves.Learnt, child.Asked, child.Learnt, write-value-below m, write-value.Post, next.Asked, next.Learnt)
 
 abbrev pub write-part-calls : ℕ → write-part-lts.Claims
 write-part-calls m = (write-marshal-name-tuple.Asked, write-marshal-name-tuple.Learnt, write-locals.Asked, write-locals.Learnt, write-string.Asked, write-string.Learnt, shown.Asked, shown.Learnt, write-u32.Asked, write-u32.Learnt, write-value-below m, write-value.Post)

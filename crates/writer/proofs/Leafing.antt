@@ -1,0 +1,188 @@
+-- A leaf's tests are those of its record, and its bytes are its writing. Assumes nothing.
+use mathlib.Core.Path.{_≡_, refl, sym, ap, subst, _∙_}
+use Prim.Native.Nat.{ℕ, zero, suc, _+_, _-_, _≤_, _<_}
+use native.Mathlib.Omega.{arith}
+use mathlib.Core.Bool.{Bool, true, false, cond, _&&_}
+use mathlib.Core.Option.{some, none}
+use mathlib.Core.List.{List, []}
+use lib.ListN.{length, getD}
+use lib.Dec.{leb, ltb, eqb}
+use borrow.Author.Tests.{lt-ltb, le-leb, eq-eqb, ne-eqb}
+use Rattle.wtf8.specs.Forms.{wellFormed}
+use Rattle.grammar.specs.Letters as letter
+use Rattle.grammar.specs.Letters.{Class, keeps, contains, codes, classOf}
+use Rattle.grammar.specs.Reading.{stops}
+use Rattle.refusals.specs.Numbers.{dataTooShort}
+use Rattle.grammar.specs.Fields.{fields, contents, span, items}
+use Rattle.grammar.specs.State.{Node, nodeAt}
+use Rattle.grammar.specs.Record.{Tables, nodeOf, nodesIn, chain, whole, sound, soundAt, ruled, readsAs}
+use Rattle.writing.specs.Writing.{Writing}
+use Rattle.writing.specs.Steps.{writing, isCode}
+use Rattle.puts.specs.declared.Wrote.{Wrote}
+use Rattle.puts.specs.declared.Wrote.the-variants as wrote
+use Rattle.puts.specs.Puts.{Puts}
+use Rattle.tables.specs.declared.Used.{Used}
+use Rattle.tables.specs.Looking.{Held, lent}
+use Rattle.tables.proofs.Codes.{only-code, code-class, look-plain}
+use Rattle.writer.specs.declared.Leaf.{Leaf}
+use Rattle.writer.specs.declared.Leaf.the-variants as leaf
+use Rattle.writer.specs.declared.Led.{Led}
+use Rattle.writer.specs.declared.Led.the-variants as led
+use Rattle.writer.specs.Leaves.{Leafed, fourOf, bytesOf, textOf, LeafIs, LeafAt, Leaves, textIf, ledOf, LeadAs, Leads}
+use Rattle.writer.specs.Heads.{outOfLevels}
+use Rattle.writer.proofs.Fronting.{as-four, as-bytes, as-text, as-short}
+use Rattle.writer.proofs.Naming.{puts-equal}
+use Rattle.writer.proofs.Opening.{partsBy, writing-holds}
+
+-- The record of each kind.
+
+module _ (s : List ℕ) (n : Node) (none-there : n .count ≡ 0) (within : n .place + n .size ≤ length s) where
+  sounds-so : {class : Class} → classOf (n .letter) ≡ class → ruled s n class ≡ true → sound s n ≡ true
+  unfolding sound
+  sounds-so is rules = ap (λ b. b && ruled s n (classOf (n .letter))) (le-leb (n .place + n .size) (length s) within) ∙ ap (ruled s n) is ∙ rules
+
+  count-so : eqb (n .count) 0 ≡ true
+  count-so = eq-eqb (n .count) 0 none-there
+
+  pub leaf-four : ((i : ℕ) → getD s i 0 < 256) → classOf (n .letter) ≡ keeps (letter.fixed 4) → n .size ≡ 4 → LeafIs s n leaf.Four
+  unfolding fields
+  leaf-four small is four = (
+    record {
+      sounds = sounds-so is rules;
+      childless = none-there;
+      no-code = λ e. apart (sym is ∙ e);
+      writes = λ f g kids. as-four s small n f g kids is there;
+    },
+    there,
+  )
+    where
+      there : n .place + 4 ≤ length s
+      there = omega arith
+
+      apart : keeps (letter.fixed 4) ≡ codes → ⊥
+      apart e = let z : _≡_ {A = ℕ} 0 1 = cc in omega arith
+
+      rules : ruled s n (keeps (letter.fixed 4)) ≡ true
+      rules =
+          ap (λ b. readsAs (cond b (span (n .place) 4 (items 0)) (stops dataTooShort (n .place))) n) (le-leb (n .place + 4) (length s) there)
+          ∙ ap (λ b. b && eqb (n .count) 0) (eq-eqb (n .size) 4 four) ∙ count-so
+
+  pub leaf-bytes : ((i : ℕ) → getD s i 0 < 256) → classOf (n .letter) ≡ contains letter.bytes → LeafIs s n leaf.Bytes
+  leaf-bytes small is = (
+    record {
+      sounds = sounds-so is (ap (λ b. b && true) count-so);
+      childless = none-there;
+      no-code = λ e. apart (sym is ∙ e);
+      writes = λ f g kids. as-bytes s small n f g kids is;
+    },
+    within,
+  )
+    where
+      apart : contains letter.bytes ≡ codes → ⊥
+      apart e = let z : _≡_ {A = ℕ} 0 1 = cc in omega arith
+
+  pub leaf-text : ((i : ℕ) → getD s i 0 < 256) → classOf (n .letter) ≡ contains letter.text → (b : Bool)
+      → b ≡ wellFormed (contents s (n .place) (n .size)) → LeafIs s n (textIf b)
+  leaf-text small is false formed = tt
+  leaf-text small is true formed = (
+    record {
+      sounds = sounds-so is (ap (λ b. b && wellFormed (contents s (n .place) (n .size))) count-so ∙ sym formed);
+      childless = none-there;
+      no-code = λ e. apart (sym is ∙ e);
+      writes = λ f g kids. as-text s small n f g kids is;
+    },
+    within,
+  )
+    where
+      apart : contains letter.text ≡ codes → ⊥
+      apart e = let z : _≡_ {A = ℕ} 0 1 = cc in omega arith
+
+  pub leaf-short : ((i : ℕ) → getD s i 0 < 256) → classOf (n .letter) ≡ contains letter.short → n .size ≤ 255 → (b : Bool)
+      → b ≡ wellFormed (contents s (n .place) (n .size)) → LeafIs s n (textIf b)
+  leaf-short small is few false formed = tt
+  leaf-short small is few true formed = (
+    record {
+      sounds =
+          sounds-so is
+          (ap (λ b. b && (leb (n .size) 255 && wellFormed (contents s (n .place) (n .size)))) count-so
+          ∙ ap (λ b. b && wellFormed (contents s (n .place) (n .size))) (le-leb (n .size) 255 few) ∙ sym formed);
+      childless = none-there;
+      no-code = λ e. apart (sym is ∙ e);
+      writes = λ f g kids. as-short s small n f g kids is;
+    },
+    within,
+  )
+    where
+      apart : contains letter.short ≡ codes → ⊥
+      apart e = let z : _≡_ {A = ℕ} 0 1 = cc in omega arith
+
+-- The writing of a leaf, with a level left.
+
+module _ (t : Tables) (n : ℕ) (below : n < nodesIn (t .nodes) (t .usedNodes)) {w : Writing} (k : Leafed (t .input) (nodeOf t n) w) where
+  no-letter : nodeOf t n .letter ≡ 0x63 → ⊥
+  no-letter e = k .no-code (code-class (nodeOf t n .letter) e)
+
+  levels-left : (a : ℕ) → 0 < a → false ≡ outOfLevels t a n
+  levels-left zero h = absurd (omega arith)
+  levels-left (suc zero) h =
+      sym (ap (λ b. b && eqb (nodeOf t n .letter) 0x63) (lt-ltb n (nodesIn (t .nodes) (t .usedNodes)) below) ∙ ne-eqb (nodeOf t n .letter) 0x63 no-letter)
+  levels-left (suc (suc a)) h = refl
+
+  no-kids : whole t n ≡ some []
+  unfolding whole soundAt chain
+  no-kids =
+      ap (λ b. cond (b && sound (t .input) (nodeOf t n)) (chain t (nodeOf t n .count) (nodeOf t n .first)) none) (lt-ltb n (nodesIn (t .nodes) (t .usedNodes)) below)
+      ∙ ap (λ b. cond b (chain t (nodeOf t n .count) (nodeOf t n .first)) none) (k .sounds)
+      ∙ ap (λ c. chain t c (nodeOf t n .first)) (k .childless)
+
+  leaf-written : (a : ℕ) → 0 < a → writing a t n ≡ w
+  leaf-written a h =
+      let held = look-plain t n [] no-kids no-letter in
+      writing-holds t a n (levels-left a h) (held .kids) (held .holds-kids)
+      ∙ k .writes (writing (a - 1) t) (partsBy t a n) (held .kids)
+
+pub leaf-held : (s nodes : List ℕ) (used : Used) (a n : ℕ) {N : Node} {r : Leaf} → 0 < a → n < nodesIn nodes (used .nodes)
+    → N ≡ nodeAt nodes n → LeafIs s N r → Leaves s nodes used a n r
+leaf-held s nodes used a n {N} {r} level below is told =
+    record { tells = λ entries. go (lent s nodes entries used) below r (subst (λ x. LeafIs s x r) is told) }
+  where
+    go : (t : Tables) → n < nodesIn (t .nodes) (t .usedNodes) → (r : Leaf) → LeafIs (t .input) (nodeOf t n) r → LeafAt t a n r
+    go t b leaf.Other k = tt
+    go t b leaf.Four k = (leaf-written t n b (k .0) a level, k .1)
+    go t b leaf.Bytes k = (leaf-written t n b (k .0) a level, k .1)
+    go t b leaf.Text k = (leaf-written t n b (k .0) a level, k .1)
+
+pub leaf-other : (s nodes : List ℕ) (used : Used) (a n : ℕ) → Leaves s nodes used a n leaf.Other
+leaf-other s nodes used a n = record { tells = λ entries. tt }
+
+-- A leaf that was written, by the numbers that were read of it.
+
+module _ {s nodes : List ℕ} {used : Used} {a n : ℕ} {N : Node} (is : N ≡ nodeAt nodes n) {r : Leaf} (told : Leaves s nodes used a n r) where
+  pub four-in : r ≡ leaf.Four → N .place + 4 ≤ length s
+  four-in e = subst (λ (m : Node). m .place + 4 ≤ length s) (sym is) (subst (LeafAt (lent s nodes [] used) a n) e (told .tells []) .1)
+
+  pub bytes-in : r ≡ leaf.Bytes → N .place + N .size ≤ length s
+  bytes-in e = subst (λ (m : Node). m .place + m .size ≤ length s) (sym is) (subst (LeafAt (lent s nodes [] used) a n) e (told .tells []) .1)
+
+  pub text-in : r ≡ leaf.Text → N .place + N .size ≤ length s
+  text-in e = subst (λ (m : Node). m .place + m .size ≤ length s) (sym is) (subst (LeafAt (lent s nodes [] used) a n) e (told .tells []) .1)
+
+  module _ {at : ℕ} {o o′ : List ℕ} {w : Wrote} {q : Led} where
+    leads : ((entries : List ℕ) → Puts (writing a (lent s nodes entries used) n) at o w o′) → q ≡ ledOf w → Leads s nodes used a n at o q o′
+    leads put e = rw e (record { same = put [] .same; tells = λ entries. go (lent s nodes entries used) w (put entries) })
+      where
+        go : (t : Tables) (w : Wrote) → Puts (writing a t n) at o w o′ → LeadAs t a n at o (ledOf w) o′
+        go t (wrote.Done p) k = k
+        go t (wrote.Refused number place) k = k
+
+    pub four-led : r ≡ leaf.Four → Puts (fourOf s N) at o w o′ → q ≡ ledOf w → Leads s nodes used a n at o q o′
+    four-led e put = leads (λ entries. puts-equal put (subst (LeafAt (lent s nodes entries used) a n) e (told .tells entries) .0 ∙ ap (fourOf s) (sym is)))
+
+    pub bytes-led : r ≡ leaf.Bytes → Puts (bytesOf s N) at o w o′ → q ≡ ledOf w → Leads s nodes used a n at o q o′
+    bytes-led e put = leads (λ entries. puts-equal put (subst (LeafAt (lent s nodes entries used) a n) e (told .tells entries) .0 ∙ ap (bytesOf s) (sym is)))
+
+    pub text-led : r ≡ leaf.Text → Puts (textOf s N) at o w o′ → q ≡ ledOf w → Leads s nodes used a n at o q o′
+    text-led e put = leads (λ entries. puts-equal put (subst (LeafAt (lent s nodes entries used) a n) e (told .tells entries) .0 ∙ ap (textOf s) (sym is)))
+
+pub left-led : {s nodes : List ℕ} {used : Used} {a n at : ℕ} {o : List ℕ} → Leads s nodes used a n at o led.Left o
+left-led = record { same = refl; tells = λ entries. refl }
