@@ -22,6 +22,7 @@ use Rattle.writing.specs.Canonical.{bytes32, bytes64, sized, integerBytes, ofBi
 use Rattle.writing.specs.Shape as shape
 use Rattle.writing.specs.Shape.{longAt, classed}
 use Rattle.writing.specs.Steps.{shaped}
+use Rattle.writing.proofs.Into.{then-ended}
 use Rattle.writing.proofs.Numbers.{word-bytes, word-below, long-bytes, two-bytes, numbers-bytes, small-positive, small-negative, not-negative, is-negative}
 use Rattle.puts.specs.declared.Wrote.{Wrote}
 use Rattle.puts.specs.declared.Wrote.the-variants as wrote
@@ -29,7 +30,7 @@ use Rattle.puts.specs.Puts.{Puts}
 use Rattle.writer.specs.declared.Opened.{Opened}
 use Rattle.writer.specs.declared.Opened.the-variants as opened
 use Rattle.writer.specs.Onward.{Onward}
-use Rattle.writer.specs.Heads.{closed, wholeOf, rowOf, pairsOf, partsOf, FrontAs, Fronts}
+use Rattle.writer.specs.Heads.{closed, wholeOf, rowOf, partsOf, FrontAs, Fronts}
 use Rattle.writer.proofs.Under.{start, left-as, refused-in, written-in}
 use Rattle.writer.proofs.Naming.{puts-equal}
 
@@ -44,27 +45,27 @@ module _ {s : List ℕ} {n : Node} {class : Class} {at : ℕ} {o o′ : List ℕ
       go (wrote.Done a) f g kids k = k
       go (wrote.Refused number place) f g kids k = k
 
+  front-closed : {w : Writing} (pairs : Bool) → at ≤ length o
+      → ((f : ℕ → Writing) (g : ℕ → List ℕ → Writing) (kids : List ℕ) → length kids ≡ n .count → shaped f g (classed s n kids class) ≡ then w (then (each f kids) (closed pairs)))
+      → Puts w at o r o′ → {q : Opened} → q ≡ rowOf pairs r → Fronts s n class at o q o′
+  front-closed {w} pairs h is put e =
+      record { tells = λ f g kids l. rw e (go f g kids (left-as (start h) (is f g kids l)) r refl) }
+    where
+      go : (f : ℕ → Writing) (g : ℕ → List ℕ → Writing) (kids : List ℕ)
+          → Onward o at (shaped f g (classed s n kids class)) o at (then w (then (each f kids) (closed pairs)))
+          → (r′ : Wrote) → r ≡ r′ → FrontAs f g s n kids class at o (rowOf pairs r′) o′
+      go f g kids k (wrote.Done a) i = written-in k put i
+      go f g kids k (wrote.Refused number place) i = refused-in (then (each f kids) (closed pairs)) k put i
+
   pub front-row : {w : Writing} → at ≤ length o
       → ((f : ℕ → Writing) (g : ℕ → List ℕ → Writing) (kids : List ℕ) → length kids ≡ n .count → shaped f g (classed s n kids class) ≡ then w (each f kids))
-      → Puts w at o r o′ → {q : Opened} → q ≡ rowOf r → Fronts s n class at o q o′
-  front-row {w} h is put e =
-      record { tells = λ f g kids l. rw e (go f g kids (left-as (start h) (is f g kids l)) r refl) }
-    where
-      go : (f : ℕ → Writing) (g : ℕ → List ℕ → Writing) (kids : List ℕ) → Onward o at (shaped f g (classed s n kids class)) o at (then w (each f kids))
-          → (r′ : Wrote) → r ≡ r′ → FrontAs f g s n kids class at o (rowOf r′) o′
-      go f g kids k (wrote.Done a) i = written-in k put i
-      go f g kids k (wrote.Refused number place) i = refused-in (each f kids) k put i
+      → Puts w at o r o′ → {q : Opened} → q ≡ rowOf false r → Fronts s n class at o q o′
+  front-row {w} h is = front-closed false h (λ f g kids l. is f g kids l ∙ ap (then w) (sym (then-ended (each f kids))))
 
   pub front-pairs : {w : Writing} → at ≤ length o
-      → ((f : ℕ → Writing) (g : ℕ → List ℕ → Writing) (kids : List ℕ) → length kids ≡ n .count → shaped f g (classed s n kids class) ≡ then w (then (each f kids) closed))
-      → Puts w at o r o′ → {q : Opened} → q ≡ pairsOf r → Fronts s n class at o q o′
-  front-pairs {w} h is put e =
-      record { tells = λ f g kids l. rw e (go f g kids (left-as (start h) (is f g kids l)) r refl) }
-    where
-      go : (f : ℕ → Writing) (g : ℕ → List ℕ → Writing) (kids : List ℕ) → Onward o at (shaped f g (classed s n kids class)) o at (then w (then (each f kids) closed))
-          → (r′ : Wrote) → r ≡ r′ → FrontAs f g s n kids class at o (pairsOf r′) o′
-      go f g kids k (wrote.Done a) i = written-in k put i
-      go f g kids k (wrote.Refused number place) i = refused-in (then (each f kids) closed) k put i
+      → ((f : ℕ → Writing) (g : ℕ → List ℕ → Writing) (kids : List ℕ) → length kids ≡ n .count → shaped f g (classed s n kids class) ≡ then w (then (each f kids) (closed true)))
+      → Puts w at o r o′ → {q : Opened} → q ≡ rowOf true r → Fronts s n class at o q o′
+  front-pairs h is = front-closed true h is
 
   pub front-parts : {w : Writing} → at ≤ length o → class ≡ codes
       → ((f : ℕ → Writing) (g : ℕ → List ℕ → Writing) (kids : List ℕ) → shaped f g (classed s n kids class) ≡ then w (g (le32 s (n .place + n .size)) kids))
@@ -235,7 +236,7 @@ module _ (s : List ℕ) (small : (i : ℕ) → getD s i 0 < 256) (n : Node) wher
     unfolding then
     as-slice e = ap own e
 
-    pub as-dict : {class : Class} → class ≡ keeps letter.dict → own class ≡ then (emit (0x7B ∷ []) ended) (then (each f kids) closed)
+    pub as-dict : {class : Class} → class ≡ keeps letter.dict → own class ≡ then (emit (0x7B ∷ []) ended) (then (each f kids) (closed true))
     unfolding then
     as-dict e = ap own e
 

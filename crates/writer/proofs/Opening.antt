@@ -148,8 +148,7 @@ open-front t a n {N} {at} {o} {o′} {b} {r} e f k is same front =
     go : (r : Opened) → FrontAs (writing (a - 1) t) (partsBy t a n) (t .input) (nodeOf t n) (k .kids) (classOf (nodeOf t n .letter)) at o r o′ → HeadAs t a n at o r o′
     go (opened.Refused number place) h = puts-equal h whole-is
     go (opened.Done p) h = puts-equal h whole-is
-    go (opened.Row p) h = (on h (ap (each (writing (a - 1) t)) (sym (row-held t n k))), some-level a (sym f ∙ e), k)
-    go (opened.Pairs p) h = (on h (ap (λ vs. then (each (writing (a - 1) t) vs) closed) (sym (row-held t n k))), some-level a (sym f ∙ e), k)
+    go (opened.Row p pairs) h = (on h (ap (λ vs. then (each (writing (a - 1) t) vs) (closed pairs)) (sym (row-held t n k))), some-level a (sym f ∙ e), k)
     go (opened.Parts p) h =
         let c = held-code t n k (h .1) in
         let two = two-levels t a n (sym f ∙ e) c in (

@@ -31,9 +31,10 @@ use Rattle.writer.specs.declared.Opened.the-variants as opened
 abbrev pub kidsFrom : Tables → (count first : ℕ) → List ℕ
 kidsFrom t count first = orNone (chain t count first)
 
--- a dict's closing byte, which comes where it stands
-abbrev pub closed : Writing
-closed = emit (0x30 ∷ []) ended
+-- what stands behind a row: of pairs, a dict's closing byte, which comes where it stands
+abbrev pub closed : (pairs : Bool) → Writing
+closed true = emit (0x30 ∷ []) ended
+closed false = ended
 
 -- local names and their kinds, as a code has tested them
 pub record Localed (t : Tables) (kinds node : ℕ) : Type 0 where
@@ -46,13 +47,9 @@ abbrev pub wholeOf : Wrote → Opened
 wholeOf (wrote.Done a) = opened.Done a
 wholeOf (wrote.Refused number place) = opened.Refused number place
 
-abbrev pub rowOf : Wrote → Opened
-rowOf (wrote.Done a) = opened.Row a
-rowOf (wrote.Refused number place) = opened.Refused number place
-
-abbrev pub pairsOf : Wrote → Opened
-pairsOf (wrote.Done a) = opened.Pairs a
-pairsOf (wrote.Refused number place) = opened.Refused number place
+abbrev pub rowOf : Bool → Wrote → Opened
+rowOf pairs (wrote.Done a) = opened.Row a pairs
+rowOf pairs (wrote.Refused number place) = opened.Refused number place
 
 abbrev pub partsOf : Wrote → Opened
 partsOf (wrote.Done a) = opened.Parts a
@@ -62,8 +59,7 @@ partsOf (wrote.Refused number place) = opened.Refused number place
 abbrev pub FrontAs : (f : ℕ → Writing) (g : ℕ → List ℕ → Writing) → (s : List ℕ) → Node → List ℕ → Class → (at : ℕ) → (before : List ℕ) → Opened → (after : List ℕ) → Type 0
 FrontAs f g s n kids class at o (opened.Refused number place) o′ = Puts (shaped f g (classed s n kids class)) at o (wrote.Refused number place) o′
 FrontAs f g s n kids class at o (opened.Done a) o′ = Puts (shaped f g (classed s n kids class)) at o (wrote.Done a) o′
-FrontAs f g s n kids class at o (opened.Row a) o′ = Onward o at (shaped f g (classed s n kids class)) o′ a (each f kids)
-FrontAs f g s n kids class at o (opened.Pairs a) o′ = Onward o at (shaped f g (classed s n kids class)) o′ a (then (each f kids) closed)
+FrontAs f g s n kids class at o (opened.Row a pairs) o′ = Onward o at (shaped f g (classed s n kids class)) o′ a (then (each f kids) (closed pairs))
 FrontAs f g s n kids class at o (opened.Parts a) o′ = Onward o at (shaped f g (classed s n kids class)) o′ a (g (le32 s (n .place + n .size)) kids) × (class ≡ codes)
 
 pub record Fronts (s : List ℕ) (n : Node) (class : Class) (at : ℕ) (o : List ℕ) (r : Opened) (o′ : List ℕ) : Type 0 where
@@ -81,12 +77,12 @@ pub record Coded (t : Tables) (n : ℕ) : Type 0 where
   pub code : classOf (nodeOf t n .letter) ≡ codes
   pub held : Held t n
 
--- A node that is opened: refused, whole, or with its children, its pairs or its parts still to come.
+-- A node that is opened: refused, whole, or with its row or its parts still to come.
 abbrev pub HeadAs : Tables → (allowance node at : ℕ) → (before : List ℕ) → Opened → (after : List ℕ) → Type 0
 HeadAs t a n at o (opened.Refused number place) o′ = Puts (writing a t n) at o (wrote.Refused number place) o′
 HeadAs t a n at o (opened.Done p) o′ = Puts (writing a t n) at o (wrote.Done p) o′
-HeadAs t a n at o (opened.Row p) o′ = Onward o at (writing a t n) o′ p (each (writing (a - 1) t) (rowOfNode t n)) × (1 ≤ a) × Held t n
-HeadAs t a n at o (opened.Pairs p) o′ = Onward o at (writing a t n) o′ p (then (each (writing (a - 1) t) (rowOfNode t n)) closed) × (1 ≤ a) × Held t n
+HeadAs t a n at o (opened.Row p pairs) o′ =
+    Onward o at (writing a t n) o′ p (then (each (writing (a - 1) t) (rowOfNode t n)) (closed pairs)) × (1 ≤ a) × Held t n
 HeadAs t a n at o (opened.Parts p) o′ =
     Onward o at (writing a t n) o′ p (parted t (a - 2) (writing (a - 2) t) (lineOf t n) (rowOfNode t n)) × (2 ≤ a) × Coded t n
 

@@ -24,14 +24,13 @@ ghost use Rattle.tables.specs.Groups.{inGroup, groupIn, localsIn, kindsIn, name
 ghost use Rattle.writing.specs.Answer.{mostOutput, written};
 ghost use Rattle.writer.specs.Entry.{tablesOf, Serialized};
 ghost use Rattle.writer.specs.Leaves.{textIf, ledOf, LeafIs, Leaves, Leads, Rows};
-ghost use Rattle.writer.specs.Heads.{kidsFrom, Localed, wholeOf, rowOf, pairsOf, partsOf, Fronts, Heads, Levels, PartIn, linedPart, Coded, rowOfNode, lineOf};
+ghost use Rattle.writer.specs.Heads.{kidsFrom, Localed, closed, wholeOf, rowOf, partsOf, Fronts, Heads, Levels, PartIn, linedPart, Coded, rowOfNode, lineOf};
 
-// What stands in front of a node's children: it is refused, or whole already; or its children, a dict's pairs, or a code's parts come next.
+// What stands in front of a node's children: it is refused, or whole already; or its row comes next, of a dict's pairs or not; or a code's parts do.
 pub enum Opened {
     Refused(u32, u32),
     Done(u32),
-    Row(u32),
-    Pairs(u32),
+    Row(u32, bool),
     Parts(u32),
 }
 
@@ -301,20 +300,11 @@ fn whole(wrote: puts::Wrote) -> Opened
     }
 }
 
-fn with_row(wrote: puts::Wrote) -> Opened
-    ensures { λ r. ⌜ r ≡ rowOf wrote ⌝ }
+fn with_row(wrote: puts::Wrote, pairs: bool) -> Opened
+    ensures { λ r. ⌜ r ≡ rowOf pairs wrote ⌝ }
 {
     match wrote {
-        puts::Wrote::Done(a) => Opened::Row(a),
-        puts::Wrote::Refused(number, place) => Opened::Refused(number, place),
-    }
-}
-
-fn with_pairs(wrote: puts::Wrote) -> Opened
-    ensures { λ r. ⌜ r ≡ pairsOf wrote ⌝ }
-{
-    match wrote {
-        puts::Wrote::Done(a) => Opened::Pairs(a),
+        puts::Wrote::Done(a) => Opened::Row(a, pairs),
         puts::Wrote::Refused(number, place) => Opened::Refused(number, place),
     }
 }
@@ -350,10 +340,10 @@ fn write_front(s: &[u8], out: &mut [u8], n: records::Node, class: u32, at: u32) 
         fields::FIXED8 => whole(write_eight(s, out, n.letter, n.place, at)),
         fields::DOUBLE => whole(puts::write_slice(out, at, 0x79, s, n.place, 16)),
         fields::LONG => whole(puts::write_pylong(out, at, s, n.place, n.size)),
-        fields::SEQUENCE => with_row(puts::write_len(out, at, n.letter as u8, n.count)),
-        fields::FEW => with_row(puts::write_len(out, at, 0x28, n.count)),
-        fields::SLICE => with_row(puts::write_u8(out, at, 0x3A)),
-        fields::DICT => with_pairs(puts::write_u8(out, at, 0x7B)),
+        fields::SEQUENCE => with_row(puts::write_len(out, at, n.letter as u8, n.count), false),
+        fields::FEW => with_row(puts::write_len(out, at, 0x28, n.count), false),
+        fields::SLICE => with_row(puts::write_u8(out, at, 0x3A), false),
+        fields::DICT => with_row(puts::write_u8(out, at, 0x7B), true),
         fields::BYTES => whole(puts::write_vec(out, at, 0x73, s, n.place, n.size)),
         fields::TEXT => whole(puts::write_vec(out, at, 0x75, s, n.place, n.size)),
         fields::SHORT => whole(puts::write_vec(out, at, 0x75, s, n.place, n.size)),
@@ -552,6 +542,17 @@ fn shown(line: u32) -> u32
     0
 }
 
+// What stands behind a row.
+fn close_row(out: &mut [u8], at: u32, pairs: bool) -> puts::Wrote
+    requires { ⌜ Open at (now out) ⌝ }
+    ensures { λ r. ⌜ Puts (closed pairs) at (now (out .entry)) r (now (out .exit)) ⌝ }
+{
+    if pairs {
+        return puts::write_u8(out, at, 0x30);
+    }
+    puts::Wrote::Done(at)
+}
+
 // A value.
 fn write_value(
     s: &[u8],
@@ -569,8 +570,7 @@ fn write_value(
     match open_node(s, nodes, entries, out, used, allowance, node, at) {
         Opened::Refused(number, place) => puts::Wrote::Refused(number, place),
         Opened::Done(a) => puts::Wrote::Done(a),
-        Opened::Row(a) => write_children(s, nodes, entries, out, used, allowance - 1, node, a),
-        Opened::Pairs(a) => match write_children(
+        Opened::Row(a, pairs) => match write_children(
             s,
             nodes,
             entries,
@@ -581,7 +581,7 @@ fn write_value(
             a,
         ) {
             puts::Wrote::Refused(number, place) => puts::Wrote::Refused(number, place),
-            puts::Wrote::Done(b) => puts::write_u8(out, b, 0x30),
+            puts::Wrote::Done(b) => close_row(out, b, pairs),
         },
         Opened::Parts(a) => write_parts(s, nodes, entries, out, used, allowance - 2, node, a),
     }

@@ -74,8 +74,8 @@ with-row-requires-3 c κs = search needs
 write-u8-requires-3 : tie.Need-write-u8-requires-3
 write-u8-requires-3 c κs = search needs
 
-with-pairs-requires : tie.Need-with-pairs-requires
-with-pairs-requires c κs = search needs
+with-row-requires-4 : tie.Need-with-row-requires-4
+with-row-requires-4 c κs = search needs
 
 write-vec-requires : tie.Need-write-vec-requires
 write-vec-requires c κs = (c .before .before .before .before .pre .0, sound-within (c .before .before .before .before .args .s .now) (nodeOf (c .before .before .before .before .args .n)) (c .before .before .before .before .pre .2))
@@ -162,7 +162,7 @@ same-length-9 c = search needs
 
 returns-9 : tie.Need-returns-9
 unfolding classAt classes
-returns-9 c = front-pairs (c .before .before .before .before .before .before .before .before .pre .0 .inside) (λ f g kids l. as-dict (c .before .before .before .before .before .before .before .before .args .s .now) (λ i. omega (arith, c .before .before .before .before .before .before .before .shared-slice-known .given i)) (nodeOf (c .before .before .before .before .before .before .before .before .args .n)) f g kids (sym (c .before .before .before .before .before .before .before .before .pre .3) ∙ ap classAt (c .before .before .before .before .before .match .keys9))) (c .before .before .before .write-u83 .ensures) (c .with-pairs .ensures)
+returns-9 c = front-pairs (c .before .before .before .before .before .before .before .before .pre .0 .inside) (λ f g kids l. as-dict (c .before .before .before .before .before .before .before .before .args .s .now) (λ i. omega (arith, c .before .before .before .before .before .before .before .shared-slice-known .given i)) (nodeOf (c .before .before .before .before .before .before .before .before .args .n)) f g kids (sym (c .before .before .before .before .before .before .before .before .pre .3) ∙ ap classAt (c .before .before .before .before .before .match .keys9))) (c .before .before .before .write-u83 .ensures) (c .with-row4 .ensures)
 
 same-length-10 : tie.Need-same-length-10
 same-length-10 c = search needs
@@ -214,7 +214,7 @@ write-front-spec =
     write-u8-requires-2
     with-row-requires-3
     write-u8-requires-3
-    with-pairs-requires
+    with-row-requires-4
     write-vec-requires
     whole-requires-6
     write-vec-requires-2

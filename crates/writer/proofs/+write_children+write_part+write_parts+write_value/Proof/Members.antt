@@ -17,7 +17,7 @@ use Rattle.writer.proofs.write_value.Kinds as write-value-kinds
 use Rattle.writer.proofs.+write_children+write_part+write_parts+write_value.Lts-write_value as write-value-lts
 use Rattle.fields.proofs.le32.Reads as le32
 use Rattle.puts.proofs.write_u32.Reads as write-u32
-use Rattle.puts.proofs.write_u8.Reads as write-u8
+use Rattle.writer.proofs.close_row.Reads as close-row
 use Rattle.tables.proofs.child.Reads as child
 use Rattle.tables.proofs.next.Reads as next
 use Rattle.tables.proofs.node_at.Reads as node-at
@@ -76,4 +76,4 @@ abbrev pub write-parts-calls : ℕ → write-parts-lts.Claims
 write-parts-calls m = (node-at.Asked, node-at.Learnt, le32.Asked, le32.Learnt, part-at.Asked, part-at.Learnt, child.Asked, child.Learnt, write-part-below m, write-part.Post, next.Asked, next.Learnt)
 
 abbrev pub write-value-calls : ℕ → write-value-lts.Claims
-write-value-calls m = (open-node.Asked, open-node.Learnt, write-children-below m, write-children.Post, write-u8.Asked, write-u8.Learnt, write-parts-below m, write-parts.Post)
+write-value-calls m = (open-node.Asked, open-node.Learnt, write-children-below m, write-children.Post, close-row.Asked, close-row.Learnt, write-parts-below m, write-parts.Post)

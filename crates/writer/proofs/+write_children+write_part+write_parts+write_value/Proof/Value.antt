@@ -1,7 +1,6 @@
--- A value: what its opening left is written by its children or its parts, and a dict is closed behind its pairs. Assumes nothing.
+-- A value: what its opening left is written by its row, which is closed behind it, or by its parts. Assumes nothing.
 use Rattle.writer.proofs.Under.{opens, refused-in, written-in, last}
 use Rattle.writer.proofs.Opening.{head-as}
-use Rattle.writer.specs.Heads.{closed}
 use native.Mathlib.Omega.{arith}
 use mathlib.Core.Path.{_∙_}
 use Prim.Native.Nat.{ℕ}
@@ -30,36 +29,25 @@ write-children-requires m c κs =
     let h = head-as (c .before .before .before .before .before .before .open-node .ensures) (c .before .before .a2 .given .1) in
     (omega (arith, h .1, c .before .before .before .before .before .before .before .before .before .before .before .before .pre .0), (opens (h .0) (c .before .before .before .before .before .before .before .before .before .before .before .before .pre .1 .0 .counts), c .before .before .before .before .before .before .before .before .before .before .before .before .pre .1 .1, h .2))
 
-enum-known-a-3 : (m : ℕ) → lts.Need-enum-known-a-3 (calls m) (at m) Post
-enum-known-a-3 m c = search needs
-
-sub-write-children-2 : (m : ℕ) → lts.Need-sub-write-children-2 (calls m) (at m) Post
-sub-write-children-2 m c = omega (arith, (head-as (c .before .before .before .before .before .before .open-node .ensures) (c .before .before .a3 .given .1)) .1)
-
-write-children-requires-2 : (m : ℕ) → lts.Need-write-children-requires-2 (calls m) (at m) Post
-write-children-requires-2 m c κs =
-    let h = head-as (c .before .before .before .before .before .before .open-node .ensures) (c .before .before .a3 .given .1) in
-    (omega (arith, h .1, c .before .before .before .before .before .before .before .before .before .before .before .before .pre .0), (opens (h .0) (c .before .before .before .before .before .before .before .before .before .before .before .before .pre .1 .0 .counts), c .before .before .before .before .before .before .before .before .before .before .before .before .pre .1 .1, h .2))
-
 enum-known-number-2 : (m : ℕ) → lts.Need-enum-known-number-2 (calls m) (at m) Post
 enum-known-number-2 m c = search needs
 
 enum-known-b : (m : ℕ) → lts.Need-enum-known-b (calls m) (at m) Post
 enum-known-b m c = search needs
 
-write-u8-requires : (m : ℕ) → lts.Need-write-u8-requires (calls m) (at m) Post
-write-u8-requires m c κs =
-    opens (written-in ((head-as (c .before .before .before .before .before .before .before .before .before .before .before .before .before .open-node .ensures) (c .before .before .before .before .before .before .before .before .before .a3 .given .1)) .0) (c .before .before .before .before .before .before .write-children2 .ensures) (c .before .before .b .given .1)) (c .before .before .before .before .before .before .before .before .before .before .before .before .before .before .before .before .before .before .before .pre .1 .0 .counts)
+close-row-requires : (m : ℕ) → lts.Need-close-row-requires (calls m) (at m) Post
+close-row-requires m c κs =
+    opens (written-in ((head-as (c .before .before .before .before .before .before .before .before .before .before .before .before .before .open-node .ensures) (c .before .before .before .before .before .before .before .before .before .a2 .given .1)) .0) (c .before .before .before .before .before .before .write-children .ensures) (c .before .before .b .given .1)) (c .before .before .before .before .before .before .before .before .before .before .before .before .before .before .before .before .before .before .before .pre .1 .0 .counts)
 
-enum-known-a-4 : (m : ℕ) → lts.Need-enum-known-a-4 (calls m) (at m) Post
-enum-known-a-4 m c = search needs
+enum-known-a-3 : (m : ℕ) → lts.Need-enum-known-a-3 (calls m) (at m) Post
+enum-known-a-3 m c = search needs
 
 sub-write-parts : (m : ℕ) → lts.Need-sub-write-parts (calls m) (at m) Post
-sub-write-parts m c = omega (arith, (head-as (c .before .before .before .before .before .before .open-node .ensures) (c .before .before .a4 .given .1)) .1)
+sub-write-parts m c = omega (arith, (head-as (c .before .before .before .before .before .before .open-node .ensures) (c .before .before .a3 .given .1)) .1)
 
 write-parts-requires : (m : ℕ) → lts.Need-write-parts-requires (calls m) (at m) Post
 write-parts-requires m c κs =
-    let h = head-as (c .before .before .before .before .before .before .open-node .ensures) (c .before .before .a4 .given .1) in
+    let h = head-as (c .before .before .before .before .before .before .open-node .ensures) (c .before .before .a3 .given .1) in
     (omega (arith, h .1, c .before .before .before .before .before .before .before .before .before .before .before .before .pre .0), (opens (h .0) (c .before .before .before .before .before .before .before .before .before .before .before .before .pre .1 .0 .counts), c .before .before .before .before .before .before .before .before .before .before .before .before .pre .1 .1, h .2))
 
 same-length : (m : ℕ) → lts.Need-same-length (calls m) (at m) Post
@@ -76,37 +64,29 @@ returns-2 m c = head-as (c .before .before .before .before .before .open-node .e
 
 same-length-3 : (m : ℕ) → lts.Need-same-length-3 (calls m) (at m) Post
 same-length-3 m c =
-    c .before .before .write-children .kept .1 .1 .1 .0 ∙ c .before .before .before .before .before .before .before .before .before .open-node .kept .1 .1 .1 .0
+    c .before .before .before .before .before .write-children .kept .1 .1 .1 .0 ∙ c .before .before .before .before .before .before .before .before .before .before .before .before .open-node .kept .1 .1 .1 .0
 
 returns-3 : (m : ℕ) → lts.Need-returns-3 (calls m) (at m) Post
 returns-3 m c =
-    last ((head-as (c .before .before .before .before .before .before .before .before .before .open-node .ensures) (c .before .before .before .before .before .a2 .given .1)) .0) (c .before .before .write-children .ensures)
+    refused-in _ ((head-as (c .before .before .before .before .before .before .before .before .before .before .before .before .open-node .ensures) (c .before .before .before .before .before .before .before .before .a2 .given .1)) .0) (c .before .before .before .before .before .write-children .ensures) (c .before .number2 .given .1)
 
 same-length-4 : (m : ℕ) → lts.Need-same-length-4 (calls m) (at m) Post
 same-length-4 m c =
-    c .before .before .before .before .before .write-children2 .kept .1 .1 .1 .0 ∙ c .before .before .before .before .before .before .before .before .before .before .before .before .open-node .kept .1 .1 .1 .0
+    c .before .before .close-row .kept .0 ∙ c .before .before .before .before .before .before .before .before .before .write-children .kept .1 .1 .1 .0 ∙ c .before .before .before .before .before .before .before .before .before .before .before .before .before .before .before .before .open-node .kept .1 .1 .1 .0
 
 returns-4 : (m : ℕ) → lts.Need-returns-4 (calls m) (at m) Post
 returns-4 m c =
-    refused-in closed ((head-as (c .before .before .before .before .before .before .before .before .before .before .before .before .open-node .ensures) (c .before .before .before .before .before .before .before .before .a3 .given .1)) .0) (c .before .before .before .before .before .write-children2 .ensures) (c .before .number2 .given .1)
+    last (written-in ((head-as (c .before .before .before .before .before .before .before .before .before .before .before .before .before .before .before .before .open-node .ensures) (c .before .before .before .before .before .before .before .before .before .before .before .before .a2 .given .1)) .0) (c .before .before .before .before .before .before .before .before .before .write-children .ensures) (c .before .before .before .before .before .b .given .1)) (c .before .before .close-row .ensures)
 
 same-length-5 : (m : ℕ) → lts.Need-same-length-5 (calls m) (at m) Post
 same-length-5 m c =
-    c .before .before .write-u8 .kept .0 ∙ c .before .before .before .before .before .before .before .before .before .write-children2 .kept .1 .1 .1 .0 ∙ c .before .before .before .before .before .before .before .before .before .before .before .before .before .before .before .before .open-node .kept .1 .1 .1 .0
+    c .before .before .write-parts .kept .1 .1 .1 .0 ∙ c .before .before .before .before .before .before .before .before .before .open-node .kept .1 .1 .1 .0
 
 returns-5 : (m : ℕ) → lts.Need-returns-5 (calls m) (at m) Post
 returns-5 m c =
-    last (written-in ((head-as (c .before .before .before .before .before .before .before .before .before .before .before .before .before .before .before .before .open-node .ensures) (c .before .before .before .before .before .before .before .before .before .before .before .before .a3 .given .1)) .0) (c .before .before .before .before .before .before .before .before .before .write-children2 .ensures) (c .before .before .before .before .before .b .given .1)) (c .before .before .write-u8 .ensures)
-
-same-length-6 : (m : ℕ) → lts.Need-same-length-6 (calls m) (at m) Post
-same-length-6 m c =
-    c .before .before .write-parts .kept .1 .1 .1 .0 ∙ c .before .before .before .before .before .before .before .before .before .open-node .kept .1 .1 .1 .0
-
-returns-6 : (m : ℕ) → lts.Need-returns-6 (calls m) (at m) Post
-returns-6 m c =
-    last ((head-as (c .before .before .before .before .before .before .before .before .before .open-node .ensures) (c .before .before .before .before .before .a4 .given .1)) .0) (c .before .before .write-parts .ensures)
+    last ((head-as (c .before .before .before .before .before .before .before .before .before .open-node .ensures) (c .before .before .before .before .before .a3 .given .1)) .0) (c .before .before .write-parts .ensures)
 
 pub write-value-met : {M : Type 1} (m : ℕ) → lts.Closed (calls m) (at m) Post M
 write-value-met m =
     lts.spec (calls m) (at m) Post
-    (open-node-requires m) (enum-known-number m) (enum-known-a m) (enum-known-a-2 m) (sub-write-children m) (write-children-requires m) (enum-known-a-3 m) (sub-write-children-2 m) (write-children-requires-2 m) (enum-known-number-2 m) (enum-known-b m) (write-u8-requires m) (enum-known-a-4 m) (sub-write-parts m) (write-parts-requires m) (same-length m) (returns m) (same-length-2 m) (returns-2 m) (same-length-3 m) (returns-3 m) (same-length-4 m) (returns-4 m) (same-length-5 m) (returns-5 m) (same-length-6 m) (returns-6 m)
+    (open-node-requires m) (enum-known-number m) (enum-known-a m) (enum-known-a-2 m) (sub-write-children m) (write-children-requires m) (enum-known-number-2 m) (enum-known-b m) (close-row-requires m) (enum-known-a-3 m) (sub-write-parts m) (write-parts-requires m) (same-length m) (returns m) (same-length-2 m) (returns-2 m) (same-length-3 m) (returns-3 m) (same-length-4 m) (returns-4 m) (same-length-5 m) (returns-5 m)
