@@ -35,6 +35,9 @@ node-at-agrees κs a asked r r′ ws ws′ p p′ = (retold nodeOf nodeFrom (λ 
 pub linked-agrees : Agree tables.linked.ended tables.linked.Reads.Asked tables.linked.Reads.Learnt
 linked-agrees κs a asked r r′ ws ws′ p p′ = (one p p′, refl)
 
+pub is-string-agrees : Agree tables.is_string.ended tables.is_string.Reads.Asked tables.is_string.Reads.Learnt
+is-string-agrees κs a asked r r′ ws ws′ p p′ = (one p p′, refl)
+
 pub part-at-agrees : Agree tables.part_at.ended tables.part_at.Reads.Asked tables.part_at.Reads.Learnt
 part-at-agrees κs a asked r r′ ws ws′ p p′ = (one p p′, refl)
 

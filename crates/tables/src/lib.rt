@@ -95,7 +95,7 @@ pub fn linked(entries: &[u32], used: u32, first: u32, count: u32) -> bool
         if room <= e {
             return false;
         }
-        e = next(entries, e);
+        e = entries[e as usize * 2 + 1];
         i += 1;
     }
     true
@@ -123,7 +123,7 @@ fn is_tuple(letter: u32) -> bool
 }
 
 // strings: u t a A z Z
-fn is_string(letter: u32) -> bool
+pub fn is_string(letter: u32) -> bool
     ensures { λ r. ⌜ r ≡ Letters.isString letter ⌝ }
 {
     match letter {

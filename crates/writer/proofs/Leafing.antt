@@ -4,18 +4,19 @@ use Prim.Native.Nat.{ℕ, zero, suc, _+_, _-_, _≤_, _<_}
 use native.Mathlib.Omega.{arith}
 use mathlib.Core.Bool.{Bool, true, false, cond, _&&_}
 use mathlib.Core.Option.{some, none}
-use mathlib.Core.List.{List, []}
+use mathlib.Core.List.{List, [], _∷_}
 use lib.ListN.{length, getD}
 use lib.Dec.{leb, ltb, eqb}
 use borrow.Author.Tests.{lt-ltb, le-leb, eq-eqb, ne-eqb}
 use Rattle.wtf8.specs.Forms.{wellFormed}
 use Rattle.grammar.specs.Letters as letter
-use Rattle.grammar.specs.Letters.{Class, keeps, contains, codes, classOf}
+use Rattle.grammar.specs.Letters.{Class, keeps, contains, codes, classOf, letters, found, isString}
 use Rattle.grammar.specs.Reading.{stops}
 use Rattle.refusals.specs.Numbers.{dataTooShort}
 use Rattle.grammar.specs.Fields.{fields, contents, span, items}
 use Rattle.grammar.specs.State.{Node, nodeAt}
 use Rattle.grammar.specs.Record.{Tables, nodeOf, nodesIn, chain, whole, sound, soundAt, ruled, readsAs}
+use Rattle.grammar.proofs.Lettered.{among-each}
 use Rattle.writing.specs.Writing.{Writing}
 use Rattle.writing.specs.Steps.{writing, isCode}
 use Rattle.puts.specs.declared.Wrote.{Wrote}
@@ -28,7 +29,7 @@ use Rattle.writer.specs.declared.Leaf.{Leaf}
 use Rattle.writer.specs.declared.Leaf.the-variants as leaf
 use Rattle.writer.specs.declared.Led.{Led}
 use Rattle.writer.specs.declared.Led.the-variants as led
-use Rattle.writer.specs.Leaves.{Leafed, fourOf, bytesOf, textOf, LeafIs, LeafAt, Leaves, textIf, ledOf, LeadAs, Leads}
+use Rattle.writer.specs.Leaves.{Leafed, fourAt, sizedAt, LeafIs, LeafAt, Leaves, textIf, ledOf, LeadAs, Leads}
 use Rattle.writer.specs.Heads.{outOfLevels}
 use Rattle.writer.proofs.Fronting.{as-four, as-bytes, as-text, as-short}
 use Rattle.writer.proofs.Naming.{puts-equal}
@@ -44,7 +45,7 @@ module _ (s : List ℕ) (n : Node) (none-there : n .count ≡ 0) (within : n .pl
   count-so : eqb (n .count) 0 ≡ true
   count-so = eq-eqb (n .count) 0 none-there
 
-  pub leaf-four : ((i : ℕ) → getD s i 0 < 256) → classOf (n .letter) ≡ keeps (letter.fixed 4) → n .size ≡ 4 → LeafIs s n leaf.Four
+  pub leaf-four : ((i : ℕ) → getD s i 0 < 256) → classOf (n .letter) ≡ keeps (letter.fixed 4) → n .size ≡ 4 → LeafIs s n (leaf.Four (n .place))
   unfolding fields
   leaf-four small is four = (
     record {
@@ -67,7 +68,7 @@ module _ (s : List ℕ) (n : Node) (none-there : n .count ≡ 0) (within : n .pl
           ap (λ b. readsAs (cond b (span (n .place) 4 (items 0)) (stops dataTooShort (n .place))) n) (le-leb (n .place + 4) (length s) there)
           ∙ ap (λ b. b && eqb (n .count) 0) (eq-eqb (n .size) 4 four) ∙ count-so
 
-  pub leaf-bytes : ((i : ℕ) → getD s i 0 < 256) → classOf (n .letter) ≡ contains letter.bytes → LeafIs s n leaf.Bytes
+  pub leaf-bytes : ((i : ℕ) → getD s i 0 < 256) → classOf (n .letter) ≡ contains letter.bytes → LeafIs s n (leaf.Sized 0x73 (n .place) (n .size))
   leaf-bytes small is = (
     record {
       sounds = sounds-so is (ap (λ b. b && true) count-so);
@@ -82,7 +83,7 @@ module _ (s : List ℕ) (n : Node) (none-there : n .count ≡ 0) (within : n .pl
       apart e = let z : _≡_ {A = ℕ} 0 1 = cc in omega arith
 
   pub leaf-text : ((i : ℕ) → getD s i 0 < 256) → classOf (n .letter) ≡ contains letter.text → (b : Bool)
-      → b ≡ wellFormed (contents s (n .place) (n .size)) → LeafIs s n (textIf b)
+      → b ≡ wellFormed (contents s (n .place) (n .size)) → LeafIs s n (textIf b (n .place) (n .size))
   leaf-text small is false formed = tt
   leaf-text small is true formed = (
     record {
@@ -98,7 +99,7 @@ module _ (s : List ℕ) (n : Node) (none-there : n .count ≡ 0) (within : n .pl
       apart e = let z : _≡_ {A = ℕ} 0 1 = cc in omega arith
 
   pub leaf-short : ((i : ℕ) → getD s i 0 < 256) → classOf (n .letter) ≡ contains letter.short → n .size ≤ 255 → (b : Bool)
-      → b ≡ wellFormed (contents s (n .place) (n .size)) → LeafIs s n (textIf b)
+      → b ≡ wellFormed (contents s (n .place) (n .size)) → LeafIs s n (textIf b (n .place) (n .size))
   leaf-short small is few false formed = tt
   leaf-short small is few true formed = (
     record {
@@ -115,6 +116,20 @@ module _ (s : List ℕ) (n : Node) (none-there : n .count ≡ 0) (within : n .pl
     where
       apart : contains letter.short ≡ codes → ⊥
       apart e = let z : _≡_ {A = ℕ} 0 1 = cc in omega arith
+
+  -- a string's letter takes up to 255 bytes, whichever it is
+  pub leaf-string : ((i : ℕ) → getD s i 0 < 256) → isString (n .letter) ≡ true → n .size ≤ 255 → (b : Bool)
+      → b ≡ wellFormed (contents s (n .place) (n .size)) → LeafIs s n (textIf b (n .place) (n .size))
+  unfolding classOf letters found
+  leaf-string small is few b formed =
+      among-each (λ l. n .letter ≡ l → LeafIs s n (textIf b (n .place) (n .size))) (n .letter) (0x75 ∷ 0x74 ∷ 0x61 ∷ 0x41 ∷ 0x7A ∷ 0x5A ∷ [])
+      (of-text refl, (of-text refl, (of-text refl, (of-text refl, (of-short refl, (of-short refl, tt)))))) is refl
+    where
+      of-text : {l : ℕ} → classOf l ≡ contains letter.text → n .letter ≡ l → LeafIs s n (textIf b (n .place) (n .size))
+      of-text c q = leaf-text small (ap classOf q ∙ c) b formed
+
+      of-short : {l : ℕ} → classOf l ≡ contains letter.short → n .letter ≡ l → LeafIs s n (textIf b (n .place) (n .size))
+      of-short c q = leaf-short small (ap classOf q ∙ c) few b formed
 
 -- The writing of a leaf, with a level left.
 
@@ -148,24 +163,20 @@ leaf-held s nodes used a n {N} {r} level below is told =
   where
     go : (t : Tables) → n < nodesIn (t .nodes) (t .usedNodes) → (r : Leaf) → LeafIs (t .input) (nodeOf t n) r → LeafAt t a n r
     go t b leaf.Other k = tt
-    go t b leaf.Four k = (leaf-written t n b (k .0) a level, k .1)
-    go t b leaf.Bytes k = (leaf-written t n b (k .0) a level, k .1)
-    go t b leaf.Text k = (leaf-written t n b (k .0) a level, k .1)
+    go t b (leaf.Four place) k = (leaf-written t n b (k .0) a level, k .1)
+    go t b (leaf.Sized letter place size) k = (leaf-written t n b (k .0) a level, k .1)
 
 pub leaf-other : (s nodes : List ℕ) (used : Used) (a n : ℕ) → Leaves s nodes used a n leaf.Other
 leaf-other s nodes used a n = record { tells = λ entries. tt }
 
--- A leaf that was written, by the numbers that were read of it.
+-- A leaf that was written, by what it was said to be.
 
-module _ {s nodes : List ℕ} {used : Used} {a n : ℕ} {N : Node} (is : N ≡ nodeAt nodes n) {r : Leaf} (told : Leaves s nodes used a n r) where
-  pub four-in : r ≡ leaf.Four → N .place + 4 ≤ length s
-  four-in e = subst (λ (m : Node). m .place + 4 ≤ length s) (sym is) (subst (LeafAt (lent s nodes [] used) a n) e (told .tells []) .1)
+module _ {s nodes : List ℕ} {used : Used} {a n : ℕ} {r : Leaf} (told : Leaves s nodes used a n r) where
+  pub four-in : {place : ℕ} → r ≡ leaf.Four place → place + 4 ≤ length s
+  four-in e = subst (LeafAt (lent s nodes [] used) a n) e (told .tells []) .1
 
-  pub bytes-in : r ≡ leaf.Bytes → N .place + N .size ≤ length s
-  bytes-in e = subst (λ (m : Node). m .place + m .size ≤ length s) (sym is) (subst (LeafAt (lent s nodes [] used) a n) e (told .tells []) .1)
-
-  pub text-in : r ≡ leaf.Text → N .place + N .size ≤ length s
-  text-in e = subst (λ (m : Node). m .place + m .size ≤ length s) (sym is) (subst (LeafAt (lent s nodes [] used) a n) e (told .tells []) .1)
+  pub sized-in : {letter place size : ℕ} → r ≡ leaf.Sized letter place size → place + size ≤ length s
+  sized-in e = subst (LeafAt (lent s nodes [] used) a n) e (told .tells []) .1
 
   module _ {at : ℕ} {o o′ : List ℕ} {w : Wrote} {q : Led} where
     leads : ((entries : List ℕ) → Puts (writing a (lent s nodes entries used) n) at o w o′) → q ≡ ledOf w → Leads s nodes used a n at o q o′
@@ -175,14 +186,12 @@ module _ {s nodes : List ℕ} {used : Used} {a n : ℕ} {N : Node} (is : N ≡ n
         go t (wrote.Done p) k = k
         go t (wrote.Refused number place) k = k
 
-    pub four-led : r ≡ leaf.Four → Puts (fourOf s N) at o w o′ → q ≡ ledOf w → Leads s nodes used a n at o q o′
-    four-led e put = leads (λ entries. puts-equal put (subst (LeafAt (lent s nodes entries used) a n) e (told .tells entries) .0 ∙ ap (fourOf s) (sym is)))
+    pub four-led : {place : ℕ} → r ≡ leaf.Four place → Puts (fourAt s place) at o w o′ → q ≡ ledOf w → Leads s nodes used a n at o q o′
+    four-led e put = leads (λ entries. puts-equal put (subst (LeafAt (lent s nodes entries used) a n) e (told .tells entries) .0))
 
-    pub bytes-led : r ≡ leaf.Bytes → Puts (bytesOf s N) at o w o′ → q ≡ ledOf w → Leads s nodes used a n at o q o′
-    bytes-led e put = leads (λ entries. puts-equal put (subst (LeafAt (lent s nodes entries used) a n) e (told .tells entries) .0 ∙ ap (bytesOf s) (sym is)))
-
-    pub text-led : r ≡ leaf.Text → Puts (textOf s N) at o w o′ → q ≡ ledOf w → Leads s nodes used a n at o q o′
-    text-led e put = leads (λ entries. puts-equal put (subst (LeafAt (lent s nodes entries used) a n) e (told .tells entries) .0 ∙ ap (textOf s) (sym is)))
+    pub sized-led : {letter place size : ℕ} → r ≡ leaf.Sized letter place size → Puts (sizedAt s letter place size) at o w o′ → q ≡ ledOf w
+        → Leads s nodes used a n at o q o′
+    sized-led e put = leads (λ entries. puts-equal put (subst (LeafAt (lent s nodes entries used) a n) e (told .tells entries) .0))
 
 pub left-led : {s nodes : List ℕ} {used : Used} {a n at : ℕ} {o : List ℕ} → Leads s nodes used a n at o led.Left o
 left-led = record { same = refl; tells = λ entries. refl }

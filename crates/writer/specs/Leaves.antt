@@ -8,7 +8,7 @@ use lib.ListN.{length}
 use Rattle.grammar.specs.Letters.{codes, classOf}
 use Rattle.grammar.specs.Fields.{contents}
 use Rattle.grammar.specs.State.{Node}
-use Rattle.grammar.specs.Record.{Tables, nodeOf, sound, chain}
+use Rattle.grammar.specs.Record.{Tables, sound, chain}
 use Rattle.writing.specs.Writing.{Writing, ended, emit, each}
 use Rattle.writing.specs.Canonical.{sized}
 use Rattle.writing.specs.Shape.{classed}
@@ -34,32 +34,27 @@ pub record Leafed (s : List ℕ) (n : Node) (w : Writing) : Type 0 where
   pub no-code : classOf (n .letter) ≡ codes → ⊥
   pub writes : (f : ℕ → Writing) (g : ℕ → List ℕ → Writing) (kids : List ℕ) → shaped f g (classed s n kids (classOf (n .letter))) ≡ w
 
--- the bytes of each kind: an integer of four bytes, bytes, a string
-abbrev pub fourOf : List ℕ → Node → Writing
-fourOf s n = emit (0x69 ∷ contents s (n .place) 4) ended
+-- the bytes of each kind: an integer of four bytes; bytes or a string, by their letter
+abbrev pub fourAt : List ℕ → (place : ℕ) → Writing
+fourAt s place = emit (0x69 ∷ contents s place 4) ended
 
-abbrev pub bytesOf : List ℕ → Node → Writing
-bytesOf s n = emit (sized 0x73 (contents s (n .place) (n .size))) ended
+abbrev pub sizedAt : List ℕ → (letter place size : ℕ) → Writing
+sizedAt s letter place size = emit (sized letter (contents s place size)) ended
 
-abbrev pub textOf : List ℕ → Node → Writing
-textOf s n = emit (sized 0x75 (contents s (n .place) (n .size))) ended
-
-abbrev pub textIf : Bool → Leaf
-textIf true = leaf.Text
-textIf false = leaf.Other
+abbrev pub textIf : Bool → (place size : ℕ) → Leaf
+textIf true place size = leaf.Sized 0x75 place size
+textIf false place size = leaf.Other
 
 abbrev pub LeafIs : List ℕ → Node → Leaf → Type 0
 LeafIs s n leaf.Other = Unit
-LeafIs s n leaf.Four = Leafed s n (fourOf s n) × (n .place + 4 ≤ length s)
-LeafIs s n leaf.Bytes = Leafed s n (bytesOf s n) × (n .place + n .size ≤ length s)
-LeafIs s n leaf.Text = Leafed s n (textOf s n) × (n .place + n .size ≤ length s)
+LeafIs s n (leaf.Four place) = Leafed s n (fourAt s place) × (place + 4 ≤ length s)
+LeafIs s n (leaf.Sized letter place size) = Leafed s n (sizedAt s letter place size) × (place + size ≤ length s)
 
 -- the same of a node of the stores, with the levels that are left
 abbrev pub LeafAt : Tables → (allowance node : ℕ) → Leaf → Type 0
 LeafAt t a n leaf.Other = Unit
-LeafAt t a n leaf.Four = (writing a t n ≡ fourOf (t .input) (nodeOf t n)) × (nodeOf t n .place + 4 ≤ length (t .input))
-LeafAt t a n leaf.Bytes = (writing a t n ≡ bytesOf (t .input) (nodeOf t n)) × (nodeOf t n .place + nodeOf t n .size ≤ length (t .input))
-LeafAt t a n leaf.Text = (writing a t n ≡ textOf (t .input) (nodeOf t n)) × (nodeOf t n .place + nodeOf t n .size ≤ length (t .input))
+LeafAt t a n (leaf.Four place) = (writing a t n ≡ fourAt (t .input) place) × (place + 4 ≤ length (t .input))
+LeafAt t a n (leaf.Sized letter place size) = (writing a t n ≡ sizedAt (t .input) letter place size) × (place + size ≤ length (t .input))
 
 -- entries are not asked
 pub record Leaves (s nodes : List ℕ) (used : Used) (a n : ℕ) (r : Leaf) : Type 0 where

@@ -392,19 +392,39 @@ fn open_node(
     write_front(s, out, n, fields::class_of(n.letter), at)
 }
 
-// How a node without children is written, if it is of a common kind and its record is sound.
+// How a node without children is written, if it is of a common kind and its record is sound: four bytes from a place on,
+// or a letter, and so many bytes from a place on.
 pub enum Leaf {
     Other,
-    Four,
-    Bytes,
-    Text,
+    Four(u32),
+    Sized(u8, u32, u32),
 }
 
-// Whether the contents of a string are well formed.
-fn text_if(formed: bool) -> Leaf
-    ensures { λ r. ⌜ r ≡ textIf formed ⌝ }
+fn text_if(formed: bool, place: u32, size: u32) -> Leaf
+    ensures { λ r. ⌜ r ≡ textIf formed place size ⌝ }
 {
-    if formed { Leaf::Text } else { Leaf::Other }
+    if formed {
+        Leaf::Sized(0x75, place, size)
+    } else {
+        Leaf::Other
+    }
+}
+
+// A string. Only of long ones it is asked whether the letter's length counts so far.
+fn text_of(s: &[u8], n: records::Node) -> Leaf
+    requires { ⌜ (n .count ≡ 0) × (n .place + n .size ≤ length (now s)) × (length (now s) ≤ mostBytes) ⌝ }
+    ensures { λ r. ⌜ LeafIs (now (s .entry)) (nodeOf n) r ⌝ }
+{
+    if n.size <= 255 {
+        if !tables::is_string(n.letter) {
+            return Leaf::Other;
+        }
+        return text_if(records::well_formed(s, n.place, n.size), n.place, n.size);
+    }
+    if fields::class_of(n.letter) != fields::TEXT {
+        return Leaf::Other;
+    }
+    text_if(records::well_formed(s, n.place, n.size), n.place, n.size)
 }
 
 fn leaf_of(s: &[u8], n: records::Node) -> Leaf
@@ -417,22 +437,16 @@ fn leaf_of(s: &[u8], n: records::Node) -> Leaf
     if s.len() < n.place as usize + n.size as usize {
         return Leaf::Other;
     }
-    match fields::class_of(n.letter) {
-        fields::FIXED4 => {
+    let letter = n.letter;
+    match letter {
+        0x69 => {
             if n.size != 4 {
                 return Leaf::Other;
             }
-            Leaf::Four
+            Leaf::Four(n.place)
         }
-        fields::BYTES => Leaf::Bytes,
-        fields::TEXT => text_if(records::well_formed(s, n.place, n.size)),
-        fields::SHORT => {
-            if 255 < n.size {
-                return Leaf::Other;
-            }
-            text_if(records::well_formed(s, n.place, n.size))
-        }
-        _ => Leaf::Other,
+        0x73 => Leaf::Sized(0x73, n.place, n.size),
+        _ => text_of(s, n),
     }
 }
 
@@ -479,12 +493,17 @@ fn write_leaf(
     requires { ⌜ Open at (now out) × (length (now s) ≤ mostBytes) ⌝ }
     ensures { λ r. ⌜ Leads (now (s .entry)) (now (nodes .entry)) used allowance node at (now (out .entry)) r (now (out .exit)) ⌝ }
 {
-    let n = tables::node_at(nodes, node);
     match leaf_at(s, nodes, used, allowance, node) {
         Leaf::Other => Led::Left,
-        Leaf::Four => led_by(puts::write_slice(out, at, 0x69, s, n.place, 4)),
-        Leaf::Bytes => led_by(puts::write_vec(out, at, 0x73, s, n.place, n.size)),
-        Leaf::Text => led_by(puts::write_vec(out, at, 0x75, s, n.place, n.size)),
+        Leaf::Four(place) => led_by(puts::write_slice(out, at, 0x69, s, place, 4)),
+        Leaf::Sized(letter, place, size) => led_by(puts::write_vec(
+            out,
+            at,
+            letter,
+            s,
+            place,
+            size,
+        )),
     }
 }
 
@@ -514,7 +533,7 @@ fn write_leaves(
     let mut i = done;
     let mut p = at;
     while i < count {
-        let child = tables::child(entries, e);
+        let child = entries[e as usize * 2];
         match write_leaf(s, nodes, out, used, allowance, child, p) {
             Led::Left => {
                 return Rowed::On(e, i, p);
@@ -526,7 +545,7 @@ fn write_leaves(
                 p = a;
             }
         }
-        e = tables::next(entries, e);
+        e = entries[e as usize * 2 + 1];
         i += 1;
     }
     Rowed::On(e, i, p)

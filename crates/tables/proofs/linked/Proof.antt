@@ -1,5 +1,6 @@
 -- Carried by `Walking`: what is left of the walk still tells the same. Assumes nothing.
 use Rattle.tables.proofs.Chains.{Walking, walk-start, walk-stop, walk-more, walk-end, inside, onto, outside, within-room, linked-is}
+use mathlib.Core.Path.{refl}
 use native.Mathlib.Omega.{arith}
 use Prim.Native.Nat.{_-_}
 use borrow.Author.Needs.{needs}
@@ -27,8 +28,20 @@ loop-holds c = walk-start _ _ _ _
 returns : tie.Need-returns Inv-loop μ-loop
 returns c = linked-is (c .before .before .before .before .before .before .args .entries .now) (c .before .before .before .before .before .before .args .used) (c .before .before .before .before .before .before .args .count) (c .before .before .before .before .before .before .args .first) (c .before .before .before .before .entries-in .ensures .0) (c .before .before .before .lesser .ensures) (walk-stop _ _ _ _ (c .before .before .loop .inv) (c .before .loop-test .taken) (outside (c .before .before .before .before .before .before .args .entries .now) (c .before .before .before .before .before .before .args .used) (c .before .before .loop .e) (c .before .before .before .before .entries-in .ensures .0) (omega arith)))
 
-next-requires : tie.Need-next-requires Inv-loop μ-loop
-next-requires c κs = search needs
+cast-e : tie.Need-cast-e Inv-loop μ-loop
+cast-e c = search needs
+
+mul-e : tie.Need-mul-e Inv-loop μ-loop
+mul-e c = search needs
+
+add-e : tie.Need-add-e Inv-loop μ-loop
+add-e c = search needs
+
+mul-e-2 : tie.Need-mul-e-2 Inv-loop μ-loop
+mul-e-2 c = search needs
+
+shared-slice-read-e : tie.Need-shared-slice-read-e Inv-loop μ-loop
+shared-slice-read-e c = search needs
 
 add-i : tie.Need-add-i Inv-loop μ-loop
 add-i c = search needs
@@ -37,7 +50,7 @@ loop-less : tie.Need-loop-less Inv-loop μ-loop
 loop-less c = search needs
 
 loop-again : tie.Need-loop-again Inv-loop μ-loop
-loop-again c = walk-more _ _ _ _ (c .before .before .before .loop .inv) (c .before .before .loop-test .taken) (within-room (c .before .before .before .before .before .before .before .args .entries .now) (c .before .before .before .before .before .before .before .args .used) (c .before .before .before .loop .e) (c .before .before .before .before .before .entries-in .ensures .0) (omega arith)) (c .next .ensures)
+loop-again c = walk-more _ _ _ _ (c .before .before .before .loop .inv) (c .before .before .loop-test .taken) (within-room (c .before .before .before .before .before .before .before .args .entries .now) (c .before .before .before .before .before .before .before .args .used) (c .before .before .before .loop .e) (c .before .before .before .before .before .entries-in .ensures .0) (omega arith)) refl
 
 returns-2 : tie.Need-returns-2 Inv-loop μ-loop
 returns-2 c = linked-is (c .before .before .before .before .before .args .entries .now) (c .before .before .before .before .before .args .used) (c .before .before .before .before .before .args .count) (c .before .before .before .before .before .args .first) (c .before .before .before .entries-in .ensures .0) (c .before .before .lesser .ensures) (walk-end _ _ _ _ (c .before .loop .inv) (omega arith))
@@ -53,7 +66,11 @@ linked-spec =
     lesser-requires
     loop-holds
     returns
-    next-requires
+    cast-e
+    mul-e
+    add-e
+    mul-e-2
+    shared-slice-read-e
     add-i
     loop-less
     loop-again

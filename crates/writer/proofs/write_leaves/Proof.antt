@@ -1,5 +1,5 @@
 -- Carried by `Rowing`: the children that are left are still to come, and none that was done is done again. Assumes nothing.
-use Rattle.writer.proofs.Under.{Rowing, opens, row-turn, row-more, row-refused}
+use Rattle.writer.proofs.Under.{Rowing, opens, row-turn, row-more, row-refused, row-entry}
 use Rattle.writer.proofs.Leading.{row-from, led-on, led-refused, led-left, rows-on, rows-refused}
 use Rattle.writer.specs.Leaves.{rowFrom}
 use Rattle.tables.specs.Looking.{lent}
@@ -25,8 +25,17 @@ loop-holds c =
     let t = lent (a .s .now) (a .nodes .now) (a .entries .now) (a .used) in
     (row-from t (a .allowance) (a .count) (c .before .before .before .before .pre .2) (c .before .before .before .before .pre .3) (c .before .before .before .before .pre .0 .inside), omega arith)
 
-child-requires : tie.Need-child-requires Inv-loop μ-loop
-child-requires c κs = search needs
+cast-child : tie.Need-cast-child Inv-loop μ-loop
+cast-child c = search (row-entry (c .before .loop .inv .0) (c .loop-test .taken), needs)
+
+mul-child : tie.Need-mul-child Inv-loop μ-loop
+mul-child c = search (row-entry (c .before .loop .inv .0) (c .loop-test .taken), needs)
+
+mul-child-2 : tie.Need-mul-child-2 Inv-loop μ-loop
+mul-child-2 c = search (row-entry (c .before .loop .inv .0) (c .loop-test .taken), needs)
+
+shared-slice-read-child : tie.Need-shared-slice-read-child Inv-loop μ-loop
+shared-slice-read-child c = omega (arith, row-entry (c .before .before .loop .inv .0) (c .before .loop-test .taken))
 
 write-leaf-requires : tie.Need-write-leaf-requires Inv-loop μ-loop
 write-leaf-requires c κs = (opens (c .before .before .before .loop .inv .0 .way) (c .before .before .before .before .before .before .before .before .pre .0 .counts), c .before .before .before .before .before .before .before .before .pre .1)
@@ -54,13 +63,25 @@ returns-2 c =
     let a = c .before .before .before .before .before .before .before .before .before .before .before .before .before .before .args in
     let t = lent (a .s .now) (a .nodes .now) (a .entries .now) (a .used) in
     rows-refused t (a .allowance) (a .count)
-    (row-refused (row-turn (c .before .before .before .before .before .before .before .before .before .loop .inv .0) (c .before .before .before .before .before .before .before .before .loop-test .taken) (c .before .before .before .before .before .before .before .child .ensures)) (led-refused (a .entries .now) (c .before .before .before .before .before .write-leaf .ensures) (c .before .number .given .1)) refl)
+    (row-refused (row-turn (c .before .before .before .before .before .before .before .before .before .loop .inv .0) (c .before .before .before .before .before .before .before .before .loop-test .taken) refl) (led-refused (a .entries .now) (c .before .before .before .before .before .write-leaf .ensures) (c .before .number .given .1)) refl)
 
 enum-known-a : tie.Need-enum-known-a Inv-loop μ-loop
 enum-known-a c = search needs
 
-next-requires : tie.Need-next-requires Inv-loop μ-loop
-next-requires c κs = search needs
+cast-e : tie.Need-cast-e Inv-loop μ-loop
+cast-e c = search (row-entry (c .before .before .before .before .before .before .before .before .before .loop .inv .0) (c .before .before .before .before .before .before .before .before .loop-test .taken), needs)
+
+mul-e : tie.Need-mul-e Inv-loop μ-loop
+mul-e c = search (row-entry (c .before .before .before .before .before .before .before .before .before .loop .inv .0) (c .before .before .before .before .before .before .before .before .loop-test .taken), needs)
+
+add-e : tie.Need-add-e Inv-loop μ-loop
+add-e c = search (row-entry (c .before .before .before .before .before .before .before .before .before .loop .inv .0) (c .before .before .before .before .before .before .before .before .loop-test .taken), needs)
+
+mul-e-2 : tie.Need-mul-e-2 Inv-loop μ-loop
+mul-e-2 c = search (row-entry (c .before .before .before .before .before .before .before .before .before .loop .inv .0) (c .before .before .before .before .before .before .before .before .loop-test .taken), needs)
+
+shared-slice-read-e : tie.Need-shared-slice-read-e Inv-loop μ-loop
+shared-slice-read-e c = omega (arith, row-entry (c .before .before .before .before .before .before .before .before .before .before .loop .inv .0) (c .before .before .before .before .before .before .before .before .before .loop-test .taken))
 
 add-i : tie.Need-add-i Inv-loop μ-loop
 add-i c = search needs
@@ -70,9 +91,8 @@ loop-less c = search needs
 
 loop-again : tie.Need-loop-again Inv-loop μ-loop
 loop-again c =
-    let a = c .before .before .before .before .before .before .before .before .before .before .before .before .before .before .before .args in
-    let t = lent (a .s .now) (a .nodes .now) (a .entries .now) (a .used) in (
-      row-more (row-turn (c .before .before .before .before .before .before .before .before .before .before .loop .inv .0) (c .before .before .before .before .before .before .before .before .before .loop-test .taken) (c .before .before .before .before .before .before .before .before .child .ensures)) (λ vs h. tt) (c .before .before .before .before .before .before .before .before .before .loop-test .taken) (c .next .ensures)
+    let a = c .before .before .before .before .before .before .before .before .before .before .before .before .before .before .before .args in (
+      row-more (row-turn (c .before .before .before .before .before .before .before .before .before .before .loop .inv .0) (c .before .before .before .before .before .before .before .before .before .loop-test .taken) refl) (λ vs h. tt) (c .before .before .before .before .before .before .before .before .before .loop-test .taken) refl
           (led-on (a .entries .now) (c .before .before .before .before .before .before .write-leaf .ensures) (c .before .before .a .given .1)) refl,
       omega (arith, c .before .before .before .before .before .before .before .before .before .before .loop .inv .1),
     )
@@ -93,7 +113,10 @@ write-leaves-spec =
     Inv-loop
     μ-loop
     loop-holds
-    child-requires
+    cast-child
+    mul-child
+    mul-child-2
+    shared-slice-read-child
     write-leaf-requires
     enum-told
     same-length
@@ -102,7 +125,11 @@ write-leaves-spec =
     same-length-2
     returns-2
     enum-known-a
-    next-requires
+    cast-e
+    mul-e
+    add-e
+    mul-e-2
+    shared-slice-read-e
     add-i
     loop-less
     loop-again
