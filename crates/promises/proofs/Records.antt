@@ -23,5 +23,5 @@ sound-agrees κs a asked r r′ ws ws′ p p′ = (one p p′, refl)
 pub sound-at-agrees : Agree records.sound_at.ended records.sound_at.Reads.Asked records.sound_at.Reads.Learnt
 sound-at-agrees κs a asked r r′ ws ws′ p p′ = (one p p′, refl)
 
-pub well-formed-agrees : Agree records.well_formed.ended records.well_formed.Reads.Asked records.well_formed.Reads.Learnt
-well-formed-agrees κs a asked r r′ ws ws′ p p′ = (one p p′, refl)
+pub text-sound-agrees : Agree records.text_sound.ended records.text_sound.Reads.Asked records.text_sound.Reads.Learnt
+text-sound-agrees κs a asked r r′ ws ws′ p p′ = (one p p′, refl)

@@ -3,13 +3,17 @@
 use mathlib.Core.Path.{_≡_, refl, ap, _∙_}
 use Prim.Native.Nat.{ℕ, zero, suc, _-_, _≤_, _<_}
 use mathlib.Core.Bool.{Bool, true, false, _&&_}
-use mathlib.Core.List.{List}
+use mathlib.Core.List.{List, [], _∷_}
 use mathlib.Core.Logic.{⊎-elim}
 use native.Mathlib.Nat.{eq-or-lt-of-le}
 use native.Mathlib.Omega.{arith}
 use lib.ListN.{List·getD-eq-default}
-use borrow.Author.Tests.{eq-eqb, ne-eqb}
-use Rattle.grammar.specs.Letters.{refuses}
+use lib.Dec.{leb, eqb}
+use borrow.Author.Tests.{eq-eqb, ne-eqb, le-leb}
+use Rattle.wtf8.specs.Forms.{wellFormed}
+use Rattle.grammar.specs.Letters.{refuses, classOf, letters, found, isString}
+use Rattle.grammar.specs.Fields.{contents}
+use Rattle.grammar.proofs.Lettered.{among-each}
 use Rattle.grammar.specs.State.{Node}
 use Rattle.grammar.specs.Record.{counted, readsAs, ruled}
 use Rattle.fields.specs.Classes.{classes, classAt}
@@ -56,3 +60,14 @@ not-kept s n class h =
 pub and-true : (t : Bool) → t ≡ (t && true)
 and-true true = refl
 and-true false = refl
+
+-- a string's letter takes up to 255 bytes, whichever it is
+pub text-ruled : (s : List ℕ) (n : Node) → isString (n .letter) ≡ true → n .size ≤ 255
+    → ruled s n (classOf (n .letter)) ≡ (eqb (n .count) 0 && wellFormed (contents s (n .place) (n .size)))
+unfolding classOf letters found
+text-ruled s n is few =
+    among-each (λ l. ruled s n (classOf l) ≡ (eqb (n .count) 0 && wellFormed (contents s (n .place) (n .size)))) (n .letter) (0x75 ∷ 0x74 ∷ 0x61 ∷ 0x41 ∷ 0x7A ∷ 0x5A ∷ [])
+    (refl, (refl, (refl, (refl, (short, (short, tt)))))) is
+  where
+    short : (eqb (n .count) 0 && (leb (n .size) 255 && wellFormed (contents s (n .place) (n .size)))) ≡ (eqb (n .count) 0 && wellFormed (contents s (n .place) (n .size)))
+    short = ap (λ b. eqb (n .count) 0 && (b && wellFormed (contents s (n .place) (n .size)))) (le-leb (n .size) 255 few)

@@ -1,10 +1,11 @@
 // The record test behind refusal 16, for any node store, also one that no reading made: the leaf question and the writer ask it.
 // Only a node's own numbers are tested: chains, and what the parts of a code are, are the writer's.
 ghost use mathlib.Core.Path.{_≡_};
+ghost use mathlib.Core.Bool.{true};
 ghost use Prim.Native.Nat.{_+_, _*_, _≤_, _<_, min};
 ghost use lib.ListN.{length};
 ghost use Rattle.refusals.specs.Limits.{mostBytes};
-ghost use Rattle.grammar.specs.Letters.{codes};
+ghost use Rattle.grammar.specs.Letters.{codes, isString};
 ghost use Rattle.grammar.specs.State.{nodeAt};
 ghost use Rattle.wtf8.specs.Forms.{wellFormed};
 ghost use Rattle.grammar.specs.Fields;
@@ -89,7 +90,7 @@ fn read_again(s: &[u8], node: Node, class: u32) -> bool
 }
 
 // A string's contents, at its place.
-pub fn well_formed(s: &[u8], place: u32, size: u32) -> bool
+fn well_formed(s: &[u8], place: u32, size: u32) -> bool
     requires { ⌜ (place + size ≤ length (now s)) × (length (now s) ≤ mostBytes) ⌝ }
     ensures { λ r. ⌜ r ≡ wellFormed (Fields.contents (now (s .entry)) place size) ⌝ }
 {
@@ -154,6 +155,23 @@ pub fn sound(s: &[u8], node: Node) -> bool
         return false;
     }
     ruled(s, node, fields::class_of(node.letter))
+}
+
+// The same of a node with a string's letter: every such letter's length counts to 255.
+pub fn text_sound(s: &[u8], node: Node) -> bool
+    requires { ⌜ (length (now s) ≤ mostBytes) × (isString (node .letter) ≡ true) ⌝ }
+    ensures { λ r. ⌜ r ≡ Record.sound (now (s .entry)) (nodeOf node) ⌝ }
+{
+    if 255 < node.size {
+        return sound(s, node);
+    }
+    if s.len() < node.place as usize + node.size as usize {
+        return false;
+    }
+    if node.count != 0 {
+        return false;
+    }
+    well_formed(s, node.place, node.size)
 }
 
 // Whether the node of a number is in the store and sound.

@@ -142,10 +142,14 @@ fn string_at(s: &[u8], nodes: &[u32], used: u32, node: u32) -> bool
     requires { ⌜ length (now s) ≤ mostBytes ⌝ }
     ensures { λ r. ⌜ r ≡ stringAt (now (s .entry)) (now (nodes .entry)) used node ⌝ }
 {
-    if !records::sound_at(s, nodes, used, node) {
+    if records::nodes_in(nodes, used) <= node {
         return false;
     }
-    is_string(word_at(nodes, node as usize * 5))
+    let n = records::node_at(nodes, node);
+    if !is_string(n.letter) {
+        return false;
+    }
+    records::text_sound(s, n)
 }
 
 // Whether so many children, linked from an entry on, are sound strings: those that go round are tested once.

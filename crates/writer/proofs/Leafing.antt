@@ -7,18 +7,20 @@ use mathlib.Core.Option.{some, none}
 use mathlib.Core.List.{List, [], _∷_}
 use lib.ListN.{length, getD}
 use lib.Dec.{leb, ltb, eqb}
-use borrow.Author.Tests.{lt-ltb, le-leb, eq-eqb, ne-eqb}
-use Rattle.wtf8.specs.Forms.{wellFormed}
+use borrow.Author.Tests.{lt-ltb, le-leb, eq-eqb, ne-eqb, eqb-true}
 use Rattle.grammar.specs.Letters as letter
 use Rattle.grammar.specs.Letters.{Class, keeps, contains, codes, classOf, letters, found, isString}
 use Rattle.grammar.specs.Reading.{stops}
 use Rattle.refusals.specs.Numbers.{dataTooShort}
 use Rattle.grammar.specs.Fields.{fields, contents, span, items}
 use Rattle.grammar.specs.State.{Node, nodeAt}
-use Rattle.grammar.specs.Record.{Tables, nodeOf, nodesIn, chain, whole, sound, soundAt, ruled, readsAs}
+use Rattle.grammar.specs.Record.{Tables, nodeOf, nodesIn, chain, whole, sound, soundAt, ruled, readsAs, containing}
 use Rattle.grammar.proofs.Lettered.{among-each}
+use Rattle.grammar.proofs.Tests.{both-true}
+use Rattle.grammar.proofs.Passed.{sound-ruled}
+use Rattle.writing.specs.Shape.{classed}
 use Rattle.writing.specs.Writing.{Writing}
-use Rattle.writing.specs.Steps.{writing, isCode}
+use Rattle.writing.specs.Steps.{shaped, writing, isCode}
 use Rattle.puts.specs.declared.Wrote.{Wrote}
 use Rattle.puts.specs.declared.Wrote.the-variants as wrote
 use Rattle.puts.specs.Puts.{Puts}
@@ -35,7 +37,24 @@ use Rattle.writer.proofs.Fronting.{as-four, as-bytes, as-text, as-short
 use Rattle.writer.proofs.Naming.{puts-equal}
 use Rattle.writer.proofs.Opening.{partsBy, writing-holds}
 
--- The record of each kind.
+-- The record of each kind: contents of so many bytes, and an integer of four.
+
+leaf-sized : (s : List ℕ) (n : Node) {sort : letter.Sort} {l : ℕ} → classOf (n .letter) ≡ contains sort
+    → ((f : ℕ → Writing) (g : ℕ → List ℕ → Writing) (kids : List ℕ) → shaped f g (classed s n kids (classOf (n .letter))) ≡ sizedAt s l (n .place) (n .size))
+    → sound s n ≡ true → LeafIs s n (leaf.Sized l (n .place) (n .size))
+leaf-sized s n {sort} is writes sounds =
+    let r = sound-ruled s n sounds in (
+      record {
+        sounds = sounds;
+        childless = eqb-true (n .count) 0 (both-true (eqb (n .count) 0) (containing s n sort) (sym (ap (ruled s n) is) ∙ r .1) .0);
+        no-code = λ e. apart (sym is ∙ e);
+        writes = writes;
+      },
+      r .0,
+    )
+  where
+    apart : contains sort ≡ codes → ⊥
+    apart e = let z : _≡_ {A = ℕ} 0 1 = cc in omega arith
 
 module _ (s : List ℕ) (n : Node) (none-there : n .count ≡ 0) (within : n .place + n .size ≤ length s) where
   sounds-so : {class : Class} → classOf (n .letter) ≡ class → ruled s n class ≡ true → sound s n ≡ true
@@ -69,67 +88,23 @@ module _ (s : List ℕ) (n : Node) (none-there : n .count ≡ 0) (within : n .pl
           ∙ ap (λ b. b && eqb (n .count) 0) (eq-eqb (n .size) 4 four) ∙ count-so
 
   pub leaf-bytes : ((i : ℕ) → getD s i 0 < 256) → classOf (n .letter) ≡ contains letter.bytes → LeafIs s n (leaf.Sized 0x73 (n .place) (n .size))
-  leaf-bytes small is = (
-    record {
-      sounds = sounds-so is (ap (λ b. b && true) count-so);
-      childless = none-there;
-      no-code = λ e. apart (sym is ∙ e);
-      writes = λ f g kids. as-bytes s small n f g kids is;
-    },
-    within,
-  )
-    where
-      apart : contains letter.bytes ≡ codes → ⊥
-      apart e = let z : _≡_ {A = ℕ} 0 1 = cc in omega arith
+  leaf-bytes small is =
+      leaf-sized s n is (λ f g kids. as-bytes s small n f g kids is) (sounds-so is (ap (λ b. b && true) count-so))
 
-  pub leaf-text : ((i : ℕ) → getD s i 0 < 256) → classOf (n .letter) ≡ contains letter.text → (b : Bool)
-      → b ≡ wellFormed (contents s (n .place) (n .size)) → LeafIs s n (textIf b (n .place) (n .size))
-  leaf-text small is false formed = tt
-  leaf-text small is true formed = (
-    record {
-      sounds = sounds-so is (ap (λ b. b && wellFormed (contents s (n .place) (n .size))) count-so ∙ sym formed);
-      childless = none-there;
-      no-code = λ e. apart (sym is ∙ e);
-      writes = λ f g kids. as-text s small n f g kids is;
-    },
-    within,
-  )
-    where
-      apart : contains letter.text ≡ codes → ⊥
-      apart e = let z : _≡_ {A = ℕ} 0 1 = cc in omega arith
+-- a string, whichever its letter is
+pub leaf-string : (s : List ℕ) (n : Node) → ((i : ℕ) → getD s i 0 < 256) → isString (n .letter) ≡ true → (b : Bool) → b ≡ sound s n
+    → LeafIs s n (textIf b (n .place) (n .size))
+unfolding classOf letters found
+leaf-string s n small is false formed = tt
+leaf-string s n small is true formed =
+    among-each (λ l. n .letter ≡ l → LeafIs s n (leaf.Sized 0x75 (n .place) (n .size))) (n .letter) (0x75 ∷ 0x74 ∷ 0x61 ∷ 0x41 ∷ 0x7A ∷ 0x5A ∷ [])
+    (of-text refl, (of-text refl, (of-text refl, (of-text refl, (of-short refl, (of-short refl, tt)))))) is refl
+  where
+    of-text : {l : ℕ} → classOf l ≡ contains letter.text → n .letter ≡ l → LeafIs s n (leaf.Sized 0x75 (n .place) (n .size))
+    of-text c q = let k = ap classOf q ∙ c in leaf-sized s n k (λ f g kids. as-text s small n f g kids k) (sym formed)
 
-  pub leaf-short : ((i : ℕ) → getD s i 0 < 256) → classOf (n .letter) ≡ contains letter.short → n .size ≤ 255 → (b : Bool)
-      → b ≡ wellFormed (contents s (n .place) (n .size)) → LeafIs s n (textIf b (n .place) (n .size))
-  leaf-short small is few false formed = tt
-  leaf-short small is few true formed = (
-    record {
-      sounds =
-          sounds-so is
-          (ap (λ b. b && (leb (n .size) 255 && wellFormed (contents s (n .place) (n .size)))) count-so
-          ∙ ap (λ b. b && wellFormed (contents s (n .place) (n .size))) (le-leb (n .size) 255 few) ∙ sym formed);
-      childless = none-there;
-      no-code = λ e. apart (sym is ∙ e);
-      writes = λ f g kids. as-short s small n f g kids is;
-    },
-    within,
-  )
-    where
-      apart : contains letter.short ≡ codes → ⊥
-      apart e = let z : _≡_ {A = ℕ} 0 1 = cc in omega arith
-
-  -- a string's letter takes up to 255 bytes, whichever it is
-  pub leaf-string : ((i : ℕ) → getD s i 0 < 256) → isString (n .letter) ≡ true → n .size ≤ 255 → (b : Bool)
-      → b ≡ wellFormed (contents s (n .place) (n .size)) → LeafIs s n (textIf b (n .place) (n .size))
-  unfolding classOf letters found
-  leaf-string small is few b formed =
-      among-each (λ l. n .letter ≡ l → LeafIs s n (textIf b (n .place) (n .size))) (n .letter) (0x75 ∷ 0x74 ∷ 0x61 ∷ 0x41 ∷ 0x7A ∷ 0x5A ∷ [])
-      (of-text refl, (of-text refl, (of-text refl, (of-text refl, (of-short refl, (of-short refl, tt)))))) is refl
-    where
-      of-text : {l : ℕ} → classOf l ≡ contains letter.text → n .letter ≡ l → LeafIs s n (textIf b (n .place) (n .size))
-      of-text c q = leaf-text small (ap classOf q ∙ c) b formed
-
-      of-short : {l : ℕ} → classOf l ≡ contains letter.short → n .letter ≡ l → LeafIs s n (textIf b (n .place) (n .size))
-      of-short c q = leaf-short small (ap classOf q ∙ c) few b formed
+    of-short : {l : ℕ} → classOf l ≡ contains letter.short → n .letter ≡ l → LeafIs s n (leaf.Sized 0x75 (n .place) (n .size))
+    of-short c q = let k = ap classOf q ∙ c in leaf-sized s n k (λ f g kids. as-short s small n f g kids k) (sym formed)
 
 -- The writing of a leaf, with a level left.
 

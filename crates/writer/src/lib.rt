@@ -410,21 +410,14 @@ fn text_if(formed: bool, place: u32, size: u32) -> Leaf
     }
 }
 
-// A string. Only of long ones it is asked whether the letter's length counts so far.
 fn text_of(s: &[u8], n: records::Node) -> Leaf
-    requires { ⌜ (n .count ≡ 0) × (n .place + n .size ≤ length (now s)) × (length (now s) ≤ mostBytes) ⌝ }
+    requires { ⌜ length (now s) ≤ mostBytes ⌝ }
     ensures { λ r. ⌜ LeafIs (now (s .entry)) (nodeOf n) r ⌝ }
 {
-    if n.size <= 255 {
-        if !tables::is_string(n.letter) {
-            return Leaf::Other;
-        }
-        return text_if(records::well_formed(s, n.place, n.size), n.place, n.size);
-    }
-    if fields::class_of(n.letter) != fields::TEXT {
+    if !tables::is_string(n.letter) {
         return Leaf::Other;
     }
-    text_if(records::well_formed(s, n.place, n.size), n.place, n.size)
+    text_if(records::text_sound(s, n), n.place, n.size)
 }
 
 fn leaf_of(s: &[u8], n: records::Node) -> Leaf
