@@ -1,21 +1,21 @@
--- What the puts share, said of plain lists: bytes stored one after another are the writing that was asked for, if there is room; a loop over
--- a part of the input. Assumes nothing.
+-- What the puts share, said of plain lists: bytes stored one after another are the writing that was asked for, if there is room; a part
+-- of the input stored in a loop or as blocks that may overlap. Assumes nothing.
 use mathlib.Core.Path.{_≡_, refl, sym, ap, _∙_}
-use Prim.Native.Nat.{ℕ, suc, _+_, _≤_, _<_}
+use Prim.Native.Nat.{ℕ, suc, _+_, _-_, _*_, _≤_, _<_}
 use native.Mathlib.Omega.{arith}
 use native.Mathlib.Numerals.{add-one, add-two}
 use mathlib.Core.Bool.{Bool, true, false}
-use mathlib.Core.List.{List, [], _∷_, _++_}
+use mathlib.Core.List.{List, [], _∷_, _++_, append-assoc}
 use lib.ListN.{length, getD, set, take, drop, length-append, length-set}
-use lib.Seq.{length-take-le, sets, sets-eq, length-sets, take-at, drop-at, slice, slice-empty, length-slice}
+use lib.Seq.{length-take-le, sets, sets-eq, length-sets, take-at, drop-at, slice, slice-empty, length-slice, take-set-le}
 use borrow.Author.Tests.{le-leb, lt-leb, lt-ltb, le-ltb}
 use Rattle.refusals.specs.Numbers.{noRoom}
 use Rattle.grammar.specs.Reading.{gives}
 use Rattle.grammar.specs.Letters as letter
-use Rattle.grammar.specs.Fields.{contents}
+use Rattle.grammar.specs.Fields.{contents, le32, le64}
 use Rattle.writing.specs.Writing.{ended, emit, into}
-use Rattle.writing.specs.Canonical.{bytes32, sized, ascii, codeString}
-use Rattle.writing.proofs.Numbers.{part-next}
+use Rattle.writing.specs.Canonical.{bytes32, bytes64, sized, ascii, codeString}
+use Rattle.writing.proofs.Numbers.{part-next, part-append, word-bytes, long-bytes, two-bytes}
 use Rattle.puts.specs.declared.Wrote.{Wrote}
 use Rattle.puts.specs.declared.Wrote.the-variants as wrote
 use Rattle.puts.specs.Puts.{Puts, Short}
@@ -56,6 +56,36 @@ sets-append o at (x ∷ xs) ys =
     let e : at + suc (length xs) ≡ suc at + length xs = omega arith in
     ap (λ k. sets (sets (set o at x) (suc at) xs) k ys) e ∙ sets-append (set o at x) (suc at) xs ys
 
+-- a run, and another behind it
+pub sets-behind : (o : List ℕ) (at : ℕ) (xs ys : List ℕ) {o₁ o₂ : List ℕ} → o₁ ≡ sets o at xs → o₂ ≡ sets o₁ (at + length xs) ys → o₂ ≡ sets o at (xs ++ ys)
+sets-behind o at xs ys e f = f ∙ ap (λ l. sets l (at + length xs) ys) e ∙ sets-append o at xs ys
+
+-- a run leaves what is before it
+take-sets : (n : ℕ) (o : List ℕ) (at : ℕ) (vs : List ℕ) → n ≤ at → take n (sets o at vs) ≡ take n o
+take-sets n o at [] h = refl
+take-sets n o at (v ∷ vs) h = take-sets n (set o at v) (suc at) vs (omega arith) ∙ take-set-le n o at v h
+
+-- a run over the front of another, whose rest stays
+sets-over : (o : List ℕ) (at n : ℕ) (xs ys zs : List ℕ) → n + length ys ≡ length xs → at + length (xs ++ zs) ≤ length o
+    → sets (sets o (at + n) (ys ++ zs)) at xs ≡ sets o at (xs ++ zs)
+sets-over o at n xs ys zs e h =
+    let p = take (at + n) o in
+    let d = drop (at + n + length (ys ++ zs)) o in
+    let o₁ = sets o (at + n) (ys ++ zs) in
+    let u = length-append xs zs in
+    let v = length-append ys zs in
+    let parts : o₁ ≡ (p ++ ys) ++ (zs ++ d) = sets-eq (ys ++ zs) o (at + n) (omega (arith, u, v)) ∙ simp append-assoc in
+    let m : length (p ++ ys) ≡ at + length xs = length-append p ys ∙ omega (arith, u, length-take-le (at + n) o (omega (arith, u))) in
+    let behind : drop (at + length xs) o₁ ≡ zs ++ d = ap (drop (at + length xs)) parts ∙ drop-at (p ++ ys) (zs ++ d) (at + length xs) m in
+    let joined : take at o ++ xs ++ (zs ++ d) ≡ take at o ++ (xs ++ zs) ++ d = simp append-assoc in
+    let k : at + n + length (ys ++ zs) ≡ at + length (xs ++ zs) = omega (arith, u, v) in
+    sets-eq xs o₁ at (omega (arith, u, length-sets o (at + n) (ys ++ zs)))
+    ∙ ap (λ l. take at o₁ ++ xs ++ l) behind
+    ∙ ap (λ l. l ++ xs ++ (zs ++ d)) (take-sets at o (at + n) (ys ++ zs) (omega arith))
+    ∙ joined
+    ∙ ap (λ i. take at o ++ (xs ++ zs) ++ drop i o) k
+    ∙ sym (sets-eq (xs ++ zs) o at h)
+
 -- a first byte, then others
 pub sets-first : (o : List ℕ) (at b : ℕ) (bs : List ℕ) → sets (set o at b) (at + 1) bs ≡ sets o at (b ∷ bs)
 sets-first o at b bs = ap (λ k. sets (set o at b) k bs) (add-one at)
@@ -67,10 +97,9 @@ sets-second o at a b bs = rw (add-one at, add-two at) refl
 -- a letter and a number, then others
 pub sets-sized : (o : List ℕ) (at letter len : ℕ) (bs : List ℕ) {o₁ o₂ : List ℕ} → o₁ ≡ sets (set o at letter) (at + 1) (bytes32 len) → o₂ ≡ sets o₁ (at + 5) bs
     → o₂ ≡ sets o at ((letter ∷ bytes32 len) ++ bs)
-sets-sized o at letter len bs {o₁} {o₂} e f =
-    f ∙ ap (λ l. sets l (at + 5) bs) (e ∙ sets-first o at letter (bytes32 len)) ∙ sets-append o at (letter ∷ bytes32 len) bs
+sets-sized o at letter len bs e f = sets-behind o at (letter ∷ bytes32 len) bs (e ∙ sets-first o at letter (bytes32 len)) f
 
--- A part of the input, byte by byte.
+-- A part of the input, byte by byte and block by block.
 
 pub contents-length : (s : List ℕ) (from size : ℕ) → from + size ≤ length s → length (contents s from size) ≡ size
 contents-length s from size h = length-slice from (from + size) s h ∙ omega arith
@@ -113,6 +142,45 @@ module _ (o : List ℕ) (at : ℕ) (s : List ℕ) (from size : ℕ) (h : from + 
       let q : o′ ≡ sets o at (0x7A ∷ length (contents s from size) ∷ contents s from size) =
       rw n (e ∙ sets-second o at 0x7A size (contents s from size)) in
       placed (omega arith) (omega arith) q
+
+-- a block of the input, read as numbers and stored as their bytes
+module _ (o : List ℕ) (at : ℕ) (s : List ℕ) (small : (i : ℕ) → getD s i 0 < 256) (from : ℕ) where
+  pub four-stored : {w : ℕ} {o′ : List ℕ} → from + 4 ≤ length s → w ≡ le32 s from → o′ ≡ sets o at (bytes32 w) → o′ ≡ sets o at (contents s from 4)
+  four-stored h e f = f ∙ ap (λ w. sets o at (bytes32 w)) e ∙ ap (sets o at) (word-bytes s small from h)
+
+  pub eight-stored : {w : ℕ} {o′ : List ℕ} → from + 8 ≤ length s → w ≡ le64 s from → o′ ≡ sets o at (bytes64 w) → o′ ≡ sets o at (contents s from 8)
+  eight-stored h e f = f ∙ ap (λ w. sets o at (bytes64 w)) e ∙ ap (sets o at) (long-bytes s small from h)
+
+  pub sixteen-stored : {low high : ℕ} {o₁ o₂ : List ℕ} → from + 16 ≤ length s → low ≡ le64 s from → high ≡ le64 s (from + 8)
+      → o₁ ≡ sets o at (bytes64 low) → o₂ ≡ sets o₁ (at + 8) (bytes64 high) → o₂ ≡ sets o at (contents s from 16)
+  sixteen-stored {low} {high} h d e f g =
+      sets-behind o at (bytes64 low) (bytes64 high) f g
+      ∙ ap (λ w. sets o at (bytes64 w ++ bytes64 high)) d
+      ∙ ap (λ w. sets o at (bytes64 (le64 s from) ++ bytes64 w)) e
+      ∙ ap (sets o at) (two-bytes s small from h)
+
+-- the two ends of a part, where they meet or overlap, come to the whole of it
+pub ends-stored : (o : List ℕ) (at : ℕ) (s : List ℕ) (from size block : ℕ) {o₁ o₂ : List ℕ} → at + size ≤ length o → from + size ≤ length s → block ≤ size → size ≤ 2 * block
+    → o₁ ≡ sets o (at + (size - block)) (contents s (from + (size - block)) block) → o₂ ≡ sets o₁ at (contents s from block)
+    → o₂ ≡ sets o at (contents s from size)
+ends-stored o at s from size block h k b l e f =
+    let rest = size - block in
+    let front = contents s from block in
+    let shared = contents s (from + rest) (block - rest) in
+    let tail = contents s (from + block) rest in
+    let m : block - rest + rest ≡ block = omega arith in
+    let j : block + rest ≡ size = omega arith in
+    let i : from + rest + (block - rest) ≡ from + block = omega arith in
+    let last : contents s (from + rest) block ≡ shared ++ tail =
+    ap (contents s (from + rest)) (sym m)
+    ∙ part-append s (from + rest) (block - rest) rest (omega arith) ∙ ap (λ q. shared ++ contents s q rest) i in
+    let whole : contents s from size ≡ front ++ tail = ap (contents s from) (sym j) ∙ part-append s from block rest (omega arith) in
+    f
+    ∙ ap (λ x. sets x at front) (e ∙ ap (sets o (at + rest)) last)
+    ∙ sets-over o at rest front shared tail
+    (omega (arith, contents-length s (from + rest) (block - rest) (omega arith), contents-length s from block (omega arith)))
+    (omega (arith, ap length whole, contents-length s from size k))
+    ∙ ap (sets o at) (sym whole)
 
 -- so many bytes of the part are stored, and the rest still comes to the same output
 pub record Storing (o₀ : List ℕ) (at : ℕ) (s : List ℕ) (from size : ℕ) (o : List ℕ) (i : ℕ) : Type 0 where

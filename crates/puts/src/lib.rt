@@ -10,7 +10,7 @@ ghost use Rattle.grammar.specs.Letters.{long};
 ghost use Rattle.grammar.specs.Fields.{contents, le64, fields, span, items};
 ghost use Rattle.grammar.specs.Leaf.{magnitude};
 ghost use Rattle.writing.specs.Writing.{emit, ended};
-ghost use Rattle.writing.specs.Canonical.{bytes32, sized, ascii, codeString, digitsOf, digitBytes, bitsOf, ofBits, longBytes, integerBytes};
+ghost use Rattle.writing.specs.Canonical.{bytes32, bytes64, sized, ascii, codeString, digitsOf, digitBytes, bitsOf, ofBits, longBytes, integerBytes};
 ghost use Rattle.writing.specs.Shape.{longAt};
 ghost use Rattle.puts.specs.Puts.{Open, Puts, Short};
 
@@ -30,7 +30,42 @@ fn store_u32(out: &mut [u8], at: usize, x: u32)
     out[at + 3] = (x / 256 / 256 / 256 % 256) as u8;
 }
 
-fn store_slice(out: &mut [u8], at: usize, s: &[u8], from: usize, size: usize)
+fn store_u64(out: &mut [u8], at: usize, x: u64)
+    requires { ⌜ at + 8 ≤ length (now out) ⌝ }
+    ensures { λ _. ⌜ now (out .exit) ≡ sets (now (out .entry)) at (bytes64 x) ⌝ }
+{
+    store_u32(out, at, (x % 4294967296) as u32);
+    store_u32(out, at + 4, (x / 4294967296) as u32);
+}
+
+// Four, eight and sixteen bytes of the input as they stand. All are read before the first is stored: the compiler does not know
+// that the two slices lie apart, and would else copy them one by one.
+fn store_four(out: &mut [u8], at: usize, s: &[u8], from: usize)
+    requires { ⌜ (at + 4 ≤ length (now out)) × (from + 4 ≤ length (now s)) ⌝ }
+    ensures { λ _. ⌜ now (out .exit) ≡ sets (now (out .entry)) at (contents (now (s .entry)) from 4) ⌝ }
+{
+    store_u32(out, at, fields::le32(s, from));
+}
+
+fn store_eight(out: &mut [u8], at: usize, s: &[u8], from: usize)
+    requires { ⌜ (at + 8 ≤ length (now out)) × (from + 8 ≤ length (now s)) ⌝ }
+    ensures { λ _. ⌜ now (out .exit) ≡ sets (now (out .entry)) at (contents (now (s .entry)) from 8) ⌝ }
+{
+    store_u64(out, at, fields::le64(s, from));
+}
+
+fn store_sixteen(out: &mut [u8], at: usize, s: &[u8], from: usize)
+    requires { ⌜ (at + 16 ≤ length (now out)) × (from + 16 ≤ length (now s)) ⌝ }
+    ensures { λ _. ⌜ now (out .exit) ≡ sets (now (out .entry)) at (contents (now (s .entry)) from 16) ⌝ }
+{
+    let low = fields::le64(s, from);
+    let high = fields::le64(s, from + 8);
+    store_u64(out, at, low);
+    store_u64(out, at + 8, high);
+}
+
+// So many bytes of the input, one after another.
+fn store_bytes(out: &mut [u8], at: usize, s: &[u8], from: usize, size: usize)
     requires { ⌜ (at + size ≤ length (now out)) × (from + size ≤ length (now s)) ⌝ }
     ensures { λ _. ⌜ now (out .exit) ≡ sets (now (out .entry)) at (contents (now (s .entry)) from size) ⌝ }
 {
@@ -39,6 +74,36 @@ fn store_slice(out: &mut [u8], at: usize, s: &[u8], from: usize, size: usize)
         out[at + i] = s[from + i];
         i += 1;
     }
+}
+
+// The same for 4 to 32 bytes: a block at each end, the last one first; the two may overlap.
+fn store_ends(out: &mut [u8], at: usize, s: &[u8], from: usize, size: usize)
+    requires { ⌜ (at + size ≤ length (now out)) × (from + size ≤ length (now s)) × (4 ≤ size) × (size ≤ 32) ⌝ }
+    ensures { λ _. ⌜ now (out .exit) ≡ sets (now (out .entry)) at (contents (now (s .entry)) from size) ⌝ }
+{
+    if 16 <= size {
+        store_sixteen(out, at + (size - 16), s, from + (size - 16));
+        return store_sixteen(out, at, s, from);
+    }
+    if 8 <= size {
+        store_eight(out, at + (size - 8), s, from + (size - 8));
+        return store_eight(out, at, s, from);
+    }
+    store_four(out, at + (size - 4), s, from + (size - 4));
+    store_four(out, at, s, from)
+}
+
+// The same for any number of bytes, the common ones without a loop.
+fn store_slice(out: &mut [u8], at: usize, s: &[u8], from: usize, size: usize)
+    requires { ⌜ (at + size ≤ length (now out)) × (from + size ≤ length (now s)) ⌝ }
+    ensures { λ _. ⌜ now (out .exit) ≡ sets (now (out .entry)) at (contents (now (s .entry)) from size) ⌝ }
+{
+    if 4 <= size {
+        if size <= 32 {
+            return store_ends(out, at, s, from, size);
+        }
+    }
+    store_bytes(out, at, s, from, size)
 }
 
 // A letter alone, a number of 32 bits alone, or one behind a letter.

@@ -3,8 +3,8 @@ use Rattle.puts.proofs.Laws.{Storing, storing-none, storing-more, stori
 use native.Mathlib.Omega.{arith}
 use Prim.Native.Nat.{_-_}
 use borrow.Author.Needs.{needs}
-use Rattle.puts.proofs.store_slice.Statement.{statement}
-use Rattle.puts.proofs.store_slice.Tie as tie
+use Rattle.puts.proofs.store_bytes.Statement.{statement}
+use Rattle.puts.proofs.store_bytes.Tie as tie
 
 abbrev Inv-loop : tie.InvT-loop
 Inv-loop out₀ at s from size i₀ out i = Storing out₀ at s from size out i
@@ -42,8 +42,8 @@ same-length c = search needs
 returns : tie.Need-returns Inv-loop μ-loop
 returns c = search (storing-all, needs)
 
-pub store-slice-spec : {M : Type 1} → statement M
-store-slice-spec =
+pub store-bytes-spec : {M : Type 1} → statement M
+store-bytes-spec =
     tie.close
     (tie.spec
     Inv-loop
