@@ -11,6 +11,7 @@ use borrow.Author.Tests.{le-leb, ltb-true, ltb-false, leb-true}
 use Rattle.wtf8.specs.Encoding.{lastPoint, encoding, encodings, Points, Encoded}
 use Rattle.wtf8.specs.Forms.{Expected, point, trail, wrong, afterLead, afterTrail, after, allows, wellFormed}
 use Rattle.wtf8.specs.Sequence.{lowAfter, highAfter}
+use Rattle.wtf8.proofs.Ascii.{apart}
 use Rattle.wtf8.proofs.Reached.{spoilt, ascii}
 use Rattle.wtf8.proofs.Leads.{stray, leads-two, leads-three, leads-four, beyond, low-holds, high-holds, low-three, low-four, high-four}
 use Rattle.wtf8.proofs.Lengths.{one, two, three, four, by-length, some}
@@ -74,9 +75,6 @@ record Trailed (bs : List ℕ) (low high more : ℕ) : Type 0 where
   least : low ≤ byte
   most : byte ≤ high
   left : allows rest (afterTrail more) ≡ true
-
-apart : _≡_ {A = Bool} false true → ⊥
-apart e = let zero-is-one : _≡_ {A = ℕ} 0 1 = cc in omega arith
 
 trailed : (bs : List ℕ) (low high more : ℕ) → allows bs (trail low high more) ≡ true → Trailed bs low high more
 unfolding allows after

@@ -5,11 +5,12 @@ use mathlib.Core.Bool.{true, false}
 use mathlib.Core.List.{List}
 use Prim.Native.Nat.{ℕ, _+_, _-_, _≤_, _<_}
 use native.Mathlib.Omega.{arith}
-use lib.ListN.{length, getD, take, drop, length-take, length-drop, drop-of-length-le}
-use lib.Seq.{getD-take, getD-drop}
+use lib.ListN.{length, getD, take, drop, drop-of-length-le}
 use borrow.Author.Tests.{eq-eqb, ne-eqb}
 use Rattle.wtf8.specs.Forms.{allows, point, wellFormed}
+use Rattle.wtf8.specs.Ascii.{UpTo}
 use Rattle.wtf8.specs.Sequence.{Taken, Reached}
+use Rattle.wtf8.proofs.Ascii.{in-whole}
 use Rattle.wtf8.proofs.Reached.{lows, joined}
 
 pub record Going (bytes : List ℕ) (at : ℕ) : Type 0 where
@@ -48,12 +49,10 @@ low-none {bytes} {at} h =
 -- so many bytes more, looked at as a part
 pub low-more :
     {bytes : List ℕ} {at end most : ℕ} (n : ℕ) → Low bytes at end → n ≤ length bytes - end
-    → ((k : ℕ) → k < length (take (end + n - end) (drop end bytes)) → getD (take (end + n - end) (drop end bytes)) k 0 ≤ most) → most < 0x80
-    → Low bytes at (end + n)
+    → UpTo most (take (end + n - end) (drop end bytes)) → most < 0x80 → Low bytes at (end + n)
 low-more {bytes} {at} {end} {most} n w h part l =
-    let size : end + n - end ≡ n = omega arith in
     let here : at + (end - at) ≡ end = omega arith in
     let far : end + n - at ≡ end - at + n = omega arith in
     let each : (k : ℕ) → k < n → getD bytes (end + k) 0 < 0x80 =
-    λ k i. omega (arith, l, rw (size, getD-take n (drop end bytes) k 0 i, getD-drop) at (part k (rw size (simp (length-take, length-drop) (omega (arith, i)))))) in
+    λ k i. omega (arith, l, in-whole bytes end (end + n - end) part (end + k) (omega arith) (omega (arith, i)) (omega (arith, i))) in
     record { from = omega arith; inside = omega arith; all = rw far (joined (w .all) (rw here (lows n (omega arith) each))) }

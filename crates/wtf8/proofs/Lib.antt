@@ -1,3 +1,4 @@
+pub mod Ascii
 pub mod Reached
 pub mod Leads
 pub mod Going

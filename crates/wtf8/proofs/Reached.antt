@@ -12,6 +12,7 @@ use lib.ListN.{length, getD, drop, length-drop}
 use lib.Seq.{drop-cons}
 use borrow.Author.Tests.{lt-ltb, ne-eqb, not-true, not-false}
 use Rattle.wtf8.specs.Forms.{Expected, point, trail, wrong, afterLead, afterTrail, after, allows}
+use Rattle.wtf8.specs.Ascii.{UpTo}
 use Rattle.wtf8.specs.Sequence.{Taken, Reached, within}
 
 -- one byte more
@@ -52,12 +53,12 @@ unfolding afterLead
 ascii {b} l = rw (lt-ltb b 0x80)
 
 -- bytes of ASCII are well-formed
-pub all-ascii : {most : ℕ} (s : List ℕ) → ((k : ℕ) → k < length s → getD s k 0 ≤ most) → most < 0x80 → allows s point ≡ true
+pub all-ascii : (s : List ℕ) → UpTo 0x7F s → allows s point ≡ true
 unfolding allows after
-all-ascii [] all l = refl
-all-ascii {most} (b ∷ bs) all l =
-    let low : b ≤ most = all 0 (omega arith) in
-    rw (ascii {b = b} (omega arith)) (all-ascii bs (λ k h. all (suc k) (omega (arith, h))) l)
+all-ascii [] all = refl
+all-ascii (b ∷ bs) all =
+    let low : b ≤ 0x7F = all 0 (omega arith) in
+    rw (ascii {b = b} (omega arith)) (all-ascii bs (λ k h. all (suc k) (omega (arith, h))))
 
 module _ {s : List ℕ} {at : ℕ} where
   -- the first byte

@@ -1,3 +1,4 @@
 pub mod Encoding
 pub mod Forms
+pub mod Ascii
 pub mod Sequence

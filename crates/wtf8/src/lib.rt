@@ -1,8 +1,9 @@
 // Whether bytes are UTF-8 with surrogate code points allowed: what the bytes of every string have to be.
-// A loop without an early exit settles plain ASCII; only other bytes are gone through sequence by sequence, by their leads.
+// ASCII is settled by whole blocks; only other bytes are gone through sequence by sequence, by their leads.
 ghost use mathlib.Core.Path.{_≡_};
-ghost use Prim.Native.Nat.{ℕ, _+_, _≤_, _<_};
+ghost use Prim.Native.Nat.{ℕ, _*_, _≤_, _<_};
 ghost use lib.ListN.{length, getD};
+ghost use Rattle.wtf8.specs.Ascii.{Greatest, Tells};
 ghost use Rattle.wtf8.specs.Forms.{wellFormed, afterLead, point, trail};
 ghost use Rattle.wtf8.specs.Sequence.{Taken, Reached, lowAfter, highAfter, within};
 
@@ -10,15 +11,49 @@ ghost use Rattle.wtf8.specs.Sequence.{Taken, Reached, lowAfter, highAfte
 pub fn is_wtf8(bytes: &[u8]) -> bool
     ensures { λ r. ⌜ r ≡ wellFormed (now (bytes .entry)) ⌝ }
 {
-    if greatest(bytes) < 0x80 {
+    if is_ascii(bytes) {
         return true;
     }
-    sequences(bytes)
+    if bytes.len() <= 32 {
+        return sequences(bytes, false);
+    }
+    sequences(bytes, true)
+}
+
+// Whether all bytes are below 128. Up to 32 of them are looked at as two blocks of one size, which may overlap.
+pub fn is_ascii(bytes: &[u8]) -> bool
+    ensures { λ r. ⌜ Tells (now (bytes .entry)) r ⌝ }
+{
+    let size = bytes.len();
+    if size < 8 {
+        if 4 <= size {
+            return ends_are_ascii(bytes, 4);
+        }
+        return greatest(bytes) < 0x80;
+    }
+    if size <= 16 {
+        return ends_are_ascii(bytes, 8);
+    }
+    if size <= 32 {
+        return ends_are_ascii(bytes, 16);
+    }
+    greatest(bytes) < 0x80
+}
+
+// The same by the first and the last block, which together are all.
+fn ends_are_ascii(bytes: &[u8], block: usize) -> bool
+    requires { ⌜ (block ≤ length (now bytes)) × (length (now bytes) ≤ 2 * block) ⌝ }
+    ensures { λ r. ⌜ Tells (now (bytes .entry)) r ⌝ }
+{
+    if 0x80 <= greatest(&bytes[..block]) {
+        return false;
+    }
+    greatest(&bytes[bytes.len() - block..]) < 0x80
 }
 
 // The greatest of the bytes, or 0. No early exit, so that many bytes are compared at once.
 fn greatest(bytes: &[u8]) -> u8
-    ensures { λ r. ⌜ ((k : ℕ) → k < length (now (bytes .entry)) → getD (now (bytes .entry)) k 0 ≤ r) ⌝ }
+    ensures { λ r. ⌜ Greatest (now (bytes .entry)) r ⌝ }
 {
     let mut at = 0;
     let mut most = 0u8;
@@ -30,18 +65,18 @@ fn greatest(bytes: &[u8]) -> u8
 }
 
 fn greater(a: u8, b: u8) -> u8
-    ensures { λ r. ⌜ (a ≤ r) × (b ≤ r) ⌝ }
+    ensures { λ r. ⌜ (a ≤ r) × (b ≤ r) × ((m : ℕ) → a ≤ m → b ≤ m → r ≤ m) ⌝ }
 {
     if a < b { b } else { a }
 }
 
-// Whether the bytes are whole sequences, one after another.
-fn sequences(bytes: &[u8]) -> bool
+// Whether the bytes are whole sequences, one after another. `by_blocks`, for speed alone: whether ASCII is passed by blocks.
+fn sequences(bytes: &[u8], by_blocks: bool) -> bool
     ensures { λ r. ⌜ r ≡ wellFormed (now (bytes .entry)) ⌝ }
 {
     let mut at = 0;
     while at < bytes.len() {
-        let size = sequence(bytes, at);
+        let size = sequence(bytes, at, by_blocks);
         if size == 0 {
             return false;
         }
@@ -51,13 +86,13 @@ fn sequences(bytes: &[u8]) -> bool
 }
 
 // How many bytes may be taken at once: a sequence, or several of ASCII; 0 where no sequence stands.
-fn sequence(bytes: &[u8], at: usize) -> usize
+fn sequence(bytes: &[u8], at: usize, by_blocks: bool) -> usize
     requires { ⌜ at < length (now bytes) ⌝ }
     ensures { λ r. ⌜ Taken (now (bytes .entry)) at r ⌝ }
 {
     let lead = bytes[at];
     if lead < 0x80 {
-        return plain(bytes, at);
+        return plain(bytes, at, by_blocks);
     }
     if lead < 0xC2 {
         return 0;
@@ -74,11 +109,14 @@ fn sequence(bytes: &[u8], at: usize) -> usize
     0
 }
 
-// How many bytes of ASCII may be taken at once: one, and blocks of eight where `at` is a multiple of eight.
-fn plain(bytes: &[u8], at: usize) -> usize
+// How many bytes of ASCII may be taken at once: one, or `by_blocks` those of eight where `at` is a multiple of eight.
+fn plain(bytes: &[u8], at: usize, by_blocks: bool) -> usize
     requires { ⌜ (at < length (now bytes)) × (getD (now bytes) at 0 < 0x80) ⌝ }
     ensures { λ r. ⌜ Taken (now (bytes .entry)) at r ⌝ }
 {
+    if !by_blocks {
+        return 1;
+    }
     if at % 8 != 0 {
         return 1;
     }

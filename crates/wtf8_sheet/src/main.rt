@@ -44,7 +44,7 @@ fn plain_text() {
     show(b"\x00\x7F", b"the first and the last of ASCII");
     show(b"na\xC3\xAFve", b"two bytes within ASCII");
     show(
-        b"eight by\xC3\xB6tes and eighteen more",
+        b"eight by\xC3\xB6tes and twenty-three more",
         b"blocks of ASCII around two bytes",
     );
     show(b"\xE2\x82\xAC 5", b"three bytes");

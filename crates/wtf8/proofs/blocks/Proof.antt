@@ -50,7 +50,7 @@ loop-less c = search needs
 
 loop-again : tie.Need-loop-again Inv-loop μ-loop
 loop-again c =
-    low-more 8 (c .before .before .before .before .loop .inv) (c .before .before .before .loop-test .taken) (c .before .greatest .ensures) (c .if1 .left)
+    low-more 8 (c .before .before .before .before .loop .inv) (c .before .before .before .loop-test .taken) (c .before .greatest .ensures .bound) (c .if1 .left)
 
 sub-result-2 : tie.Need-sub-result-2 Inv-loop μ-loop
 sub-result-2 c = search needs

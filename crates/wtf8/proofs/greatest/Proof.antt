@@ -1,4 +1,4 @@
--- `wtf8::greatest` meets its contract: no byte passed exceeds what is kept.
+-- `wtf8::greatest` meets its contract: what is kept is the least bound of the bytes passed.
 -- Assumes nothing.
 use native.Mathlib.Omega.{arith}
 use borrow.Author.Needs.{needs}
@@ -10,14 +10,15 @@ use Rattle.wtf8.proofs.greatest.Statement.{statement}
 use Rattle.wtf8.proofs.greatest.Tie as tie
 
 abbrev Inv-loop : tie.InvT-loop
-Inv-loop bytes at₀ most₀ at most = (at ≤ length bytes) × ((k : ℕ) → k < at → getD bytes k 0 ≤ most)
+Inv-loop bytes at₀ most₀ at most =
+    (at ≤ length bytes) × ((k : ℕ) → k < at → getD bytes k 0 ≤ most) × ((m : ℕ) → ((k : ℕ) → k < at → getD bytes k 0 ≤ m) → most ≤ m)
 
 abbrev μ-loop : tie.MeasureT-loop
 μ-loop bytes at₀ most₀ at most = length bytes - at
 
 loop-holds : tie.Need-loop-holds Inv-loop μ-loop
 loop-holds c =
-    (search needs, λ k h. absurd (omega (arith, h)))
+    (search needs, λ k h. absurd (omega (arith, h)), λ m all. omega arith)
 
 shared-slice-read-greater : tie.Need-shared-slice-read-greater Inv-loop μ-loop
 shared-slice-read-greater c = search needs
@@ -33,12 +34,20 @@ loop-less c = search needs
 
 loop-again : tie.Need-loop-again Inv-loop μ-loop
 loop-again c =
-    let all = c .before .before .before .loop .inv .1 in
-    (search needs, below-more _ _ (λ k h. le-trans (all k h) (c .greater .ensures .0)) (c .greater .ensures .1))
+    let held = c .before .before .before .loop .inv in
+    let kept = c .greater .ensures in (
+      search needs,
+      below-more _ _ (λ k h. le-trans (held .1 k h) (kept .0)) (kept .1),
+      λ m all. kept .2 m (held .2 m (λ k h. all k (omega (arith, h)))) (all _ (omega arith)),
+    )
 
 returns : tie.Need-returns Inv-loop μ-loop
 returns c =
-    λ k h. c .before .loop .inv .1 k (omega (arith, h, c .loop-test .left))
+    let held = c .before .loop .inv in
+    record {
+      bound = λ k h. held .1 k (omega (arith, h, c .loop-test .left));
+      least = λ m all. held .2 m (λ k h. all k (omega (arith, h)));
+    }
 
 pub greatest-spec : {M : Type 1} → statement M
 greatest-spec =

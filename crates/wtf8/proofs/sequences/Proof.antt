@@ -8,10 +8,10 @@ use Rattle.wtf8.proofs.sequences.Statement.{statement}
 use Rattle.wtf8.proofs.sequences.Tie as tie
 
 abbrev Inv-loop : tie.InvT-loop
-Inv-loop bytes at₀ at = Going bytes at
+Inv-loop bytes by-blocks at₀ at = Going bytes at
 
 abbrev μ-loop : tie.MeasureT-loop
-μ-loop bytes at₀ at = length bytes - at
+μ-loop bytes by-blocks at₀ at = length bytes - at
 
 loop-holds : tie.Need-loop-holds Inv-loop μ-loop
 loop-holds c =
