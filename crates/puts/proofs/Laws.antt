@@ -1,22 +1,18 @@
 -- What the puts share, said of plain lists: bytes stored one after another are the writing that was asked for, if there is room; a part
 -- of the input stored in a loop or as blocks that may overlap. Assumes nothing.
 use mathlib.Core.Path.{_≡_, refl, sym, ap, _∙_}
-use Prim.Native.Nat.{ℕ, zero, suc, _+_, _-_, _*_, _≤_, _<_}
+use Prim.Native.Nat.{ℕ, suc, _+_, _-_, _*_, _≤_, _<_}
 use native.Mathlib.Omega.{arith}
 use native.Mathlib.Numerals.{add-one, add-two}
-use mathlib.Core.Bool.{Bool, true, false, _&&_}
+use mathlib.Core.Bool.{Bool, true, false}
 use mathlib.Core.List.{List, [], _∷_, _++_, append-assoc}
 use lib.ListN.{length, getD, set, take, drop, length-append, length-set}
 use lib.Seq.{length-take-le, sets, sets-eq, length-sets, take-at, drop-at, slice, slice-empty, length-slice, take-set-le}
-use lib.Dec.{ltb}
-use borrow.Author.Tests.{le-leb, lt-leb, lt-ltb, le-ltb, ltb-true}
+use borrow.Author.Tests.{le-leb, lt-leb, lt-ltb, le-ltb}
 use Rattle.refusals.specs.Numbers.{noRoom}
-use Rattle.wtf8.specs.Ascii.{UpTo, Tells}
-use Rattle.wtf8.proofs.Ascii.{apart, tells-one}
 use Rattle.grammar.specs.Reading.{gives}
 use Rattle.grammar.specs.Letters as letter
 use Rattle.grammar.specs.Fields.{contents, le32, le64}
-use Rattle.fields.proofs.Laws.{part}
 use Rattle.writing.specs.Writing.{ended, emit, into}
 use Rattle.writing.specs.Canonical.{bytes32, bytes64, sized, ascii, codeString}
 use Rattle.writing.proofs.Numbers.{part-next, part-append, word-bytes, long-bytes, two-bytes}
@@ -216,24 +212,35 @@ storing-all {o₀} {at} {s} {from} {size} {o} {i} k h =
     let e : from + i ≡ from + size = omega arith in
     sym (ap (λ f. sets o (at + i) (slice f (from + size) s)) e ∙ ap (λ p. sets o (at + i) p) (slice-empty (from + size) s)) ∙ k .comes
 
--- Bytes below 128: the definition tells of each, and any answer that does so is the definition's.
+-- so many bytes of the part are below 128, and the rest tells
+pub record Plain (s : List ℕ) (from size i : ℕ) : Type 0 where
+  pub within : i ≤ size
+  pub comes : ascii (slice (from + i) (from + size) s) ≡ ascii (contents s from size)
 
-ascii-tells : (bs : List ℕ) → Tells bs (ascii bs)
+pub plain-none : (s : List ℕ) (from size : ℕ) → Plain s from size 0
+plain-none s from size =
+    let f : from + 0 ≡ from = omega arith in
+    record { within = omega arith; comes = ap (λ k. ascii (slice k (from + size) s)) f }
+
+pub plain-more : {s : List ℕ} {from size i : ℕ} → Plain s from size i → from + size ≤ length s → i < size → getD s (from + i) 0 < 128 → Plain s from size (i + 1)
 unfolding ascii
-ascii-tells [] = record { low = λ e k h. absurd (omega (arith, h)); all = λ u. refl }
-ascii-tells (b ∷ bs) =
+plain-more {s} {from} {size} {i} k h l b =
     record {
-      low = λ e. go (ascii-tells bs) (ltb b 128) refl e;
-      all = λ u. rw (lt-ltb b 128 (omega (arith, u 0 (omega arith)))) (ascii-tells bs .all (λ k h. u (suc k) (omega (arith, h))));
+      within = omega arith;
+      comes = sym (ap ascii (part-next s from i (from + size) (omega arith) h) ∙ rw (lt-ltb (getD s (from + i) 0) 128 b) refl) ∙ k .comes;
     }
-  where
-    go : Tells bs (ascii bs) → (t : Bool) → ltb b 128 ≡ t → (t && ascii bs) ≡ true → UpTo 0x7F (b ∷ bs)
-    go less true t e zero h = omega (arith, ltb-true b 128 t)
-    go less true t e (suc k) h = less .low e k (omega (arith, h))
-    go less false t e k h = absurd (apart e)
 
-pub ascii-told : (s : List ℕ) (from size : ℕ) {r : Bool} → Tells (take (from + size - from) (drop from s)) r → r ≡ ascii (contents s from size)
-ascii-told s from size {r} t = tells-one r _ (rw (part s from size) at t) (ascii-tells (contents s from size))
+pub plain-not : {s : List ℕ} {from size i : ℕ} → Plain s from size i → from + size ≤ length s → i < size → 128 ≤ getD s (from + i) 0
+    → false ≡ ascii (contents s from size)
+unfolding ascii
+plain-not {s} {from} {size} {i} k h l b =
+    sym (ap ascii (part-next s from i (from + size) (omega arith) h) ∙ rw (le-ltb (getD s (from + i) 0) 128 b) refl) ∙ k .comes
+
+pub plain-all : {s : List ℕ} {from size i : ℕ} → Plain s from size i → size ≤ i → true ≡ ascii (contents s from size)
+unfolding ascii
+plain-all {s} {from} {size} {i} k h =
+    let e : from + i ≡ from + size = omega arith in
+    sym (ap (λ f. ascii (slice f (from + size) s)) e ∙ ap ascii (slice-empty (from + size) s)) ∙ k .comes
 
 -- A code string.
 

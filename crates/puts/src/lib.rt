@@ -185,7 +185,14 @@ fn is_ascii(s: &[u8], from: usize, size: usize) -> bool
     requires { ⌜ from + size ≤ length (now s) ⌝ }
     ensures { λ r. ⌜ r ≡ ascii (contents (now (s .entry)) from size) ⌝ }
 {
-    wtf8::is_ascii(&s[from..from + size])
+    let mut i = 0;
+    while i < size {
+        if 128 <= s[from + i] {
+            return false;
+        }
+        i += 1;
+    }
+    true
 }
 
 // Whether bytes of the input are few and ASCII.

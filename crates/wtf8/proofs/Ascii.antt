@@ -1,5 +1,5 @@
 -- What the greatest of bytes, or of parts of them, tells of whether they are ASCII. Assumes nothing.
-use mathlib.Core.Path.{_≡_, refl, sym}
+use mathlib.Core.Path.{_≡_, refl}
 use mathlib.Core.Bool.{Bool, true, false}
 use mathlib.Core.List.{List}
 use Prim.Native.Nat.{ℕ, _+_, _-_, _*_, _≤_, _<_}
@@ -55,10 +55,3 @@ module _ {bytes : List ℕ} {block : ℕ} (all : (block ≤ length bytes) × (le
       go : (k : ℕ) → k < length bytes → (t : Bool) → ltb k block ≡ t → last < 0x80 → getD bytes k 0 ≤ 0x7F
       go k i true t e = le-trans (in-whole bytes 0 block (f .bound) k (omega arith) (omega (arith, ltb-true k block t)) i) (omega arith)
       go k i false t e = le-trans (in-whole bytes from (length bytes - from) (g .bound) k (omega (arith, ltb-false k block t, all .1)) (omega arith) i) (omega arith)
-
--- one answer
-pub tells-one : {bytes : List ℕ} (r r′ : Bool) → Tells bytes r → Tells bytes r′ → r ≡ r′
-tells-one true true p p′ = refl
-tells-one true false p p′ = sym (p′ .all (p .low refl))
-tells-one false true p p′ = p .all (p′ .low refl)
-tells-one false false p p′ = refl

@@ -21,7 +21,7 @@ pub fn is_wtf8(bytes: &[u8]) -> bool
 }
 
 // Whether all bytes are below 128. Up to 32 of them are looked at as two blocks of one size, which may overlap.
-pub fn is_ascii(bytes: &[u8]) -> bool
+fn is_ascii(bytes: &[u8]) -> bool
     ensures { λ r. ⌜ Tells (now (bytes .entry)) r ⌝ }
 {
     let size = bytes.len();
