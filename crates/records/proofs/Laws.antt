@@ -2,18 +2,19 @@
 -- Assumes nothing.
 use mathlib.Core.Path.{_≡_, refl, ap, _∙_}
 use Prim.Native.Nat.{ℕ, zero, suc, _-_, _≤_, _<_}
-use mathlib.Core.Bool.{Bool, true, false, _&&_}
+use mathlib.Core.Bool.{Bool, true, false, cond, _&&_}
 use mathlib.Core.List.{List, [], _∷_}
 use mathlib.Core.Logic.{⊎-elim}
 use native.Mathlib.Nat.{eq-or-lt-of-le}
 use native.Mathlib.Omega.{arith}
 use lib.ListN.{List·getD-eq-default}
 use lib.Dec.{leb, eqb}
-use borrow.Author.Tests.{eq-eqb, ne-eqb, le-leb}
+use borrow.Author.Tests.{eq-eqb, ne-eqb}
 use Rattle.wtf8.specs.Forms.{wellFormed}
 use Rattle.grammar.specs.Letters.{refuses, classOf, letters, found, isString}
 use Rattle.grammar.specs.Fields.{contents}
 use Rattle.grammar.proofs.Lettered.{among-each}
+use Rattle.records.specs.Nodes.{tooLong}
 use Rattle.grammar.specs.State.{Node}
 use Rattle.grammar.specs.Record.{counted, readsAs, ruled}
 use Rattle.fields.specs.Classes.{classes, classAt}
@@ -61,13 +62,28 @@ pub and-true : (t : Bool) → t ≡ (t && true)
 and-true true = refl
 and-true false = refl
 
--- a string's letter takes up to 255 bytes, whichever it is
-pub text-ruled : (s : List ℕ) (n : Node) → isString (n .letter) ≡ true → n .size ≤ 255
-    → ruled s n (classOf (n .letter)) ≡ (eqb (n .count) 0 && wellFormed (contents s (n .place) (n .size)))
+-- a string by its letter and its contents, whichever the letter is
+pub text-ruled : (s : List ℕ) (n : Node) → isString (n .letter) ≡ true
+    → ruled s n (classOf (n .letter)) ≡ (eqb (n .count) 0 && cond (tooLong (n .letter) (n .size)) false (wellFormed (contents s (n .place) (n .size))))
 unfolding classOf letters found
-text-ruled s n is few =
-    among-each (λ l. ruled s n (classOf l) ≡ (eqb (n .count) 0 && wellFormed (contents s (n .place) (n .size)))) (n .letter) (0x75 ∷ 0x74 ∷ 0x61 ∷ 0x41 ∷ 0x7A ∷ 0x5A ∷ [])
-    (refl, (refl, (refl, (refl, (short, (short, tt)))))) is
+text-ruled s n is =
+    among-each
+    (λ l. ruled s n (classOf l) ≡ (eqb (n .count) 0 && cond (tooLong l (n .size)) false (wellFormed (contents s (n .place) (n .size)))))
+    (n .letter) (0x75 ∷ 0x74 ∷ 0x61 ∷ 0x41 ∷ 0x7A ∷ 0x5A ∷ [])
+    (any, (any, (any, (any, (few, (few, tt)))))) is
   where
-    short : (eqb (n .count) 0 && (leb (n .size) 255 && wellFormed (contents s (n .place) (n .size)))) ≡ (eqb (n .count) 0 && wellFormed (contents s (n .place) (n .size)))
-    short = ap (λ b. eqb (n .count) 0 && (b && wellFormed (contents s (n .place) (n .size)))) (le-leb (n .size) 255 few)
+    any : (eqb (n .count) 0 && wellFormed (contents s (n .place) (n .size)))
+        ≡ (eqb (n .count) 0 && cond (cond (leb (n .size) 255) false false) false (wellFormed (contents s (n .place) (n .size))))
+    any = ap (λ b. eqb (n .count) 0 && b) (go (leb (n .size) 255) (wellFormed (contents s (n .place) (n .size))))
+      where
+        go : (t w : Bool) → w ≡ cond (cond t false false) false w
+        go true w = refl
+        go false w = refl
+
+    few : (eqb (n .count) 0 && (leb (n .size) 255 && wellFormed (contents s (n .place) (n .size))))
+        ≡ (eqb (n .count) 0 && cond (cond (leb (n .size) 255) false true) false (wellFormed (contents s (n .place) (n .size))))
+    few = ap (λ b. eqb (n .count) 0 && b) (go (leb (n .size) 255) (wellFormed (contents s (n .place) (n .size))))
+      where
+        go : (t w : Bool) → (t && w) ≡ cond (cond t false true) false w
+        go true w = refl
+        go false w = refl

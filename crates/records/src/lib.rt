@@ -12,7 +12,7 @@ ghost use Rattle.grammar.specs.Fields;
 ghost use Rattle.grammar.specs.Record;
 ghost use Rattle.fields.specs.Classes.{classAt, formClasses};
 ghost use Rattle.fields.specs.Behind.{childrenOf};
-ghost use Rattle.records.specs.Nodes.{nodeOf};
+ghost use Rattle.records.specs.Nodes.{nodeOf, tooLong};
 
 // Five numbers to a node.
 pub const NODE_WIDTH: usize = 5;
@@ -157,18 +157,32 @@ pub fn sound(s: &[u8], node: Node) -> bool
     ruled(s, node, fields::class_of(node.letter))
 }
 
-// The same of a node with a string's letter: every such letter's length counts to 255.
+// Whether so many bytes are more than a string's letter counts: of z and Z, in one byte.
+fn too_long(letter: u32, size: u32) -> bool
+    ensures { λ r. ⌜ r ≡ tooLong letter size ⌝ }
+{
+    if size <= 255 {
+        return false;
+    }
+    match letter {
+        0x7A => true,
+        0x5A => true,
+        _ => false,
+    }
+}
+
+// The same of a node with a string's letter, whose class need not be looked up.
 pub fn text_sound(s: &[u8], node: Node) -> bool
     requires { ⌜ (length (now s) ≤ mostBytes) × (isString (node .letter) ≡ true) ⌝ }
     ensures { λ r. ⌜ r ≡ Record.sound (now (s .entry)) (nodeOf node) ⌝ }
 {
-    if 255 < node.size {
-        return sound(s, node);
-    }
     if s.len() < node.place as usize + node.size as usize {
         return false;
     }
     if node.count != 0 {
+        return false;
+    }
+    if too_long(node.letter, node.size) {
         return false;
     }
     well_formed(s, node.place, node.size)

@@ -1,17 +1,17 @@
 -- Chains as walks: a chain is whole exactly if so many steps can be taken, and its children are sound strings exactly if so many steps can be
 -- taken over sound strings; a walk in a loop, step by step. Assumes nothing.
-use mathlib.Core.Path.{_≡_, refl, sym, ap, _∙_}
+use mathlib.Core.Path.{_≡_, refl, sym, ap, subst, _∙_}
 use Prim.Native.Nat.{ℕ, zero, suc, _+_, _-_, _≤_, _<_, min}
 use native.Mathlib.Omega.{arith}
 use mathlib.Core.Bool.{Bool, true, false, cond, _&&_}
 use mathlib.Core.Option.{Option, none, some}
 use mathlib.Core.List.{List, [], _∷_}
 use lib.Dec.{ltb}
-use borrow.Author.Tests.{ltb-true, lt-ltb, le-ltb}
+use borrow.Author.Tests.{ltb-true, ltb-false, lt-ltb, le-ltb}
 use Rattle.grammar.specs.State.{nodeAt, entryAt}
 use Rattle.grammar.specs.Record.{Tables, entriesIn, chain, put, badString, whole, soundAt}
 use Rattle.grammar.proofs.Tests.{never, both-true}
-use Rattle.tables.specs.Looking.{links, isSome, isNone, stringAt, Names}
+use Rattle.tables.specs.Looking.{links, isSome, isNone, stringAt, Straight, Names}
 use Rattle.tables.proofs.Round.{lives, cut-walk}
 
 -- A walk in a loop.
@@ -146,6 +146,41 @@ outside entries used e {room} h l = le-ltb e (entriesIn entries used) (omega ari
 
 pub within-room : (entries : List ℕ) (used e : ℕ) {room : ℕ} → room ≡ entriesIn entries used → e < room → inside entries used e ≡ true
 within-room entries used e {room} h l = lt-ltb e (entriesIn entries used) (omega arith)
+
+-- Entries that are linked straight ahead.
+module _ {entries : List ℕ} {room first steps : ℕ} where
+  pub straight-start : Straight entries room first steps 0
+  straight-start = record { few = omega arith; each = λ k h. absurd (omega (arith, h)) }
+
+  pub straight-more : {i e : ℕ} → Straight entries room first steps i → e ≡ first + i → i < steps → e < room → entryAt entries e .next ≡ e + 1
+      → Straight entries room first steps (i + 1)
+  straight-more {i} {e} k is l inn on = record { few = omega arith; each = λ j h. go j h (ltb j i) refl }
+    where
+      go : (j : ℕ) → j < i + 1 → (b : Bool) → ltb j i ≡ b → (first + j < room) × (entryAt entries (first + j) .next ≡ first + j + 1)
+      go j h true t = k .each j (ltb-true j i t)
+      go j h false t =
+          let same : e ≡ first + j = omega (arith, h, ltb-false j i t, is) in
+          (omega (arith, same, inn), subst (λ x. entryAt entries x .next ≡ x + 1) same on)
+
+  pub straight-fits : {r : ℕ} → Straight entries room first steps r → room ≤ 1048576 → first < 4294967296 → first + r < 4294967296
+  straight-fits {r} k l small = go r (k .each)
+    where
+      go : (r : ℕ) → ((j : ℕ) → j < r → (first + j < room) × (entryAt entries (first + j) .next ≡ first + j + 1)) → first + r < 4294967296
+      go zero each = omega arith
+      go (suc r) each = omega (arith, each r (omega arith) .0)
+
+  pub straight-walk : (used : ℕ) → room ≡ entriesIn entries used → {r : ℕ} → Straight entries room first steps r
+      → Walking (inside entries used) (onto entries) steps first r (first + r)
+  straight-walk used has {r} k = go r (k .few) (k .each)
+    where
+      go : (r : ℕ) → r ≤ steps → ((j : ℕ) → j < r → (first + j < room) × (entryAt entries (first + j) .next ≡ first + j + 1))
+          → Walking (inside entries used) (onto entries) steps first r (first + r)
+      go zero l each = subst (Walking (inside entries used) (onto entries) steps first 0) (omega arith) (walk-start _ _ _ _)
+      go (suc r) l each =
+          let here = each r (omega arith) in
+          let one : r + 1 ≡ suc r = omega arith in
+          subst (λ n. Walking (inside entries used) (onto entries) steps first n (first + suc r)) one
+          (walk-more _ _ _ _ (go r (omega arith) (λ j h. each j (omega (arith, h)))) (omega arith) (within-room entries used (first + r) has (here .0)) (omega (arith, here .1)))
 
 -- A node and its chain.
 

@@ -1,7 +1,7 @@
 -- The record test of a node with its chain, and of a code with its parts, as the code answers it. 01, 'Writing it back': "16 is given exactly
 -- when ..".
 use mathlib.Core.Path.{_≡_}
-use Prim.Native.Nat.{ℕ, zero, suc, _%_}
+use Prim.Native.Nat.{ℕ, zero, suc, _+_, _%_, _≤_, _<_}
 use mathlib.Core.Bool.{Bool, true, false, _&&_}
 use mathlib.Core.Option.{Option, none, some}
 use mathlib.Core.List.{List, []}
@@ -41,6 +41,11 @@ links entries used = record { input = []; nodes = []; entries = entries; usedNod
 -- a sound string
 abbrev pub stringAt : (input nodes : List ℕ) → (used node : ℕ) → Bool
 stringAt input nodes used v = soundAt input nodes used v && isString (nodeAt nodes v .letter)
+
+-- so many entries, each linked to the one behind it
+pub record Straight (entries : List ℕ) (room first steps r : ℕ) : Type 0 where
+  pub few : r ≤ steps
+  pub each : (k : ℕ) → k < r → (first + k < room) × (entryAt entries (first + k) .next ≡ first + k + 1)
 
 -- whether the children of a chain are all sound strings
 pub record Names (t : Tables) (first count : ℕ) (r : Bool) : Type 0 where

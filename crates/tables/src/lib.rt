@@ -14,7 +14,7 @@ ghost use Rattle.grammar.specs.Fields.{contents};
 ghost use Rattle.localsplus.specs.Kind;
 ghost use Rattle.writing.specs.Names.{contentsOf, sameBytes, namedIn};
 ghost use Rattle.tables.specs.Groups.{localsIn, inGroup, groupIn, Listed};
-ghost use Rattle.tables.specs.Looking.{lent, links, isSome, isNone, stringAt, Names, NamesFit, Parts, after, partOf, evenly, Looks};
+ghost use Rattle.tables.specs.Looking.{lent, links, isSome, isNone, stringAt, Straight, Names, NamesFit, Parts, after, partOf, evenly, Looks};
 
 // The bits of a kind.
 pub const LOCAL: u32 = 0x20;
@@ -83,14 +83,36 @@ fn entries_in(entries: &[u32], used: u32) -> u32
     most
 }
 
+// How many entries, from one on and up to so many, are each linked to the one behind it, as a reading leaves the leaves of a row.
+// None of these waits for the one before it.
+fn straight(entries: &[u32], room: u32, first: u32, steps: u32) -> u32
+    requires { ⌜ (room * 2 ≤ length (now entries)) × (room ≤ 1048576) ⌝ }
+    ensures { λ r. ⌜ Straight (now (entries .entry)) room first steps r ⌝ }
+{
+    let mut e = first;
+    let mut i = 0u32;
+    while i < steps {
+        if room <= e {
+            return i;
+        }
+        if entries[e as usize * 2 + 1] != e + 1 {
+            return i;
+        }
+        e += 1;
+        i += 1;
+    }
+    i
+}
+
 // Whether so many entries are linked from one on. More steps than there are entries can only go round, and are not taken.
 pub fn linked(entries: &[u32], used: u32, first: u32, count: u32) -> bool
     ensures { λ r. ⌜ r ≡ isSome (Record.chain (links (now (entries .entry)) used) count first) ⌝ }
 {
     let room = entries_in(entries, used);
     let steps = lesser(count, room + 1);
-    let mut e = first;
-    let mut i = 0u32;
+    let ahead = straight(entries, room, first, steps);
+    let mut e = first + ahead;
+    let mut i = ahead;
     while i < steps {
         if room <= e {
             return false;

@@ -1,5 +1,6 @@
--- Carried by `Walking`: what is left of the walk still tells the same. Assumes nothing.
-use Rattle.tables.proofs.Chains.{Walking, walk-start, walk-stop, walk-more, walk-end, inside, onto, outside, within-room, linked-is}
+-- Carried by `Walking`: what is left of the walk still tells the same; entries that are linked straight ahead are walked already.
+-- Assumes nothing.
+use Rattle.tables.proofs.Chains.{Walking, walk-stop, walk-more, walk-end, straight-fits, straight-walk, inside, onto, outside, within-room, linked-is}
 use mathlib.Core.Path.{refl}
 use native.Mathlib.Omega.{arith}
 use Prim.Native.Nat.{_-_}
@@ -8,10 +9,10 @@ use Rattle.tables.proofs.linked.Statement.{statement}
 use Rattle.tables.proofs.linked.Tie as tie
 
 abbrev Inv-loop : tie.InvT-loop
-Inv-loop entries used first count room steps e₀ i₀ e i = Walking (inside entries used) (onto entries) steps first i e
+Inv-loop entries used first count room steps ahead e₀ i₀ e i = Walking (inside entries used) (onto entries) steps first i e
 
 abbrev μ-loop : tie.MeasureT-loop
-μ-loop entries used first count room steps e₀ i₀ e i = steps - i
+μ-loop entries used first count room steps ahead e₀ i₀ e i = steps - i
 
 entries-in-requires : tie.Need-entries-in-requires Inv-loop μ-loop
 entries-in-requires c κs = search needs
@@ -22,11 +23,20 @@ add-lesser c = search needs
 lesser-requires : tie.Need-lesser-requires Inv-loop μ-loop
 lesser-requires c κs = search needs
 
+straight-requires : tie.Need-straight-requires Inv-loop μ-loop
+straight-requires c κs = (omega (arith, c .before .entries-in .ensures .0), c .before .entries-in .ensures .1)
+
+add-e : tie.Need-add-e Inv-loop μ-loop
+add-e c = search (straight-fits (c .straight .ensures) (c .before .before .entries-in .ensures .1) (omega arith), needs)
+
 loop-holds : tie.Need-loop-holds Inv-loop μ-loop
-loop-holds c = walk-start _ _ _ _
+loop-holds c = straight-walk (c .before .before .before .before .args .used) (c .before .before .entries-in .ensures .0) (c .straight .ensures)
 
 returns : tie.Need-returns Inv-loop μ-loop
-returns c = linked-is (c .before .before .before .before .before .before .args .entries .now) (c .before .before .before .before .before .before .args .used) (c .before .before .before .before .before .before .args .count) (c .before .before .before .before .before .before .args .first) (c .before .before .before .before .entries-in .ensures .0) (c .before .before .before .lesser .ensures) (walk-stop _ _ _ _ (c .before .before .loop .inv) (c .before .loop-test .taken) (outside (c .before .before .before .before .before .before .args .entries .now) (c .before .before .before .before .before .before .args .used) (c .before .before .loop .e) (c .before .before .before .before .entries-in .ensures .0) (omega arith)))
+returns c =
+    let a = c .before .before .before .before .before .before .before .args in
+    linked-is (a .entries .now) (a .used) (a .count) (a .first) (c .before .before .before .before .before .entries-in .ensures .0) (c .before .before .before .before .lesser .ensures)
+    (walk-stop _ _ _ _ (c .before .before .loop .inv) (c .before .loop-test .taken) (outside (a .entries .now) (a .used) (c .before .before .loop .e) (c .before .before .before .before .before .entries-in .ensures .0) (omega arith)))
 
 cast-e : tie.Need-cast-e Inv-loop μ-loop
 cast-e c = search needs
@@ -34,8 +44,8 @@ cast-e c = search needs
 mul-e : tie.Need-mul-e Inv-loop μ-loop
 mul-e c = search needs
 
-add-e : tie.Need-add-e Inv-loop μ-loop
-add-e c = search needs
+add-e-2 : tie.Need-add-e-2 Inv-loop μ-loop
+add-e-2 c = search needs
 
 mul-e-2 : tie.Need-mul-e-2 Inv-loop μ-loop
 mul-e-2 c = search needs
@@ -50,10 +60,14 @@ loop-less : tie.Need-loop-less Inv-loop μ-loop
 loop-less c = search needs
 
 loop-again : tie.Need-loop-again Inv-loop μ-loop
-loop-again c = walk-more _ _ _ _ (c .before .before .before .loop .inv) (c .before .before .loop-test .taken) (within-room (c .before .before .before .before .before .before .before .args .entries .now) (c .before .before .before .before .before .before .before .args .used) (c .before .before .before .loop .e) (c .before .before .before .before .before .entries-in .ensures .0) (omega arith)) refl
+loop-again c =
+    let a = c .before .before .before .before .before .before .before .before .args in
+    walk-more _ _ _ _ (c .before .before .before .loop .inv) (c .before .before .loop-test .taken) (within-room (a .entries .now) (a .used) (c .before .before .before .loop .e) (c .before .before .before .before .before .before .entries-in .ensures .0) (omega arith)) refl
 
 returns-2 : tie.Need-returns-2 Inv-loop μ-loop
-returns-2 c = linked-is (c .before .before .before .before .before .args .entries .now) (c .before .before .before .before .before .args .used) (c .before .before .before .before .before .args .count) (c .before .before .before .before .before .args .first) (c .before .before .before .entries-in .ensures .0) (c .before .before .lesser .ensures) (walk-end _ _ _ _ (c .before .loop .inv) (omega arith))
+returns-2 c =
+    let a = c .before .before .before .before .before .before .args in
+    linked-is (a .entries .now) (a .used) (a .count) (a .first) (c .before .before .before .before .entries-in .ensures .0) (c .before .before .before .lesser .ensures) (walk-end _ _ _ _ (c .before .loop .inv) (omega arith))
 
 pub linked-spec : {M : Type 1} → statement M
 linked-spec =
@@ -64,11 +78,13 @@ linked-spec =
     entries-in-requires
     add-lesser
     lesser-requires
+    straight-requires
+    add-e
     loop-holds
     returns
     cast-e
     mul-e
-    add-e
+    add-e-2
     mul-e-2
     shared-slice-read-e
     add-i
