@@ -115,7 +115,7 @@ fn plain(bytes: &[u8], at: usize, by_blocks: bool) -> usize
     ensures { λ r. ⌜ Taken (now (bytes .entry)) at r ⌝ }
 {
     if !by_blocks {
-        return one_or_two(bytes, at);
+        return 1;
     }
     if at % 8 != 0 {
         return 1;
@@ -125,20 +125,6 @@ fn plain(bytes: &[u8], at: usize, by_blocks: bool) -> usize
         return 1;
     }
     size
-}
-
-// One byte of ASCII, or two.
-fn one_or_two(bytes: &[u8], at: usize) -> usize
-    requires { ⌜ (at < length (now bytes)) × (getD (now bytes) at 0 < 0x80) ⌝ }
-    ensures { λ r. ⌜ Taken (now (bytes .entry)) at r ⌝ }
-{
-    if bytes.len() - at < 2 {
-        return 1;
-    }
-    if 0x80 <= bytes[at + 1] {
-        return 1;
-    }
-    2
 }
 
 // How many bytes of ASCII stand at `at` in blocks of eight.

@@ -1,6 +1,7 @@
 //! Writing values: the port into an output just long enough, which it clears itself, beside the Rust's serialize_value into
 //! bytes that are kept from one time to the next and so never grow, and into new ones each time; and, for strings, beside the least that 01's rules ask
-//! for: each string checked and copied, with and without the output cleared first.
+//! for: each string checked and copied, with and without the output cleared first. Where there is more than strings, beside the Rust's
+//! serialize_value with each string that it writes checked.
 use crate::read::{NESTING, Stores, sharing, small_integers, strings, text_of, with_plain_instructions};
 use crate::timing::{Way, side_by_side, timed};
 use carried::bytecode::{BasicBag, Constant, ConstantData};
@@ -74,13 +75,13 @@ impl<'a> Source<'a> {
         let Self { input, stores: Stores { nodes, entries, .. }, out } = self;
         written(input, nodes, entries, out)
     }
+}
 
-    /// The strings of the value, in the order of their headers, which is that of writing where nothing is shared.
-    fn strings(&self) -> Vec<&'a [u8]> {
-        let is_string = |node: &&[u32]| b"utaAzZ".contains(&(node[0] as u8));
-        let contents = |node: &[u32]| &self.input[node[1] as usize..][..node[2] as usize];
-        self.stores.nodes.chunks(5).filter(is_string).map(contents).collect()
-    }
+/// The strings of a written value, which has no references, in the order of writing.
+fn strings_of(written: &[u8]) -> Vec<&[u8]> {
+    let is_string = |node: &&[u32]| b"uz".contains(&(node[0] as u8));
+    let contents = |node: &[u32]| &written[node[1] as usize..][..node[2] as usize];
+    Stores::just_enough(written).nodes.chunks(5).filter(is_string).map(contents).collect()
 }
 
 fn written(input: &[u8], nodes: &[u32], entries: &[u32], out: &mut [u8]) -> Written {
@@ -147,9 +148,11 @@ fn compare(title: &str, inputs: &[Vec<u8>]) {
         assert!(*out == source.out, "{title}: the two do not write the same");
     }
     let bytes: usize = outs.iter().map(Vec::len).sum();
-    let strings: Vec<Vec<&[u8]>> = sources.iter().map(Source::strings).collect();
+    let plain = outs.clone();
+    let strings: Vec<Vec<&[u8]>> = plain.iter().map(|written| strings_of(written)).collect();
     let mut copies = outs.clone();
     let mut cleared = outs.clone();
+    let mut checked = outs.clone();
     let only_strings = strings.iter().flatten().map(|string| 5 + string.len()).sum::<usize>() + 5 == bytes;
     let mut ways = vec![
         Way {
@@ -186,6 +189,17 @@ fn compare(title: &str, inputs: &[Vec<u8>]) {
             work: timed(|| {
                 cleared[0].fill(0);
                 check_and_copy(&strings[0], black_box(&mut cleared[0]));
+            }),
+        });
+    }
+    if !only_strings && strings.iter().any(|strings| !strings.is_empty()) {
+        ways.push(Way {
+            name: "the Rust, checking",
+            work: timed(|| {
+                for ((value, out), strings) in values.iter().zip(&mut checked).zip(&strings) {
+                    value.write(black_box(out));
+                    strings.iter().for_each(|string| _ = black_box(std::str::from_utf8(black_box(string))));
+                }
             }),
         });
     }

@@ -1,15 +1,13 @@
--- `wtf8::plain` meets its contract: a step or two over ASCII, or as many as there are in blocks.
+-- `wtf8::plain` meets its contract: one step over ASCII, or as many as there are in blocks.
 -- Assumes nothing.
 use borrow.Author.Needs.{needs}
 use Rattle.wtf8.proofs.Reached.{led, ascii, taken, whole}
 use Rattle.wtf8.proofs.plain.Statement.{statement}
 use Rattle.wtf8.proofs.plain.Tie as tie
 
-one-or-two-requires : tie.Need-one-or-two-requires
-one-or-two-requires c κs = search needs
-
 returns : tie.Need-returns
-returns c = search needs
+returns c =
+    whole (led (c .before .before .pre .0) (ascii (c .before .before .pre .1)))
 
 returns-2 : tie.Need-returns-2
 returns-2 c =
@@ -29,4 +27,4 @@ returns-4 c =
     taken (c .before .blocks2 .ensures) (c .if3 .left)
 
 pub plain-spec : {M : Type 1} → statement M
-plain-spec = tie.close (tie.spec one-or-two-requires returns returns-2 blocks-requires returns-3 returns-4)
+plain-spec = tie.close (tie.spec returns returns-2 blocks-requires returns-3 returns-4)
