@@ -1,6 +1,6 @@
 -- Local names in their groups: names compared byte by byte, and a way along names and kinds together. Assumes nothing.
 use mathlib.Core.Path.{_≡_, refl, sym, ap, _∙_}
-use Prim.Native.Nat.{ℕ, suc, _+_, _-_, _≤_, _<_}
+use Prim.Native.Nat.{ℕ, suc, _+_, _-_, _*_, _≤_, _<_}
 use native.Mathlib.Omega.{arith}
 use mathlib.Core.Bool.{Bool, true, false, cond, not, _&&_, _||_}
 use mathlib.Core.Option.{Option, none, some}
@@ -16,13 +16,13 @@ use Rattle.grammar.specs.State.{nodeAt, entryAt}
 use Rattle.grammar.specs.Record.{Tables, chain, badString, soundAt}
 use Rattle.grammar.proofs.Tests.{never, both-true}
 use Rattle.grammar.proofs.Passed.{sound-ruled, first-string}
-use Rattle.records.proofs.Soundness.{sound-node}
+use Rattle.records.proofs.Soundness.{sound-node, in-store}
 use Rattle.writing.specs.Names.{contentsOf, sameBytes, having, namedIn, apartFrom, inGroups}
 use Rattle.writing.proofs.Numbers.{part-next}
 use Rattle.tables.specs.declared.Locals.{Locals}
 use Rattle.tables.specs.Looking.{isSome, stringAt}
 use Rattle.tables.specs.Groups.{orNone, namesIn, kindsIn, localsIn, inGroup, groupFrom, groupIn, Listed}
-use Rattle.tables.proofs.Chains.{onto, headed, chain-none}
+use Rattle.tables.proofs.Chains.{onto, headed, entry-in, chain-none}
 
 -- Two parts, byte by byte.
 pub record Same (s : List ℕ) (a b size i : ℕ) : Type 0 where
@@ -85,6 +85,10 @@ pub string-within : (s nodes : List ℕ) (used v : ℕ) → stringAt s nodes use
 string-within s nodes used v h =
     sound-ruled s (nodeAt nodes v) (sound-node s nodes used v (both-true (soundAt s nodes used v) (isString (nodeAt nodes v .letter)) h .0)) .0
 
+-- and its record in the store
+pub string-stored : (s nodes : List ℕ) (used v : ℕ) → stringAt s nodes used v ≡ true → v * 5 + 5 ≤ length nodes
+string-stored s nodes used v h = in-store s nodes used v (both-true (soundAt s nodes used v) (isString (nodeAt nodes v .letter)) h .0)
+
 module _ (s : List ℕ) (p m q n : ℕ) where
   pub sizes-differ : p + m ≤ length s → q + n ≤ length s → (m ≡ n → ⊥) → false ≡ sameBytes (contents s p m) (contents s q n)
   sizes-differ h k d = go (sameBytes (contents s p m) (contents s q n)) refl
@@ -95,11 +99,17 @@ module _ (s : List ℕ) (p m q n : ℕ) where
           let l = same-lengths (contents s p m) (contents s q n) e in
           absurd (d (omega (arith, l, length-slice p (p + m) s h, length-slice q (q + n) s k)))
 
-pub same-as : (s : List ℕ) {r : Bool} {p m q p′ m′ q′ n′ : ℕ} → r ≡ sameBytes (contents s p m) (contents s q m) → p ≡ p′ → m ≡ m′ → q ≡ q′ → m ≡ n′
-    → r ≡ sameBytes (contents s p′ m′) (contents s q′ n′)
-same-as s {r} {p} {m} {q} {p′} {m′} {q′} {n′} e ep em eq en =
-    e ∙ ap (λ x. sameBytes (contents s x m) (contents s q m)) ep ∙ ap (λ x. sameBytes (contents s p′ m) (contents s x m)) eq
-    ∙ ap (λ x. sameBytes (contents s p′ m) (contents s q′ x)) en ∙ ap (λ x. sameBytes (contents s p′ x) (contents s q′ n′)) em
+pub same-as : (s : List ℕ) (p : ℕ) {r : Bool} {m q q′ n′ : ℕ} → r ≡ sameBytes (contents s p m) (contents s q m) → q ≡ q′ → m ≡ n′
+    → r ≡ sameBytes (contents s p m) (contents s q′ n′)
+same-as s p {r} {m} {q} {q′} {n′} e eq en =
+    e ∙ ap (λ x. sameBytes (contents s p m) (contents s x m)) eq ∙ ap (λ x. sameBytes (contents s p m) (contents s q′ x)) en
+
+-- a test that was asked first
+pub first-not : {b c : Bool} (x : Bool) → b ≡ c → b ≡ false → false ≡ (c && x)
+first-not x e f = ap (λ y. y && x) (sym f ∙ e)
+
+pub first-so : {b c r : Bool} (x : Bool) → b ≡ c → b ≡ true → r ≡ x → r ≡ (c && x)
+first-so x e f q = q ∙ ap (λ y. y && x) (sym f ∙ e)
 
 -- A way along kinds and names together: what P says of those that are left still comes to the goal.
 pub record Along {X : Type 0} (t : Tables) (l : Locals) (P : List ℕ → List ℕ → X) (goal : X) (i e : ℕ) : Type 0 where
@@ -124,6 +134,13 @@ along-none t l P k =
       fine = k .fine;
       comes = ap (λ x. P (slice x (l .kinds + l .count) (t .input)) (namesIn t l)) f;
     }
+
+-- the entry of the first of those that are left is in the store
+pub along-entry : {X : Type 0} (t : Tables) (l : Locals) (P : List ℕ → List ℕ → X) {goal : X} {i e : ℕ} → Along t l P goal i e → i < l .count
+    → e * 2 + 2 ≤ length (t .entries)
+along-entry t l P {goal} {i} {e} w h =
+    let n : l .count - i ≡ suc (l .count - (i + 1)) = omega arith in
+    entry-in t (l .count - (i + 1)) e (w .rest) (sym (ap (λ c. chain t c e) n) ∙ w .chained)
 
 -- the first of those that are left
 pub record Next {X : Type 0} (t : Tables) (l : Locals) (P : List ℕ → List ℕ → X) (goal : X) (i e v : ℕ) : Type 0 where
@@ -212,6 +229,12 @@ module _ (t : Tables) (name : List ℕ) where
   pub asks-none : (l : Locals) {i e : ℕ} → Along t l asks (answer l) i e → l .count ≤ i → false ≡ answer l
   unfolding having namedIn
   asks-none l w h = along-end t l asks w h
+
+-- the name of a node whose numbers were read
+pub answer-of : (t : Tables) (l : Locals) (v : ℕ) {p m : ℕ} {r : Bool} → r ≡ answer t (contents (t .input) p m) l → p ≡ nodeAt (t .nodes) v .place
+    → m ≡ nodeAt (t .nodes) v .size → r ≡ answer t (contentsOf t v) l
+answer-of t l v {p} {m} {r} e ep em =
+    e ∙ ap (λ x. answer t (contents (t .input) x m) l) ep ∙ ap (λ x. answer t (contents (t .input) (nodeAt (t .nodes) v .place) x) l) em
 
 -- How many names stand in a group.
 module _ (t : Tables) (locals : List ℕ) (bit : ℕ) where
