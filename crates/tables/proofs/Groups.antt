@@ -236,42 +236,20 @@ pub answer-of : (t : Tables) (l : Locals) (v : ℕ) {p m : ℕ} {r : Bool} → r
 answer-of t l v {p} {m} {r} e ep em =
     e ∙ ap (λ x. answer t (contents (t .input) x m) l) ep ∙ ap (λ x. answer t (contents (t .input) (nodeAt (t .nodes) v .place) x) l) em
 
--- How many names stand in a group.
-module _ (t : Tables) (locals : List ℕ) (bit : ℕ) where
-  abbrev pub sizes : ℕ → List ℕ → List ℕ → ℕ
-  sizes n ks ns = n + length (groupFrom t locals bit ks ns)
+-- A group has no more names than there are.
+group-fewer : (t : Tables) (locals : List ℕ) (bit : ℕ) (ks ns : List ℕ) → length (groupFrom t locals bit ks ns) ≤ length ks
+unfolding groupFrom
+group-fewer t locals bit [] ns = omega arith
+group-fewer t locals bit (k ∷ ks) [] = omega arith
+group-fewer t locals bit (k ∷ ks) (v ∷ ns) = go (inGroup t locals bit k v) (groupFrom t locals bit ks ns) (group-fewer t locals bit ks ns)
+  where
+    go : (b : Bool) (vs : List ℕ) → length vs ≤ length ks → length (cond b (v ∷ vs) vs) ≤ suc (length ks)
+    go true vs h = omega arith
+    go false vs h = omega arith
 
-  sizes-next : (n k : ℕ) (ks : List ℕ) (v : ℕ) (ns : List ℕ) → sizes (n + cond (inGroup t locals bit k v) 1 0) ks ns ≡ sizes n (k ∷ ks) (v ∷ ns)
-  unfolding groupFrom
-  sizes-next n k ks v ns = go (inGroup t locals bit k v) (groupFrom t locals bit ks ns)
-    where
-      go : (b : Bool) (vs : List ℕ) → n + cond b 1 0 + length vs ≡ n + length (cond b (v ∷ vs) vs)
-      go true vs = omega arith
-      go false vs = omega arith
-
-  pub record Counting (l : Locals) (i e n : ℕ) : Type 0 where
-    pub most : n ≤ i
-    pub way : Along t l (sizes n) (sizes 0 (kindsIn t l) (namesIn t l)) i e
-
-  pub counting-none : (l : Locals) → Listed t l → Counting l 0 (l .first) 0
-  counting-none l k = record { most = omega arith; way = along-none t l (sizes 0) k }
-
-  pub counting-more : (l : Locals) {i e e′ n m v : ℕ} {r : Bool} → Counting l i e n → Next t l (sizes n) (sizes 0 (kindsIn t l) (namesIn t l)) i e v → i < l .count
-      → e′ ≡ entryAt (t .entries) e .next → r ≡ inGroup t locals bit (getD (t .input) (l .kinds + i) 0) v → (m ≡ cond r 1 0) × (m ≤ 1)
-      → Counting l (i + 1) e′ (n + m)
-  counting-more l {i} {e} {e′} {n} {m} {v} {r} c x h on tells is =
-      let later = slice (l .kinds + (i + 1)) (l .kinds + l .count) (t .input) in
-      record {
-        most = omega (arith, c .most, is .1);
-        way =
-            along-on t l (sizes n) (sizes (n + m)) x h on
-            (ap (λ k. sizes (n + k) later (x .rest)) (is .0 ∙ ap (λ b. cond b 1 0) tells)
-            ∙ sizes-next n (getD (t .input) (l .kinds + i) 0) later v (x .rest));
-      }
-
-  pub counting-all : (l : Locals) {i e n : ℕ} → Counting l i e n → l .count ≤ i → n ≡ length (groupFrom t locals bit (kindsIn t l) (namesIn t l))
-  unfolding groupFrom
-  counting-all l {i} {e} {n} c h = let z = along-end t l (sizes n) (c .way) h in omega (arith, z)
+pub group-most : (t : Tables) (l : Locals) (bit : ℕ) → Listed t l → length (groupIn t l bit) ≤ l .count
+group-most t l bit k =
+    omega (arith, group-fewer t (localsIn t l) bit (kindsIn t l) (namesIn t l), length-slice (l .kinds) (l .kinds + l .count) (t .input) (k .kinds))
 
 -- Whether a name stands in a group.
 module _ (t : Tables) (locals : List ℕ) (bit kind v : ℕ) {b : Bool} (tells : b ≡ has bit kind) where

@@ -1,7 +1,7 @@
 // What the writer asks of the stores it is lent before it writes a node: its record, its chain, and the parts of a code.
 // Everything here only reads, and holds for any stores whatever: a number past a store reads as 0, as the definitions have it.
 ghost use mathlib.Core.Path.{_≡_};
-ghost use mathlib.Core.Bool.{true, cond, _&&_};
+ghost use mathlib.Core.Bool.{true, _&&_};
 ghost use Prim.Native.Nat.{_+_, _*_, _≤_, _<_, min};
 ghost use lib.ListN.{length, getD};
 ghost use Rattle.refusals.specs.Limits.{mostBytes};
@@ -13,7 +13,7 @@ ghost use Rattle.records.specs.Nodes.{nodeOf};
 ghost use Rattle.grammar.specs.Fields.{contents};
 ghost use Rattle.localsplus.specs.Kind;
 ghost use Rattle.writing.specs.Names.{contentsOf, sameBytes, namedIn};
-ghost use Rattle.tables.specs.Groups.{localsIn, inGroup, groupIn, Listed};
+ghost use Rattle.tables.specs.Groups.{localsIn, inGroup, Listed};
 ghost use Rattle.tables.specs.Looking.{lent, links, isSome, isNone, stringAt, Names, NamesFit, Parts, after, partOf, evenly, Looks};
 
 // The bits of a kind.
@@ -370,48 +370,4 @@ pub fn belongs(
         return true;
     }
     !is_local(s, nodes, entries, used, locals, node)
-}
-
-fn one_if(so: bool) -> u32
-    ensures { λ r. ⌜ (r ≡ cond so 1 0) × (r ≤ 1) ⌝ }
-{
-    if so {
-        return 1;
-    }
-    0
-}
-
-// How many names stand in the group of a bit.
-pub fn count_group(
-    s: &[u8],
-    nodes: &[u32],
-    entries: &[u32],
-    used: Used,
-    locals: Locals,
-    bit: u32,
-) -> u32
-    requires { ⌜ Listed (lent (now s) (now nodes) (now entries) used) locals × (0 < bit) ⌝ }
-    ensures { λ r. ⌜ (r ≡ length (groupIn (lent (now (s .entry)) (now (nodes .entry)) (now (entries .entry)) used) locals bit)) × (r ≤ locals .count) ⌝ }
-{
-    let kinds = locals.kinds as usize;
-    let count = locals.count;
-    let mut e = locals.first;
-    let mut i = 0u32;
-    let mut n = 0u32;
-    while i < count {
-        let kind = s[kinds + i as usize];
-        n += one_if(belongs(
-            s,
-            nodes,
-            entries,
-            used,
-            locals,
-            bit,
-            kind,
-            child(entries, e),
-        ));
-        e = next(entries, e);
-        i += 1;
-    }
-    n
 }

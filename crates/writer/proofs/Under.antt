@@ -70,6 +70,10 @@ module _ {o₀ : List ℕ} {at : ℕ} {w₀ : Writing} {o : List ℕ} {p : ℕ} 
           comes = sym (into-then (length o₀) (take p o) u v (take a o′) (ap (λ n. into n (take p o) u) (sym (k .same)) ∙ e .0)) ∙ k .comes;
         }
 
+-- behind a put that is done the output can be written on
+pub puts-open : {w : Writing} {at a : ℕ} {o o′ : List ℕ} {r : Wrote} → Open at o → Puts w at o r o′ → r ≡ wrote.Done a → Open a o′
+puts-open {w} h put is = opens (written-in (left-as (start (h .inside)) (sym (then-ended w))) put is) (h .counts)
+
 -- the last put answers for all
 pub last : {o₀ : List ℕ} {at : ℕ} {w₀ : Writing} {o : List ℕ} {p : ℕ} {o′ : List ℕ} {u : Writing} {r : Wrote} → Onward o₀ at w₀ o p u → Puts u p o r o′ → Puts w₀ at o₀ r o′
 last {o₀} {at} {w₀} {o} {p} {o′} {u} {r} k put = go r refl

@@ -2,7 +2,7 @@
 use Rattle.tables.proofs.Groups.{string-within, string-stored, sizes-differ, same-as}
 use Rattle.grammar.specs.State.{Node}
 use native.Mathlib.Omega.{arith}
-use mathlib.Core.Path.{ap, sym, _∙_}
+use mathlib.Core.Path.{ap}
 use borrow.Author.Needs.{needs}
 use Rattle.tables.proofs.same_name.Statement.{statement}
 use Rattle.tables.proofs.same_name.Tie as tie
