@@ -1,6 +1,6 @@
 -- One answer for each call of the functions of `puts`: the answer, and where it accepts the output. Refused, nothing is said of
 -- the output: the writer's entry clears it (docs/EXCEPTIONS.md).
-use mathlib.Core.Path.{_≡_, sym, _∙_, ap}
+use mathlib.Core.Path.{_≡_, refl, sym, _∙_, ap}
 use Prim.Native.Nat.{ℕ, _≤_}
 use mathlib.Core.List.{List, [], _++_}
 use lib.ListN.{length, take, drop, take-append-drop}
@@ -12,7 +12,7 @@ use Rattle.puts.specs.declared.Wrote.{Wrote}
 use Rattle.puts.specs.declared.Wrote.the-variants as wrote
 use Rattle.puts.specs.Puts.{Puts}
 use Rattle.puts.proofs as puts
-use Rattle.promises.specs.Agreement.{AgreeAs}
+use Rattle.promises.specs.Agreement.{Agree, AgreeAs}
 use Rattle.promises.specs.Partly.{whereDone}
 use Rattle.promises.proofs.Same.{one}
 
@@ -49,6 +49,9 @@ puts-one (wrote.Done a) (wrote.Refused n′ p′) p q = absurd (gives-or-stops (
 puts-one (wrote.Refused n p′) (wrote.Done b) p q = absurd (gives-or-stops (q .exact .0) (p .exact))
 puts-one (wrote.Refused n p) (wrote.Refused n′ p′) x y =
     (ap (λ q. wrote.Refused (q .0) (q .1)) (ap refusal (one (sym (x .exact)) (sym (y .exact)))), λ none. absurd none)
+
+pub store-u32-agrees : Agree puts.store_u32.ended puts.store_u32.Reads.Asked puts.store_u32.Reads.Learnt
+store-u32-agrees κs a asked r r′ ws ws′ p p′ = (refl, λ i. (one p p′ i, (tt, (tt, tt))))
 
 pub write-u8-agrees : AgreeAs puts.write_u8.ended (λ κs a. whereDone) puts.write_u8.Reads.Asked puts.write_u8.Reads.Learnt
 write-u8-agrees κs a asked r r′ ws ws′ p p′ = (puts-one r r′ p p′ .0, λ done i. (puts-one r r′ p p′ .1 done i, (tt, (tt, tt))))

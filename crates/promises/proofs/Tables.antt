@@ -46,6 +46,3 @@ look-agrees κs a asked r r′ ws ws′ p p′ = (looks-one _ _ r r′ p p′, r
 
 pub belongs-agrees : Agree tables.belongs.ended tables.belongs.Reads.Asked tables.belongs.Reads.Learnt
 belongs-agrees κs a asked r r′ ws ws′ p p′ = (one p p′, refl)
-
-pub count-group-agrees : Agree tables.count_group.ended tables.count_group.Reads.Asked tables.count_group.Reads.Learnt
-count-group-agrees κs a asked r r′ ws ws′ p p′ = (one (p .0) (p′ .0), refl)

@@ -20,7 +20,8 @@ pub enum Wrote {
     Refused(u32, u32),
 }
 
-fn store_u32(out: &mut [u8], at: usize, x: u32)
+// A number of 32 bits over bytes for which there is room.
+pub fn store_u32(out: &mut [u8], at: usize, x: u32)
     requires { ⌜ at + 4 ≤ length (now out) ⌝ }
     ensures { λ _. ⌜ now (out .exit) ≡ sets (now (out .entry)) at (bytes32 x) ⌝ }
 {

@@ -1,11 +1,12 @@
 -- Chains as walks: a chain is whole exactly if so many steps can be taken, and its children are sound strings exactly if so many steps can be
 -- taken over sound strings; a walk in a loop, step by step. Assumes nothing.
 use mathlib.Core.Path.{_≡_, refl, sym, ap, subst, _∙_}
-use Prim.Native.Nat.{ℕ, zero, suc, _+_, _-_, _≤_, _<_, min}
+use Prim.Native.Nat.{ℕ, zero, suc, _+_, _-_, _*_, _≤_, _<_, min}
 use native.Mathlib.Omega.{arith}
 use mathlib.Core.Bool.{Bool, true, false, cond, _&&_}
 use mathlib.Core.Option.{Option, none, some}
 use mathlib.Core.List.{List, [], _∷_}
+use lib.ListN.{length}
 use lib.Dec.{ltb}
 use borrow.Author.Tests.{ltb-true, ltb-false, lt-ltb, le-ltb}
 use Rattle.grammar.specs.State.{nodeAt, entryAt}
@@ -85,6 +86,10 @@ headed t k e kids h = go (ltb e (entriesIn (t .entries) (t .usedEntries))) refl 
     go true p (some vs) q h = record { here = ltb-true e (entriesIn (t .entries) (t .usedEntries)) p; rest = vs; more = q; are = cc }
     go true p none q h = let z : _≡_ {A = ℕ} 0 1 = cc in absurd (omega arith)
     go false p o q h = let z : _≡_ {A = ℕ} 0 1 = cc in absurd (omega arith)
+
+-- the entry that a chain goes on with is in the store
+pub entry-in : (t : Tables) (k e : ℕ) (kids : List ℕ) → chain t (suc k) e ≡ some kids → e * 2 + 2 ≤ length (t .entries)
+entry-in t k e kids h = omega (arith, headed t k e kids h .here)
 
 pub chain-none : (t : Tables) (e : ℕ) (kids : List ℕ) → chain t 0 e ≡ some kids → kids ≡ []
 unfolding chain

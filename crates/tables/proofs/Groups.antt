@@ -1,6 +1,6 @@
 -- Local names in their groups: names compared byte by byte, and a way along names and kinds together. Assumes nothing.
 use mathlib.Core.Path.{_≡_, refl, sym, ap, _∙_}
-use Prim.Native.Nat.{ℕ, suc, _+_, _-_, _≤_, _<_}
+use Prim.Native.Nat.{ℕ, suc, _+_, _-_, _*_, _≤_, _<_}
 use native.Mathlib.Omega.{arith}
 use mathlib.Core.Bool.{Bool, true, false, cond, not, _&&_, _||_}
 use mathlib.Core.Option.{Option, none, some}
@@ -16,13 +16,13 @@ use Rattle.grammar.specs.State.{nodeAt, entryAt}
 use Rattle.grammar.specs.Record.{Tables, chain, badString, soundAt}
 use Rattle.grammar.proofs.Tests.{never, both-true}
 use Rattle.grammar.proofs.Passed.{sound-ruled, first-string}
-use Rattle.records.proofs.Soundness.{sound-node}
+use Rattle.records.proofs.Soundness.{sound-node, in-store}
 use Rattle.writing.specs.Names.{contentsOf, sameBytes, having, namedIn, apartFrom, inGroups}
 use Rattle.writing.proofs.Numbers.{part-next}
 use Rattle.tables.specs.declared.Locals.{Locals}
 use Rattle.tables.specs.Looking.{isSome, stringAt}
 use Rattle.tables.specs.Groups.{orNone, namesIn, kindsIn, localsIn, inGroup, groupFrom, groupIn, Listed}
-use Rattle.tables.proofs.Chains.{onto, headed, chain-none}
+use Rattle.tables.proofs.Chains.{onto, headed, entry-in, chain-none}
 
 -- Two parts, byte by byte.
 pub record Same (s : List ℕ) (a b size i : ℕ) : Type 0 where
@@ -85,6 +85,10 @@ pub string-within : (s nodes : List ℕ) (used v : ℕ) → stringAt s nodes use
 string-within s nodes used v h =
     sound-ruled s (nodeAt nodes v) (sound-node s nodes used v (both-true (soundAt s nodes used v) (isString (nodeAt nodes v .letter)) h .0)) .0
 
+-- and its record in the store
+pub string-stored : (s nodes : List ℕ) (used v : ℕ) → stringAt s nodes used v ≡ true → v * 5 + 5 ≤ length nodes
+string-stored s nodes used v h = in-store s nodes used v (both-true (soundAt s nodes used v) (isString (nodeAt nodes v .letter)) h .0)
+
 module _ (s : List ℕ) (p m q n : ℕ) where
   pub sizes-differ : p + m ≤ length s → q + n ≤ length s → (m ≡ n → ⊥) → false ≡ sameBytes (contents s p m) (contents s q n)
   sizes-differ h k d = go (sameBytes (contents s p m) (contents s q n)) refl
@@ -95,11 +99,17 @@ module _ (s : List ℕ) (p m q n : ℕ) where
           let l = same-lengths (contents s p m) (contents s q n) e in
           absurd (d (omega (arith, l, length-slice p (p + m) s h, length-slice q (q + n) s k)))
 
-pub same-as : (s : List ℕ) {r : Bool} {p m q p′ m′ q′ n′ : ℕ} → r ≡ sameBytes (contents s p m) (contents s q m) → p ≡ p′ → m ≡ m′ → q ≡ q′ → m ≡ n′
-    → r ≡ sameBytes (contents s p′ m′) (contents s q′ n′)
-same-as s {r} {p} {m} {q} {p′} {m′} {q′} {n′} e ep em eq en =
-    e ∙ ap (λ x. sameBytes (contents s x m) (contents s q m)) ep ∙ ap (λ x. sameBytes (contents s p′ m) (contents s x m)) eq
-    ∙ ap (λ x. sameBytes (contents s p′ m) (contents s q′ x)) en ∙ ap (λ x. sameBytes (contents s p′ x) (contents s q′ n′)) em
+pub same-as : (s : List ℕ) (p : ℕ) {r : Bool} {m q q′ n′ : ℕ} → r ≡ sameBytes (contents s p m) (contents s q m) → q ≡ q′ → m ≡ n′
+    → r ≡ sameBytes (contents s p m) (contents s q′ n′)
+same-as s p {r} {m} {q} {q′} {n′} e eq en =
+    e ∙ ap (λ x. sameBytes (contents s p m) (contents s x m)) eq ∙ ap (λ x. sameBytes (contents s p m) (contents s q′ x)) en
+
+-- a test that was asked first
+pub first-not : {b c : Bool} (x : Bool) → b ≡ c → b ≡ false → false ≡ (c && x)
+first-not x e f = ap (λ y. y && x) (sym f ∙ e)
+
+pub first-so : {b c r : Bool} (x : Bool) → b ≡ c → b ≡ true → r ≡ x → r ≡ (c && x)
+first-so x e f q = q ∙ ap (λ y. y && x) (sym f ∙ e)
 
 -- A way along kinds and names together: what P says of those that are left still comes to the goal.
 pub record Along {X : Type 0} (t : Tables) (l : Locals) (P : List ℕ → List ℕ → X) (goal : X) (i e : ℕ) : Type 0 where
@@ -124,6 +134,13 @@ along-none t l P k =
       fine = k .fine;
       comes = ap (λ x. P (slice x (l .kinds + l .count) (t .input)) (namesIn t l)) f;
     }
+
+-- the entry of the first of those that are left is in the store
+pub along-entry : {X : Type 0} (t : Tables) (l : Locals) (P : List ℕ → List ℕ → X) {goal : X} {i e : ℕ} → Along t l P goal i e → i < l .count
+    → e * 2 + 2 ≤ length (t .entries)
+along-entry t l P {goal} {i} {e} w h =
+    let n : l .count - i ≡ suc (l .count - (i + 1)) = omega arith in
+    entry-in t (l .count - (i + 1)) e (w .rest) (sym (ap (λ c. chain t c e) n) ∙ w .chained)
 
 -- the first of those that are left
 pub record Next {X : Type 0} (t : Tables) (l : Locals) (P : List ℕ → List ℕ → X) (goal : X) (i e v : ℕ) : Type 0 where
@@ -213,42 +230,26 @@ module _ (t : Tables) (name : List ℕ) where
   unfolding having namedIn
   asks-none l w h = along-end t l asks w h
 
--- How many names stand in a group.
-module _ (t : Tables) (locals : List ℕ) (bit : ℕ) where
-  abbrev pub sizes : ℕ → List ℕ → List ℕ → ℕ
-  sizes n ks ns = n + length (groupFrom t locals bit ks ns)
+-- the name of a node whose numbers were read
+pub answer-of : (t : Tables) (l : Locals) (v : ℕ) {p m : ℕ} {r : Bool} → r ≡ answer t (contents (t .input) p m) l → p ≡ nodeAt (t .nodes) v .place
+    → m ≡ nodeAt (t .nodes) v .size → r ≡ answer t (contentsOf t v) l
+answer-of t l v {p} {m} {r} e ep em =
+    e ∙ ap (λ x. answer t (contents (t .input) x m) l) ep ∙ ap (λ x. answer t (contents (t .input) (nodeAt (t .nodes) v .place) x) l) em
 
-  sizes-next : (n k : ℕ) (ks : List ℕ) (v : ℕ) (ns : List ℕ) → sizes (n + cond (inGroup t locals bit k v) 1 0) ks ns ≡ sizes n (k ∷ ks) (v ∷ ns)
-  unfolding groupFrom
-  sizes-next n k ks v ns = go (inGroup t locals bit k v) (groupFrom t locals bit ks ns)
-    where
-      go : (b : Bool) (vs : List ℕ) → n + cond b 1 0 + length vs ≡ n + length (cond b (v ∷ vs) vs)
-      go true vs = omega arith
-      go false vs = omega arith
+-- A group has no more names than there are.
+group-fewer : (t : Tables) (locals : List ℕ) (bit : ℕ) (ks ns : List ℕ) → length (groupFrom t locals bit ks ns) ≤ length ks
+unfolding groupFrom
+group-fewer t locals bit [] ns = omega arith
+group-fewer t locals bit (k ∷ ks) [] = omega arith
+group-fewer t locals bit (k ∷ ks) (v ∷ ns) = go (inGroup t locals bit k v) (groupFrom t locals bit ks ns) (group-fewer t locals bit ks ns)
+  where
+    go : (b : Bool) (vs : List ℕ) → length vs ≤ length ks → length (cond b (v ∷ vs) vs) ≤ suc (length ks)
+    go true vs h = omega arith
+    go false vs h = omega arith
 
-  pub record Counting (l : Locals) (i e n : ℕ) : Type 0 where
-    pub most : n ≤ i
-    pub way : Along t l (sizes n) (sizes 0 (kindsIn t l) (namesIn t l)) i e
-
-  pub counting-none : (l : Locals) → Listed t l → Counting l 0 (l .first) 0
-  counting-none l k = record { most = omega arith; way = along-none t l (sizes 0) k }
-
-  pub counting-more : (l : Locals) {i e e′ n m v : ℕ} {r : Bool} → Counting l i e n → Next t l (sizes n) (sizes 0 (kindsIn t l) (namesIn t l)) i e v → i < l .count
-      → e′ ≡ entryAt (t .entries) e .next → r ≡ inGroup t locals bit (getD (t .input) (l .kinds + i) 0) v → (m ≡ cond r 1 0) × (m ≤ 1)
-      → Counting l (i + 1) e′ (n + m)
-  counting-more l {i} {e} {e′} {n} {m} {v} {r} c x h on tells is =
-      let later = slice (l .kinds + (i + 1)) (l .kinds + l .count) (t .input) in
-      record {
-        most = omega (arith, c .most, is .1);
-        way =
-            along-on t l (sizes n) (sizes (n + m)) x h on
-            (ap (λ k. sizes (n + k) later (x .rest)) (is .0 ∙ ap (λ b. cond b 1 0) tells)
-            ∙ sizes-next n (getD (t .input) (l .kinds + i) 0) later v (x .rest));
-      }
-
-  pub counting-all : (l : Locals) {i e n : ℕ} → Counting l i e n → l .count ≤ i → n ≡ length (groupFrom t locals bit (kindsIn t l) (namesIn t l))
-  unfolding groupFrom
-  counting-all l {i} {e} {n} c h = let z = along-end t l (sizes n) (c .way) h in omega (arith, z)
+pub group-most : (t : Tables) (l : Locals) (bit : ℕ) → Listed t l → length (groupIn t l bit) ≤ l .count
+group-most t l bit k =
+    omega (arith, group-fewer t (localsIn t l) bit (kindsIn t l) (namesIn t l), length-slice (l .kinds) (l .kinds + l .count) (t .input) (k .kinds))
 
 -- Whether a name stands in a group.
 module _ (t : Tables) (locals : List ℕ) (bit kind v : ℕ) {b : Bool} (tells : b ≡ has bit kind) where

@@ -1,7 +1,7 @@
 // What the writer asks of the stores it is lent before it writes a node: its record, its chain, and the parts of a code.
 // Everything here only reads, and holds for any stores whatever: a number past a store reads as 0, as the definitions have it.
 ghost use mathlib.Core.Path.{_≡_};
-ghost use mathlib.Core.Bool.{true, cond, _&&_};
+ghost use mathlib.Core.Bool.{true, _&&_};
 ghost use Prim.Native.Nat.{_+_, _*_, _≤_, _<_, min};
 ghost use lib.ListN.{length, getD};
 ghost use Rattle.refusals.specs.Limits.{mostBytes};
@@ -13,7 +13,7 @@ ghost use Rattle.records.specs.Nodes.{nodeOf};
 ghost use Rattle.grammar.specs.Fields.{contents};
 ghost use Rattle.localsplus.specs.Kind;
 ghost use Rattle.writing.specs.Names.{contentsOf, sameBytes, namedIn};
-ghost use Rattle.tables.specs.Groups.{localsIn, inGroup, groupIn, Listed};
+ghost use Rattle.tables.specs.Groups.{localsIn, inGroup, Listed};
 ghost use Rattle.tables.specs.Looking.{lent, links, isSome, isNone, stringAt, Straight, Names, NamesFit, Parts, after, partOf, evenly, Looks};
 
 // The bits of a kind.
@@ -323,17 +323,16 @@ fn same_bytes(s: &[u8], a: usize, b: usize, size: usize) -> bool
     true
 }
 
-// Whether two sound strings are the same.
-fn same_name(s: &[u8], nodes: &[u32], used: u32, a: u32, b: u32) -> bool
-    requires { ⌜ (stringAt (now s) (now nodes) used a ≡ true) × (stringAt (now s) (now nodes) used b ≡ true) ⌝ }
-    ensures { λ r. ⌜ r ≡ sameBytes (contents (now (s .entry)) (nodeAt (now (nodes .entry)) a .place) (nodeAt (now (nodes .entry)) a .size)) (contents (now (s .entry)) (nodeAt (now (nodes .entry)) b .place) (nodeAt (now (nodes .entry)) b .size)) ⌝ }
+// Whether a part of the input and a sound string are the same.
+fn same_name(s: &[u8], nodes: &[u32], used: u32, place: u32, size: u32, name: u32) -> bool
+    requires { ⌜ (place + size ≤ length (now s)) × (stringAt (now s) (now nodes) used name ≡ true) ⌝ }
+    ensures { λ r. ⌜ r ≡ sameBytes (contents (now (s .entry)) place size) (contents (now (s .entry)) (nodeAt (now (nodes .entry)) name .place) (nodeAt (now (nodes .entry)) name .size)) ⌝ }
 {
-    let m = node_at(nodes, a);
-    let n = node_at(nodes, b);
-    if m.size != n.size {
+    let n = records::node_at(nodes, name);
+    if size != n.size {
         return false;
     }
-    same_bytes(s, m.place as usize, n.place as usize, m.size as usize)
+    same_bytes(s, place as usize, n.place as usize, size as usize)
 }
 
 fn has(bit: u32, kind: u8) -> bool
@@ -343,15 +342,15 @@ fn has(bit: u32, kind: u8) -> bool
     kind as u32 / bit % 2 == 1
 }
 
-// Whether a name of a kind is Local and the same as another.
-fn local_is(s: &[u8], nodes: &[u32], used: u32, kind: u8, name: u32, node: u32) -> bool
-    requires { ⌜ (stringAt (now s) (now nodes) used name ≡ true) × (stringAt (now s) (now nodes) used node ≡ true) ⌝ }
-    ensures { λ r. ⌜ r ≡ (Kind.has 32 kind && sameBytes (contents (now (s .entry)) (nodeAt (now (nodes .entry)) node .place) (nodeAt (now (nodes .entry)) node .size)) (contents (now (s .entry)) (nodeAt (now (nodes .entry)) name .place) (nodeAt (now (nodes .entry)) name .size))) ⌝ }
+// Whether a name of a kind is Local and the same as a part of the input.
+fn local_is(s: &[u8], nodes: &[u32], used: u32, kind: u8, name: u32, place: u32, size: u32) -> bool
+    requires { ⌜ (place + size ≤ length (now s)) × (stringAt (now s) (now nodes) used name ≡ true) ⌝ }
+    ensures { λ r. ⌜ r ≡ (Kind.has 32 kind && sameBytes (contents (now (s .entry)) place size) (contents (now (s .entry)) (nodeAt (now (nodes .entry)) name .place) (nodeAt (now (nodes .entry)) name .size))) ⌝ }
 {
     if !has(LOCAL, kind) {
         return false;
     }
-    same_name(s, nodes, used, node, name)
+    same_name(s, nodes, used, place, size, name)
 }
 
 // Whether a name equals a Local name.
@@ -359,22 +358,18 @@ fn is_local(s: &[u8], nodes: &[u32], entries: &[u32], used: Used, locals: Locals
     requires { ⌜ Listed (lent (now s) (now nodes) (now entries) used) locals × (stringAt (now s) (now nodes) (used .nodes) node ≡ true) ⌝ }
     ensures { λ r. ⌜ r ≡ namedIn (lent (now (s .entry)) (now (nodes .entry)) (now (entries .entry)) used) (contentsOf (lent (now (s .entry)) (now (nodes .entry)) (now (entries .entry)) used) node) (localsIn (lent (now (s .entry)) (now (nodes .entry)) (now (entries .entry)) used) locals) ⌝ }
 {
+    let own = records::node_at(nodes, node);
     let kinds = locals.kinds as usize;
     let count = locals.count;
     let mut e = locals.first;
     let mut i = 0u32;
     while i < count {
-        if local_is(
-            s,
-            nodes,
-            used.nodes,
-            s[kinds + i as usize],
-            child(entries, e),
-            node,
-        ) {
+        let kind = s[kinds + i as usize];
+        let name = entries[e as usize * 2];
+        if local_is(s, nodes, used.nodes, kind, name, own.place, own.size) {
             return true;
         }
-        e = next(entries, e);
+        e = entries[e as usize * 2 + 1];
         i += 1;
     }
     false
@@ -401,48 +396,4 @@ pub fn belongs(
         return true;
     }
     !is_local(s, nodes, entries, used, locals, node)
-}
-
-fn one_if(so: bool) -> u32
-    ensures { λ r. ⌜ (r ≡ cond so 1 0) × (r ≤ 1) ⌝ }
-{
-    if so {
-        return 1;
-    }
-    0
-}
-
-// How many names stand in the group of a bit.
-pub fn count_group(
-    s: &[u8],
-    nodes: &[u32],
-    entries: &[u32],
-    used: Used,
-    locals: Locals,
-    bit: u32,
-) -> u32
-    requires { ⌜ Listed (lent (now s) (now nodes) (now entries) used) locals × (0 < bit) ⌝ }
-    ensures { λ r. ⌜ (r ≡ length (groupIn (lent (now (s .entry)) (now (nodes .entry)) (now (entries .entry)) used) locals bit)) × (r ≤ locals .count) ⌝ }
-{
-    let kinds = locals.kinds as usize;
-    let count = locals.count;
-    let mut e = locals.first;
-    let mut i = 0u32;
-    let mut n = 0u32;
-    while i < count {
-        let kind = s[kinds + i as usize];
-        n += one_if(belongs(
-            s,
-            nodes,
-            entries,
-            used,
-            locals,
-            bit,
-            kind,
-            child(entries, e),
-        ));
-        e = next(entries, e);
-        i += 1;
-    }
-    n
 }

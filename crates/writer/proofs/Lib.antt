@@ -7,3 +7,4 @@ pub mod Coding
 pub mod Finishing
 pub mod Unread
 pub mod Leading
+pub mod Heading

@@ -21,10 +21,10 @@ use Rattle.writing.specs.Names.{contentsOf, inGroups}
 use Rattle.writing.specs.Steps.{levelled, stringPart, namesPart, someOf, kidsOf}
 use Rattle.grammar.proofs.Tests.{never, none-some, same-some}
 use Rattle.grammar.proofs.Passed.{whole-some, chain-length, first-string}
-use Rattle.writing.proofs.Into.{each-append, then-then}
+use Rattle.writing.proofs.Into.{each-append}
 use Rattle.puts.specs.declared.Wrote.{Wrote}
 use Rattle.puts.specs.declared.Wrote.the-variants as wrote
-use Rattle.puts.specs.Puts.{Puts}
+use Rattle.puts.specs.Puts.{Open, Puts}
 use Rattle.tables.specs.declared.Locals.{Locals}
 use Rattle.tables.specs.Looking.{isSome, stringAt, Held}
 use Rattle.tables.specs.Groups.{orNone, namesIn, kindsIn, localsIn, inGroup, groupFrom, groupIn, Listed}
@@ -32,7 +32,10 @@ use Rattle.tables.proofs.Codes.{look-plain}
 use Rattle.tables.proofs.Groups.{Along, along-none, Next, along-next, along-on, along-end, groups-are}
 use Rattle.writer.specs.Onward.{Onward}
 use Rattle.writer.specs.Heads.{kidsFrom, Localed}
-use Rattle.writer.proofs.Under.{start, left-as, done, refused-in, written-in}
+use Rattle.writer.specs.declared.Grouped.{Grouped}
+use Rattle.writer.specs.declared.Grouped.the-variants as grouped
+use Rattle.writer.specs.Groups.{wroteOf, CountedTo, Groups}
+use Rattle.writer.proofs.Under.{start, left-as, done, refused-in, written-in, puts-open, last}
 
 -- A level.
 
@@ -46,6 +49,9 @@ level (suc a) n w h = refl
 
 pub puts-equal : {w w′ : Writing} {at : ℕ} {o o′ : List ℕ} {r : Wrote} → Puts w at o r o′ → w′ ≡ w → Puts w′ at o r o′
 puts-equal {w} {w′} {at} {o} {o′} {r} k e = subst (λ x. Puts x at o r o′) (sym e) k
+
+pub puts-told : {w : Writing} {at : ℕ} {o o′ : List ℕ} {r r′ : Wrote} → Puts w at o r o′ → r ≡ r′ → Puts w at o r′ o′
+puts-told {w} {at} {o} {o′} k e = subst (λ x. Puts w at o x o′) e k
 
 -- a code string of a node whose numbers were read
 pub string-put : (t : Tables) (a v : ℕ) {p m : ℕ} {at : ℕ} {o o′ : List ℕ} {r : Wrote} → 0 < a → p ≡ nodeOf t v .place → m ≡ nodeOf t v .size
@@ -120,43 +126,58 @@ tuple-way t a v {count} {first} h k l =
     left-as (start l) (ap (namesPart t a v) (k .are) ∙ tuple-parts t a v count (kidsFrom t count first) h (k .long))
 
 -- local names, with their kinds
+abbrev pub inLocals : Tables → Locals → List ℕ
+inLocals t l = inGroups t (kindsIn t l) (namesIn t l)
+
 pub listed : (t : Tables) (kinds v : ℕ) {count first place : ℕ} → Localed t kinds v → count ≡ nodeOf t v .count → first ≡ nodeOf t v .first → place ≡ nodeOf t kinds .place
     → Listed t (record { first = first; count = count; kinds = place })
 listed t kinds v {count} {first} {place} k ec ef ep =
     let u = tuple-at t v (k .tuple) ec ef in
     record { chained = u .chained; fine = u .texts; kinds = omega (arith, k .within, k .even) }
 
-pub locals-way : (t : Tables) (a kinds v : ℕ) {count first place x y z : ℕ} {o : List ℕ} {at : ℕ} → 0 < a → Localed t kinds v
-    → count ≡ nodeOf t v .count → first ≡ nodeOf t v .first → place ≡ nodeOf t kinds .place
-    → x ≡ length (groupIn t (record { first = first; count = count; kinds = place }) localBit)
-    → y ≡ length (groupIn t (record { first = first; count = count; kinds = place }) cellBit)
-    → z ≡ length (groupIn t (record { first = first; count = count; kinds = place }) freeBit) → at ≤ length o
-    → Onward o at (namesPart t a v (inGroups t (contentsOf t kinds) (kidsOf t v))) o at
-    (then (emit (0x28 ∷ bytes32 (x + y + z)) ended)
-    (each (stringPart t (a - 1)) (inGroups t (kindsIn t (record { first = first; count = count; kinds = place })) (namesIn t (record { first = first; count = count; kinds = place })))))
-locals-way t a kinds v {count} {first} {place} {x} {y} {z} h k ec ef ep ex ey ez l =
+pub locals-part : (t : Tables) (a kinds v many : ℕ) {count first place : ℕ} → 0 < a → Localed t kinds v → count ≡ nodeOf t v .count → first ≡ nodeOf t v .first
+    → place ≡ nodeOf t kinds .place → many ≡ length (inLocals t (record { first = first; count = count; kinds = place }))
+    → namesPart t a v (inGroups t (contentsOf t kinds) (kidsOf t v))
+    ≡ emit (0x28 ∷ bytes32 many) (each (stringPart t (a - 1)) (inLocals t (record { first = first; count = count; kinds = place })))
+unfolding then
+locals-part t a kinds v many {count} {first} {place} h k ec ef ep em =
     let u = tuple-at t v (k .tuple) ec ef in
     let w : Locals = record { first = first; count = count; kinds = place } in
     let e : contentsOf t kinds ≡ kindsIn t w =
     sym (ap (λ p. contents (t .input) p count) ep ∙ ap (contents (t .input) (nodeOf t kinds .place)) (ec ∙ sym (k .even))) in
-    let n : length (inGroups t (kindsIn t w) (namesIn t w)) ≡ x + y + z =
-    ap length (groups-are t w)
-    ∙ length-append (groupIn t w localBit ++ groupIn t w cellBit) (groupIn t w freeBit)
-    ∙ ap (λ m. m + length (groupIn t w freeBit)) (length-append (groupIn t w localBit) (groupIn t w cellBit))
-    ∙ omega (arith, ex, ey, ez) in
-    left-as (start l)
-    (ap (λ ks. namesPart t a v (inGroups t ks (kidsOf t v))) e ∙ ap (λ ns. namesPart t a v (inGroups t (kindsIn t w) ns)) (u .are)
-    ∙ tuple-parts t a v (x + y + z) (inGroups t (kindsIn t w) (namesIn t w)) h n)
+    ap (λ ks. namesPart t a v (inGroups t ks (kidsOf t v))) e ∙ ap (λ ns. namesPart t a v (inGroups t (kindsIn t w) ns)) (u .are)
+    ∙ tuple-parts t a v many (inLocals t w) h (sym em)
 
--- the three groups, under way
-pub groups-way : (t : Tables) (f : ℕ → Writing) (l : Locals) {o : List ℕ} {at : ℕ} → at ≤ length o
-    → Onward o at (each f (inGroups t (kindsIn t l) (namesIn t l))) o at
-    (then (each f (groupIn t l localBit)) (then (each f (groupIn t l cellBit)) (each f (groupIn t l freeBit))))
-groups-way t f l h =
-    left-as (start h)
-    (ap (each f) (groups-are t l) ∙ each-append f (groupIn t l localBit ++ groupIn t l cellBit) (groupIn t l freeBit)
-    ∙ ap (λ w. then w (each f (groupIn t l freeBit))) (each-append f (groupIn t l localBit) (groupIn t l cellBit))
-    ∙ then-then (each f (groupIn t l localBit)) (each f (groupIn t l cellBit)) (each f (groupIn t l freeBit)))
+-- Names that are written and counted.
+
+pub counted-as : {r : Grouped} {many a n : ℕ} → CountedTo many r → r ≡ grouped.Done a n → n ≡ many
+counted-as k e = rw e at k
+
+module _ (f : ℕ → Writing) (xs : List ℕ) {counted at : ℕ} {o₀ o₁ : List ℕ} {r : Grouped} (k : Groups f xs counted at o₀ r o₁) (h : Open at o₀) where
+  behind : (ys : List ℕ) → Onward o₀ at (each f (xs ++ ys)) o₀ at (then (each f xs) (each f ys))
+  behind ys = left-as (start (h .inside)) (each-append f xs ys)
+
+  -- refused, they are so with others behind them
+  pub groups-refused : (ys : List ℕ) {number place : ℕ} → r ≡ grouped.Refused number place → Groups f (xs ++ ys) counted at o₀ (grouped.Refused number place) o₁
+  groups-refused ys is = record { puts = refused-in (each f ys) (behind ys) (k .puts) (ap wroteOf is); count = tt }
+
+  module _ {a n : ℕ} (is : r ≡ grouped.Done a n) where
+    -- done, the output can be written on, and others can come behind them
+    pub groups-open : Open a o₁
+    groups-open = puts-open h (k .puts) (ap wroteOf is)
+
+    pub groups-count : n ≡ counted + length xs
+    groups-count = counted-as (k .count) is
+
+    pub groups-then : (ys : List ℕ) {r′ : Grouped} {o₂ : List ℕ} → Groups f ys n a o₁ r′ o₂ → Groups f (xs ++ ys) counted at o₀ r′ o₂
+    groups-then ys {r′} k′ =
+        let e : n + length ys ≡ counted + length (xs ++ ys) = omega (arith, groups-count, length-append xs ys) in
+        record { puts = last (written-in (behind ys) (k .puts) (ap wroteOf is)) (k′ .puts); count = subst (λ m. CountedTo m r′) e (k′ .count) }
+
+-- the three groups are those of the local names
+pub groups-all : (t : Tables) (l : Locals) (f : ℕ → Writing) {counted at : ℕ} {o o′ : List ℕ} {r : Grouped}
+    → Groups f (groupIn t l localBit ++ groupIn t l cellBit ++ groupIn t l freeBit) counted at o r o′ → Groups f (inLocals t l) counted at o r o′
+groups-all t l f {counted} {at} {o} {o′} {r} k = subst (λ ns. Groups f ns counted at o r o′) (sym (groups-are t l)) k
 
 -- The names of a group.
 
@@ -165,78 +186,95 @@ unfolding each then
 each-if f true v vs = refl
 each-if f false v vs = refl
 
-module _ (t : Tables) (l : Locals) (bit : ℕ) (f : ℕ → Writing) (o₀ : List ℕ) (at : ℕ) where
-  abbrev group : List ℕ → List ℕ → Writing
-  group ks ns = each f (groupFrom t (localsIn t l) bit ks ns)
+count-if : (n : ℕ) (b : Bool) (v : ℕ) (vs : List ℕ) → n + cond b 1 0 + length vs ≡ n + length (cond b (v ∷ vs) vs)
+count-if n true v vs = omega arith
+count-if n false v vs = omega arith
+
+module _ (t : Tables) (l : Locals) (bit : ℕ) (f : ℕ → Writing) (counted : ℕ) (o₀ : List ℕ) (at : ℕ) where
+  abbrev group : List ℕ → List ℕ → List ℕ
+  group ks ns = groupFrom t (localsIn t l) bit ks ns
 
   abbrev pub whole-group : Writing
   whole-group = each f (groupIn t l bit)
 
-  abbrev pub comesTo : List ℕ → ℕ → List ℕ → List ℕ → Answer (List ℕ)
-  comesTo o p ks ns = into (length o₀) (take p o) (group ks ns)
+  -- what those that are left come to: the answer, and the count
+  abbrev pub comesTo : List ℕ → (p n : ℕ) → List ℕ → List ℕ → Answer (List ℕ) × ℕ
+  comesTo o p n ks ns = (into (length o₀) (take p o) (each f (group ks ns)), n + length (group ks ns))
 
-  pub record Grouping (o : List ℕ) (i e p : ℕ) : Type 0 where
+  abbrev pub goal : Answer (List ℕ) × ℕ
+  goal = comesTo o₀ at counted (kindsIn t l) (namesIn t l)
+
+  pub record Grouping (o : List ℕ) (i e p n : ℕ) : Type 0 where
     pub same : length o ≡ length o₀
     pub ahead : at ≤ p
     pub inside : p ≤ length o₀
     pub kept : drop p o ≡ drop p o₀
-    pub way : Along t l (comesTo o p) (into (length o₀) (take at o₀) whole-group) i e
+    pub most : n ≤ counted + i
+    pub way : Along t l (comesTo o p n) goal i e
 
-  pub grouping-none : Listed t l → at ≤ length o₀ → Grouping o₀ 0 (l .first) at
-  grouping-none k h = record { same = refl; ahead = omega arith; inside = h; kept = refl; way = along-none t l (comesTo o₀ at) k }
+  pub grouping-none : Listed t l → at ≤ length o₀ → Grouping o₀ 0 (l .first) at counted
+  grouping-none k h =
+      record { same = refl; ahead = omega arith; inside = h; kept = refl; most = omega arith; way = along-none t l (comesTo o₀ at counted) k }
 
-  pub member-next : {o : List ℕ} {i e p : ℕ} (v : ℕ) → Listed t l → Grouping o i e p → i < l .count → v ≡ entryAt (t .entries) e .child
-      → Next t l (comesTo o p) (into (length o₀) (take at o₀) whole-group) i e v
-  member-next {o} {i} {e} {p} v k g h is = along-next t l (comesTo o p) v k (g .way) h is
+  pub member-next : {o : List ℕ} {i e p n : ℕ} (v : ℕ) → Listed t l → Grouping o i e p n → i < l .count → v ≡ entryAt (t .entries) e .child
+      → Next t l (comesTo o p n) goal i e v
+  member-next {o} {i} {e} {p} {n} v k g h is = along-next t l (comesTo o p n) v k (g .way) h is
 
-  module _ {o : List ℕ} {i e p v : ℕ} (g : Grouping o i e p) (n : Next t l (comesTo o p) (into (length o₀) (take at o₀) whole-group) i e v) where
-    abbrev kind : ℕ
-    kind = getD (t .input) (l .kinds + i) 0
-
+  module _ {o : List ℕ} {i e p n v : ℕ} (g : Grouping o i e p n) (x : Next t l (comesTo o p n) goal i e v) {b : Bool}
+      (tells : b ≡ inGroup t (localsIn t l) bit (getD (t .input) (l .kinds + i) 0) v) where
     abbrev later : List ℕ
     later = slice (l .kinds + (i + 1)) (l .kinds + l .count) (t .input)
 
-    abbrev member : Writing
-    member = cond (inGroup t (localsIn t l) bit kind v) (f v) ended
-
-    splits : group (kind ∷ later) (v ∷ n .rest) ≡ then member (group later (n .rest))
+    turned : Onward o₀ at whole-group o p (then (cond b (f v) ended) (each f (group later (x .rest))))
     unfolding groupFrom
-    splits = each-if f (inGroup t (localsIn t l) bit kind v) v (groupFrom t (localsIn t l) bit later (n .rest))
-
-    turned : Onward o₀ at whole-group o p (then member (group later (n .rest)))
     turned =
         record {
           same = g .same;
           ahead = g .ahead;
           inside = g .inside;
           kept = g .kept;
-          comes = ap (into (length o₀) (take p o)) (sym splits) ∙ n .comes;
+          comes =
+              ap (into (length o₀) (take p o))
+              (ap (λ y. then (cond y (f v) ended) (each f (group later (x .rest)))) tells
+              ∙ sym (each-if f (inGroup t (localsIn t l) bit (getD (t .input) (l .kinds + i) 0) v) v (group later (x .rest))))
+              ∙ ap (λ z. z .0) (x .comes);
         }
 
-    pub member-refused : {o′ : List ℕ} {r : Wrote} {number place : ℕ} → Puts member p o r o′ → r ≡ wrote.Refused number place
-        → Puts whole-group at o₀ (wrote.Refused number place) o′
-    member-refused put is = refused-in (group later (n .rest)) turned put is
+    pub member-refused : {o′ : List ℕ} {r : Wrote} {number place : ℕ} → Puts (cond b (f v) ended) p o r o′ → r ≡ wrote.Refused number place
+        → Groups f (groupIn t l bit) counted at o₀ (grouped.Refused number place) o′
+    member-refused put is = record { puts = refused-in (each f (group later (x .rest))) turned put is; count = tt }
 
-    pub member-more : {o′ : List ℕ} {r : Wrote} {a e′ : ℕ} → Puts member p o r o′ → r ≡ wrote.Done a → i < l .count → e′ ≡ entryAt (t .entries) e .next
-        → Grouping o′ (i + 1) e′ a
-    member-more {o′} {r} {a} put is h on =
+    pub member-more : {o′ : List ℕ} {r : Wrote} {a e′ m : ℕ} → Puts (cond b (f v) ended) p o r o′ → r ≡ wrote.Done a → (m ≡ cond b 1 0) × (m ≤ 1) → i < l .count
+        → e′ ≡ entryAt (t .entries) e .next → Grouping o′ (i + 1) e′ a (n + m)
+    unfolding groupFrom
+    member-more {o′} {r} {a} {e′} {m} put is one h on =
         let w = written-in turned put is in
+        let wrote-so = w .comes ∙ sym (ap (λ z. z .0) (x .comes)) in
+        let counted-so : n + m + length (group later (x .rest)) ≡ n + length (group (getD (t .input) (l .kinds + i) 0 ∷ later) (v ∷ x .rest)) =
+        ap (λ k. n + k + length (group later (x .rest))) (one .0 ∙ ap (λ y. cond y 1 0) tells)
+        ∙ count-if n (inGroup t (localsIn t l) bit (getD (t .input) (l .kinds + i) 0) v) v (group later (x .rest)) in
         record {
           same = w .same;
           ahead = w .ahead;
           inside = w .inside;
           kept = w .kept;
-          way = along-on t l (comesTo o p) (comesTo o′ a) n h on (w .comes ∙ sym (n .comes));
+          most = omega (arith, g .most, one .1);
+          way = along-on t l (comesTo o p n) (comesTo o′ a (n + m)) x h on (λ j. (wrote-so j, counted-so j));
         }
 
-  pub grouping-all : {o : List ℕ} {i e p : ℕ} → Grouping o i e p → l .count ≤ i → Puts whole-group at o₀ (wrote.Done p) o
+  pub grouping-all : {o : List ℕ} {i e p n : ℕ} → Grouping o i e p n → l .count ≤ i → Groups f (groupIn t l bit) counted at o₀ (grouped.Done p n) o
   unfolding groupFrom each
-  grouping-all {o} {i} {e} {p} g h =
-      done (record { same = g .same; ahead = g .ahead; inside = g .inside; kept = g .kept; comes = along-end t l (comesTo o p) (g .way) h })
+  grouping-all {o} {i} {e} {p} {n} g h =
+      let z = along-end t l (comesTo o p n) (g .way) h in
+      let m : n + 0 ≡ counted + length (groupIn t l bit) = ap (λ y. y .1) z in
+      record {
+        puts = done (record { same = g .same; ahead = g .ahead; inside = g .inside; kept = g .kept; comes = ap (λ y. y .0) z });
+        count = omega (arith, m);
+      }
 
--- a name that is in the group, or not
-pub member-in : {b c : Bool} {w : Writing} {at : ℕ} {o o′ : List ℕ} {r : Wrote} → b ≡ c → b ≡ true → Puts w at o r o′ → Puts (cond c w ended) at o r o′
-member-in {b} {c} {w} e f k = puts-equal k (ap (λ x. cond x w ended) (sym e ∙ f))
+-- a name that is in its group, or not
+pub member-in : (b : Bool) {w : Writing} {at : ℕ} {o o′ : List ℕ} {r : Wrote} → b ≡ true → Puts w at o r o′ → Puts (cond b w ended) at o r o′
+member-in b {w} f k = puts-equal k (ap (λ x. cond x w ended) f)
 
-pub member-out : (w : Writing) {b c : Bool} {at : ℕ} {o : List ℕ} → b ≡ c → b ≡ false → at ≤ length o → Puts (cond c w ended) at o (wrote.Done at) o
-member-out w {b} {c} e f h = puts-equal (done (start h)) (ap (λ x. cond x w ended) (sym e ∙ f))
+pub member-out : (b : Bool) (w : Writing) {at : ℕ} {o : List ℕ} → b ≡ false → at ≤ length o → Puts (cond b w ended) at o (wrote.Done at) o
+member-out b w f h = puts-equal (done (start h)) (ap (λ x. cond x w ended) f)

@@ -1,17 +1,15 @@
 -- A writing under way: how it starts, goes on with each put, and ends. Every function that writes is carried by these. Assumes nothing.
 use mathlib.Core.Path.{_≡_, refl, sym, ap, subst, _∙_}
 use Prim.Native.Nat.{ℕ, suc, _+_, _-_, _*_, _≤_, _<_}
-use mathlib.Core.Bool.{Bool, true, false, cond}
-use mathlib.Core.Option.{some, none}
+use mathlib.Core.Bool.{true}
+use mathlib.Core.Option.{some}
 use native.Mathlib.Omega.{arith}
 use mathlib.Core.List.{List, _∷_}
 use lib.ListN.{length, take, drop}
 use lib.Seq.{drop-drop}
-use lib.Dec.{ltb}
-use borrow.Author.Tests.{ltb-true}
 use Rattle.grammar.specs.Reading.{stops}
 use Rattle.grammar.specs.State.{entryAt}
-use Rattle.grammar.specs.Record.{Tables, entriesIn, put, chain}
+use Rattle.grammar.specs.Record.{Tables, chain}
 use Rattle.writing.specs.Writing.{Writing, ended, refused, then, each, into}
 use Rattle.writing.specs.Answer.{mostOutput}
 use Rattle.writing.proofs.Into.{then-ended, into-then, into-stops}
@@ -20,7 +18,7 @@ use Rattle.puts.specs.declared.Wrote.the-variants as wrote
 use Rattle.puts.specs.Puts.{Open, Agrees, Puts}
 use Rattle.tables.specs.Looking.{isSome}
 use Rattle.tables.proofs.Groups.{some-of}
-use Rattle.tables.proofs.Chains.{onto, headed, chain-none}
+use Rattle.tables.proofs.Chains.{onto, headed, entry-in, chain-none}
 use Rattle.writer.specs.Onward.{Onward}
 use Rattle.writer.specs.Heads.{kidsFrom}
 
@@ -72,6 +70,10 @@ module _ {o₀ : List ℕ} {at : ℕ} {w₀ : Writing} {o : List ℕ} {p : ℕ} 
           comes = sym (into-then (length o₀) (take p o) u v (take a o′) (ap (λ n. into n (take p o) u) (sym (k .same)) ∙ e .0)) ∙ k .comes;
         }
 
+-- behind a put that is done the output can be written on
+pub puts-open : {w : Writing} {at a : ℕ} {o o′ : List ℕ} {r : Wrote} → Open at o → Puts w at o r o′ → r ≡ wrote.Done a → Open a o′
+puts-open {w} h put is = opens (written-in (left-as (start (h .inside)) (sym (then-ended w))) put is) (h .counts)
+
 -- the last put answers for all
 pub last : {o₀ : List ℕ} {at : ℕ} {w₀ : Writing} {o : List ℕ} {p : ℕ} {o′ : List ℕ} {u : Writing} {r : Wrote} → Onward o₀ at w₀ o p u → Puts u p o r o′ → Puts w₀ at o₀ r o′
 last {o₀} {at} {w₀} {o} {p} {o′} {u} {r} k put = go r refl
@@ -119,15 +121,9 @@ module _ {t : Tables} {f : ℕ → Writing} {Fine : List ℕ → Type 0} {count 
 
   -- whose entry is in the store
   pub row-entry : {o : List ℕ} {i e p : ℕ} → Rowing t f Fine count o₀ at w₀ o i e p → i < count → e * 2 + 2 ≤ length (t .entries)
-  unfolding chain
   row-entry {i = i} {e = e} w l =
       let n : count - i ≡ suc (count - (i + 1)) = omega arith in
-      go (ltb e (entriesIn (t .entries) (t .usedEntries))) refl (sym (ap (λ c. chain t c e) n) ∙ w .chained)
-    where
-      go : (b : Bool) → ltb e (entriesIn (t .entries) (t .usedEntries)) ≡ b
-          → cond b (put (entryAt (t .entries) e .child) (chain t (count - (i + 1)) (entryAt (t .entries) e .next))) none ≡ some (w .rest) → e * 2 + 2 ≤ length (t .entries)
-      go true h q = omega (arith, ltb-true e (entriesIn (t .entries) (t .usedEntries)) h)
-      go false h q = let z : _≡_ {A = ℕ} 0 1 = cc in absurd (omega arith)
+      entry-in t (count - (i + 1)) e (w .rest) (sym (ap (λ c. chain t c e) n) ∙ w .chained)
 
   pub row-more : {o o′ : List ℕ} {i e e′ p v a : ℕ} {r : Wrote} → Turn t f Fine count o₀ at w₀ o i e p v → ((vs : List ℕ) → Fine (v ∷ vs) → Fine vs) → i < count
       → e′ ≡ entryAt (t .entries) e .next → Puts (f v) p o r o′ → r ≡ wrote.Done a → Rowing t f Fine count o₀ at w₀ o′ (i + 1) e′ a

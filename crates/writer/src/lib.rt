@@ -20,10 +20,11 @@ ghost use Rattle.writing.specs.Names.{contentsOf, inGroups};
 ghost use Rattle.writing.specs.Steps.{stringPart, namesPart, kidsOf, writing, parted};
 ghost use Rattle.puts.specs.Puts.{Open, Puts};
 ghost use Rattle.tables.specs.Looking.{lent, isSome, stringAt, Held};
-ghost use Rattle.tables.specs.Groups.{inGroup, groupIn, localsIn, kindsIn, namesIn, Listed};
+ghost use Rattle.tables.specs.Groups.{groupIn, kindsIn, namesIn, Listed};
 ghost use Rattle.writing.specs.Answer.{mostOutput, written};
 ghost use Rattle.writer.specs.Entry.{tablesOf, Serialized};
 ghost use Rattle.writer.specs.Leaves.{textIf, ledOf, LeafIs, Leaves, Leads, Rows};
+ghost use Rattle.writer.specs.Groups.{Groups};
 ghost use Rattle.writer.specs.Heads.{kidsFrom, Localed, closed, wholeOf, rowOf, partsOf, Fronts, Heads, Levels, PartIn, linedPart, Coded, rowOfNode, lineOf};
 
 // What stands in front of a node's children: it is refused, or whole already; or its row comes next, of a dict's pairs or not; or a code's parts do.
@@ -123,7 +124,7 @@ fn write_marshal_name_tuple(
     }
 }
 
-// A name, if it stands in the group of a bit.
+// A name, if it is one of its group.
 fn write_member(
     s: &[u8],
     nodes: &[u32],
@@ -131,22 +132,35 @@ fn write_member(
     out: &mut [u8],
     used: tables::Used,
     allowance: u32,
-    locals: tables::Locals,
-    bit: u32,
-    kind: u8,
+    member: bool,
     node: u32,
     at: u32,
 ) -> puts::Wrote
-    requires { ⌜ Open at (now out) × Listed (lent (now s) (now nodes) (now entries) used) locals × (stringAt (now s) (now nodes) (used .nodes) node ≡ true) × (0 < bit) ⌝ }
-    ensures { λ r. ⌜ Puts (cond (inGroup (lent (now (s .entry)) (now (nodes .entry)) (now (entries .entry)) used) (localsIn (lent (now (s .entry)) (now (nodes .entry)) (now (entries .entry)) used) locals) bit kind node) (stringPart (lent (now (s .entry)) (now (nodes .entry)) (now (entries .entry)) used) allowance node) ended) at (now (out .entry)) r (now (out .exit)) ⌝ }
+    requires { ⌜ Open at (now out) × (stringAt (now s) (now nodes) (used .nodes) node ≡ true) ⌝ }
+    ensures { λ r. ⌜ Puts (cond member (stringPart (lent (now (s .entry)) (now (nodes .entry)) (now (entries .entry)) used) allowance node) ended) at (now (out .entry)) r (now (out .exit)) ⌝ }
 {
-    if !tables::belongs(s, nodes, entries, used, locals, bit, kind, node) {
+    if !member {
         return puts::Wrote::Done(at);
     }
     write_string(s, nodes, entries, out, used, allowance, node, at)
 }
 
-// The names in the group of a bit.
+fn one_if(so: bool) -> u32
+    ensures { λ r. ⌜ (r ≡ cond so 1 0) × (r ≤ 1) ⌝ }
+{
+    if so {
+        return 1;
+    }
+    0
+}
+
+// Where names end, and how many are counted up to there; or why they are refused.
+pub enum Grouped {
+    Done(u32, u32),
+    Refused(u32, u32),
+}
+
+// The names in the group of a bit, counted on from those before them.
 fn write_group(
     s: &[u8],
     nodes: &[u32],
@@ -157,42 +171,34 @@ fn write_group(
     locals: tables::Locals,
     bit: u32,
     at: u32,
-) -> puts::Wrote
-    requires { ⌜ Open at (now out) × Listed (lent (now s) (now nodes) (now entries) used) locals × (0 < bit) ⌝ }
-    ensures { λ r. ⌜ Puts (each (stringPart (lent (now (s .entry)) (now (nodes .entry)) (now (entries .entry)) used) allowance) (groupIn (lent (now (s .entry)) (now (nodes .entry)) (now (entries .entry)) used) locals bit)) at (now (out .entry)) r (now (out .exit)) ⌝ }
+    counted: u32,
+) -> Grouped
+    requires { ⌜ Open at (now out) × Listed (lent (now s) (now nodes) (now entries) used) locals × (0 < bit) × (counted + locals .count ≤ 4294967295) ⌝ }
+    ensures { λ r. ⌜ Groups (stringPart (lent (now (s .entry)) (now (nodes .entry)) (now (entries .entry)) used) allowance) (groupIn (lent (now (s .entry)) (now (nodes .entry)) (now (entries .entry)) used) locals bit) counted at (now (out .entry)) r (now (out .exit)) ⌝ }
 {
     let kinds = locals.kinds as usize;
     let count = locals.count;
     let mut e = locals.first;
     let mut i = 0u32;
     let mut p = at;
+    let mut n = counted;
     while i < count {
         let kind = s[kinds + i as usize];
         let name = tables::child(entries, e);
-        match write_member(
-            s,
-            nodes,
-            entries,
-            out,
-            used,
-            allowance,
-            locals,
-            bit,
-            kind,
-            name,
-            p,
-        ) {
+        let member = tables::belongs(s, nodes, entries, used, locals, bit, kind, name);
+        match write_member(s, nodes, entries, out, used, allowance, member, name, p) {
             puts::Wrote::Refused(number, place) => {
-                return puts::Wrote::Refused(number, place);
+                return Grouped::Refused(number, place);
             }
             puts::Wrote::Done(a) => {
                 p = a;
             }
         }
+        n += one_if(member);
         e = tables::next(entries, e);
         i += 1;
     }
-    puts::Wrote::Done(p)
+    Grouped::Done(p, n)
 }
 
 // The three groups of local names: Local, Cell whose name equals no Local name, Free.
@@ -205,9 +211,9 @@ fn write_groups(
     allowance: u32,
     locals: tables::Locals,
     at: u32,
-) -> puts::Wrote
-    requires { ⌜ Open at (now out) × Listed (lent (now s) (now nodes) (now entries) used) locals ⌝ }
-    ensures { λ r. ⌜ Puts (each (stringPart (lent (now (s .entry)) (now (nodes .entry)) (now (entries .entry)) used) allowance) (inGroups (lent (now (s .entry)) (now (nodes .entry)) (now (entries .entry)) used) (kindsIn (lent (now (s .entry)) (now (nodes .entry)) (now (entries .entry)) used) locals) (namesIn (lent (now (s .entry)) (now (nodes .entry)) (now (entries .entry)) used) locals))) at (now (out .entry)) r (now (out .exit)) ⌝ }
+) -> Grouped
+    requires { ⌜ Open at (now out) × Listed (lent (now s) (now nodes) (now entries) used) locals × (length (now s) ≤ mostBytes) ⌝ }
+    ensures { λ r. ⌜ Groups (stringPart (lent (now (s .entry)) (now (nodes .entry)) (now (entries .entry)) used) allowance) (inGroups (lent (now (s .entry)) (now (nodes .entry)) (now (entries .entry)) used) (kindsIn (lent (now (s .entry)) (now (nodes .entry)) (now (entries .entry)) used) locals) (namesIn (lent (now (s .entry)) (now (nodes .entry)) (now (entries .entry)) used) locals)) 0 at (now (out .entry)) r (now (out .exit)) ⌝ }
 {
     match write_group(
         s,
@@ -219,9 +225,10 @@ fn write_groups(
         locals,
         tables::LOCAL,
         at,
+        0,
     ) {
-        puts::Wrote::Refused(number, place) => puts::Wrote::Refused(number, place),
-        puts::Wrote::Done(a) => match write_group(
+        Grouped::Refused(number, place) => Grouped::Refused(number, place),
+        Grouped::Done(a, local) => match write_group(
             s,
             nodes,
             entries,
@@ -231,9 +238,10 @@ fn write_groups(
             locals,
             tables::CELL,
             a,
+            local,
         ) {
-            puts::Wrote::Refused(number, place) => puts::Wrote::Refused(number, place),
-            puts::Wrote::Done(b) => write_group(
+            Grouped::Refused(number, place) => Grouped::Refused(number, place),
+            Grouped::Done(b, cell) => write_group(
                 s,
                 nodes,
                 entries,
@@ -243,12 +251,13 @@ fn write_groups(
                 locals,
                 tables::FREE,
                 b,
+                cell,
             ),
         },
     }
 }
 
-// The tuple of local names, in their groups; the kinds stand in another part.
+// The tuple of local names, in their groups; the kinds stand in another part. The count, which is not known before, comes over a 0.
 fn write_locals(
     s: &[u8],
     nodes: &[u32],
@@ -273,21 +282,17 @@ fn write_locals(
         count: n.count,
         kinds: k.place,
     };
-    let local = tables::count_group(s, nodes, entries, used, locals, tables::LOCAL);
-    let cell = tables::count_group(s, nodes, entries, used, locals, tables::CELL);
-    let free = tables::count_group(s, nodes, entries, used, locals, tables::FREE);
-    match puts::write_len(out, at, 0x28, local + cell + free) {
+    match puts::write_len(out, at, 0x28, 0) {
         puts::Wrote::Refused(number, place) => puts::Wrote::Refused(number, place),
-        puts::Wrote::Done(a) => write_groups(
-            s,
-            nodes,
-            entries,
-            out,
-            used,
-            allowance - 1,
-            locals,
-            a,
-        ),
+        puts::Wrote::Done(a) => {
+            match write_groups(s, nodes, entries, out, used, allowance - 1, locals, a) {
+                Grouped::Refused(number, place) => puts::Wrote::Refused(number, place),
+                Grouped::Done(b, count) => {
+                    puts::store_u32(out, at as usize + 1, count);
+                    puts::Wrote::Done(b)
+                }
+            }
+        }
     }
 }
 

@@ -1,45 +1,93 @@
 -- Carried by `Along`: the names that are left tell the same. Assumes nothing.
-use Rattle.tables.proofs.Groups.{Along, along-none, along-next, asks, answer, asks-found, asks-more, asks-none}
+use Rattle.tables.proofs.Groups.{string-within, string-stored, Along, along-none, along-entry, along-next, asks, answer, asks-found, asks-more, asks-none, answer-of}
 use Rattle.tables.specs.Looking.{lent}
-use Rattle.writing.specs.Names.{contentsOf}
+use Rattle.grammar.specs.Fields.{contents}
+use Rattle.grammar.specs.State.{Node}
 use native.Mathlib.Omega.{arith}
+use mathlib.Core.Path.{refl, ap}
 use Prim.Native.Nat.{_-_}
 use borrow.Author.Needs.{needs}
 use Rattle.tables.proofs.is_local.Statement.{statement}
 use Rattle.tables.proofs.is_local.Tie as tie
 
 abbrev Inv-loop : tie.InvT-loop
-Inv-loop s nodes entries used node kinds count e₀ i₀ e i = let t = lent s nodes entries used in Along t (record { first = e₀; count = count; kinds = kinds }) (asks t (contentsOf t node)) (answer t (contentsOf t node) (record { first = e₀; count = count; kinds = kinds })) i e
+Inv-loop s nodes entries used node own kinds count e₀ i₀ e i =
+    let t = lent s nodes entries used in
+    let name = contents s (own .place) (own .size) in
+    Along t (record { first = e₀; count = count; kinds = kinds }) (asks t name) (answer t name (record { first = e₀; count = count; kinds = kinds })) i e
 
 abbrev μ-loop : tie.MeasureT-loop
-μ-loop s nodes entries used node kinds count e₀ i₀ e i = count - i
+μ-loop s nodes entries used node own kinds count e₀ i₀ e i = count - i
+
+node-at-requires : tie.Need-node-at-requires Inv-loop μ-loop
+node-at-requires c κs =
+    let a = c .before .before .before .args in string-stored (a .s .now) (a .nodes .now) (a .used .nodes) (a .node) (c .before .before .before .pre .1)
 
 cast-kinds : tie.Need-cast-kinds Inv-loop μ-loop
 cast-kinds c = search needs
 
 loop-holds : tie.Need-loop-holds Inv-loop μ-loop
-loop-holds c = along-none (lent (c .before .before .before .before .args .s .now) (c .before .before .before .before .args .nodes .now) (c .before .before .before .before .args .entries .now) (c .before .before .before .before .args .used)) (c .before .before .before .before .args .locals) (asks (lent (c .before .before .before .before .args .s .now) (c .before .before .before .before .args .nodes .now) (c .before .before .before .before .args .entries .now) (c .before .before .before .before .args .used)) (contentsOf (lent (c .before .before .before .before .args .s .now) (c .before .before .before .before .args .nodes .now) (c .before .before .before .before .args .entries .now) (c .before .before .before .before .args .used)) (c .before .before .before .before .args .node))) (c .before .before .before .before .pre .0)
+loop-holds c =
+    let a = c .before .before .before .before .before .args in
+    let t = lent (a .s .now) (a .nodes .now) (a .entries .now) (a .used) in
+    let own = c .before .node-at .result in
+    along-none t (a .locals) (asks t (contents (a .s .now) (own .place) (own .size))) (c .before .before .before .before .before .pre .0)
 
-cast-local-is : tie.Need-cast-local-is Inv-loop μ-loop
-cast-local-is c = search needs
+cast-kind : tie.Need-cast-kind Inv-loop μ-loop
+cast-kind c = search needs
 
-add-local-is : tie.Need-add-local-is Inv-loop μ-loop
-add-local-is c = omega (arith, c .before .before .before .before .before .before .pre .0 .kinds)
+add-kind : tie.Need-add-kind Inv-loop μ-loop
+add-kind c = omega (arith, c .before .before .before .before .before .before .before .pre .0 .kinds)
 
-shared-slice-read-local-is : tie.Need-shared-slice-read-local-is Inv-loop μ-loop
-shared-slice-read-local-is c = omega (arith, c .before .before .before .before .before .before .before .pre .0 .kinds)
+shared-slice-read-kind : tie.Need-shared-slice-read-kind Inv-loop μ-loop
+shared-slice-read-kind c = omega (arith, c .before .before .before .before .before .before .before .before .pre .0 .kinds)
 
-child-requires : tie.Need-child-requires Inv-loop μ-loop
-child-requires c κs = search needs
+cast-name : tie.Need-cast-name Inv-loop μ-loop
+cast-name c = search (along-entry _ _ _ (c .before .before .loop .inv) (c .before .loop-test .taken), needs)
+
+mul-name : tie.Need-mul-name Inv-loop μ-loop
+mul-name c = search (along-entry _ _ _ (c .before .before .loop .inv) (c .before .loop-test .taken), needs)
+
+mul-name-2 : tie.Need-mul-name-2 Inv-loop μ-loop
+mul-name-2 c = search (along-entry _ _ _ (c .before .before .loop .inv) (c .before .loop-test .taken), needs)
+
+shared-slice-read-name : tie.Need-shared-slice-read-name Inv-loop μ-loop
+shared-slice-read-name c = omega (arith, along-entry _ _ _ (c .before .before .before .loop .inv) (c .before .before .loop-test .taken))
 
 local-is-requires : tie.Need-local-is-requires Inv-loop μ-loop
-local-is-requires c κs = ((along-next (lent (c .before .before .before .before .before .before .before .before .args .s .now) (c .before .before .before .before .before .before .before .before .args .nodes .now) (c .before .before .before .before .before .before .before .before .args .entries .now) (c .before .before .before .before .before .before .before .before .args .used)) (c .before .before .before .before .before .before .before .before .args .locals) (asks (lent (c .before .before .before .before .before .before .before .before .args .s .now) (c .before .before .before .before .before .before .before .before .args .nodes .now) (c .before .before .before .before .before .before .before .before .args .entries .now) (c .before .before .before .before .before .before .before .before .args .used)) (contentsOf (lent (c .before .before .before .before .before .before .before .before .args .s .now) (c .before .before .before .before .before .before .before .before .args .nodes .now) (c .before .before .before .before .before .before .before .before .args .entries .now) (c .before .before .before .before .before .before .before .before .args .used)) (c .before .before .before .before .before .before .before .before .args .node))) (c .child .result) (c .before .before .before .before .before .before .before .before .pre .0) (c .before .before .before .loop .inv) (c .before .before .loop-test .taken) (c .child .ensures)) .text, c .before .before .before .before .before .before .before .before .pre .1)
+local-is-requires c κs =
+    let a = c .before .before .before .before .before .before .before .before .before .args in
+    let t = lent (a .s .now) (a .nodes .now) (a .entries .now) (a .used) in
+    let own = c .before .before .before .before .before .node-at .result in
+    let name = contents (a .s .now) (own .place) (own .size) in
+    let p = ap (λ (m : Node). m .place) (c .before .before .before .before .before .node-at .ensures) in
+    let m = ap (λ (m : Node). m .size) (c .before .before .before .before .before .node-at .ensures) in
+    (omega (arith, string-within (a .s .now) (a .nodes .now) (a .used .nodes) (a .node) (c .before .before .before .before .before .before .before .before .before .pre .1)), (along-next t (a .locals) (asks t name) _ (c .before .before .before .before .before .before .before .before .before .pre .0) (c .before .before .before .loop .inv) (c .before .before .loop-test .taken) refl) .text)
 
 returns : tie.Need-returns Inv-loop μ-loop
-returns c = asks-found (lent (c .before .before .before .before .before .before .before .before .before .before .args .s .now) (c .before .before .before .before .before .before .before .before .before .before .args .nodes .now) (c .before .before .before .before .before .before .before .before .before .before .args .entries .now) (c .before .before .before .before .before .before .before .before .before .before .args .used)) (contentsOf (lent (c .before .before .before .before .before .before .before .before .before .before .args .s .now) (c .before .before .before .before .before .before .before .before .before .before .args .nodes .now) (c .before .before .before .before .before .before .before .before .before .before .args .entries .now) (c .before .before .before .before .before .before .before .before .before .before .args .used)) (c .before .before .before .before .before .before .before .before .before .before .args .node)) (c .before .before .before .before .before .before .before .before .before .before .args .locals) (along-next (lent (c .before .before .before .before .before .before .before .before .before .before .args .s .now) (c .before .before .before .before .before .before .before .before .before .before .args .nodes .now) (c .before .before .before .before .before .before .before .before .before .before .args .entries .now) (c .before .before .before .before .before .before .before .before .before .before .args .used)) (c .before .before .before .before .before .before .before .before .before .before .args .locals) (asks (lent (c .before .before .before .before .before .before .before .before .before .before .args .s .now) (c .before .before .before .before .before .before .before .before .before .before .args .nodes .now) (c .before .before .before .before .before .before .before .before .before .before .args .entries .now) (c .before .before .before .before .before .before .before .before .before .before .args .used)) (contentsOf (lent (c .before .before .before .before .before .before .before .before .before .before .args .s .now) (c .before .before .before .before .before .before .before .before .before .before .args .nodes .now) (c .before .before .before .before .before .before .before .before .before .before .args .entries .now) (c .before .before .before .before .before .before .before .before .before .before .args .used)) (c .before .before .before .before .before .before .before .before .before .before .args .node))) (c .before .before .child .result) (c .before .before .before .before .before .before .before .before .before .before .pre .0) (c .before .before .before .before .before .loop .inv) (c .before .before .before .before .loop-test .taken) (c .before .before .child .ensures)) (c .before .local-is .ensures) (c .if1 .taken)
+returns c =
+    let a = c .before .before .before .before .before .before .before .before .before .before .before .args in
+    let t = lent (a .s .now) (a .nodes .now) (a .entries .now) (a .used) in
+    let own = c .before .before .before .before .before .before .before .node-at .result in
+    let name = contents (a .s .now) (own .place) (own .size) in
+    answer-of t (a .locals) (a .node)
+    (asks-found t name (a .locals) (along-next t (a .locals) (asks t name) _ (c .before .before .before .before .before .before .before .before .before .before .before .pre .0) (c .before .before .before .before .before .loop .inv) (c .before .before .before .before .loop-test .taken) refl) (c .before .local-is .ensures) (c .if1 .taken))
+    (ap (λ (m : Node). m .place) (c .before .before .before .before .before .before .before .node-at .ensures)) (ap (λ (m : Node). m .size) (c .before .before .before .before .before .before .before .node-at .ensures))
 
-next-requires : tie.Need-next-requires Inv-loop μ-loop
-next-requires c κs = search needs
+cast-e : tie.Need-cast-e Inv-loop μ-loop
+cast-e c = search (along-entry _ _ _ (c .before .before .before .before .before .loop .inv) (c .before .before .before .before .loop-test .taken), needs)
+
+mul-e : tie.Need-mul-e Inv-loop μ-loop
+mul-e c = search (along-entry _ _ _ (c .before .before .before .before .before .loop .inv) (c .before .before .before .before .loop-test .taken), needs)
+
+add-e : tie.Need-add-e Inv-loop μ-loop
+add-e c = search (along-entry _ _ _ (c .before .before .before .before .before .loop .inv) (c .before .before .before .before .loop-test .taken), needs)
+
+mul-e-2 : tie.Need-mul-e-2 Inv-loop μ-loop
+mul-e-2 c = search (along-entry _ _ _ (c .before .before .before .before .before .loop .inv) (c .before .before .before .before .loop-test .taken), needs)
+
+shared-slice-read-e : tie.Need-shared-slice-read-e Inv-loop μ-loop
+shared-slice-read-e c = omega (arith, along-entry _ _ _ (c .before .before .before .before .before .before .loop .inv) (c .before .before .before .before .before .loop-test .taken))
 
 add-i : tie.Need-add-i Inv-loop μ-loop
 add-i c = search needs
@@ -48,10 +96,21 @@ loop-less : tie.Need-loop-less Inv-loop μ-loop
 loop-less c = search needs
 
 loop-again : tie.Need-loop-again Inv-loop μ-loop
-loop-again c = asks-more (lent (c .before .before .before .before .before .before .before .before .before .before .before .args .s .now) (c .before .before .before .before .before .before .before .before .before .before .before .args .nodes .now) (c .before .before .before .before .before .before .before .before .before .before .before .args .entries .now) (c .before .before .before .before .before .before .before .before .before .before .before .args .used)) (contentsOf (lent (c .before .before .before .before .before .before .before .before .before .before .before .args .s .now) (c .before .before .before .before .before .before .before .before .before .before .before .args .nodes .now) (c .before .before .before .before .before .before .before .before .before .before .before .args .entries .now) (c .before .before .before .before .before .before .before .before .before .before .before .args .used)) (c .before .before .before .before .before .before .before .before .before .before .before .args .node)) (c .before .before .before .before .before .before .before .before .before .before .before .args .locals) (along-next (lent (c .before .before .before .before .before .before .before .before .before .before .before .args .s .now) (c .before .before .before .before .before .before .before .before .before .before .before .args .nodes .now) (c .before .before .before .before .before .before .before .before .before .before .before .args .entries .now) (c .before .before .before .before .before .before .before .before .before .before .before .args .used)) (c .before .before .before .before .before .before .before .before .before .before .before .args .locals) (asks (lent (c .before .before .before .before .before .before .before .before .before .before .before .args .s .now) (c .before .before .before .before .before .before .before .before .before .before .before .args .nodes .now) (c .before .before .before .before .before .before .before .before .before .before .before .args .entries .now) (c .before .before .before .before .before .before .before .before .before .before .before .args .used)) (contentsOf (lent (c .before .before .before .before .before .before .before .before .before .before .before .args .s .now) (c .before .before .before .before .before .before .before .before .before .before .before .args .nodes .now) (c .before .before .before .before .before .before .before .before .before .before .before .args .entries .now) (c .before .before .before .before .before .before .before .before .before .before .before .args .used)) (c .before .before .before .before .before .before .before .before .before .before .before .args .node))) (c .before .before .before .child .result) (c .before .before .before .before .before .before .before .before .before .before .before .pre .0) (c .before .before .before .before .before .before .loop .inv) (c .before .before .before .before .before .loop-test .taken) (c .before .before .before .child .ensures)) (c .before .before .local-is .ensures) (c .before .if1 .left) (c .before .before .before .before .before .loop-test .taken) (c .next .ensures)
+loop-again c =
+    let a = c .before .before .before .before .before .before .before .before .before .before .before .before .args in
+    let t = lent (a .s .now) (a .nodes .now) (a .entries .now) (a .used) in
+    let own = c .before .before .before .before .before .before .before .before .node-at .result in
+    let name = contents (a .s .now) (own .place) (own .size) in
+    asks-more t name (a .locals) (along-next t (a .locals) (asks t name) _ (c .before .before .before .before .before .before .before .before .before .before .before .before .pre .0) (c .before .before .before .before .before .before .loop .inv) (c .before .before .before .before .before .loop-test .taken) refl) (c .before .before .local-is .ensures) (c .before .if1 .left) (c .before .before .before .before .before .loop-test .taken) refl
 
 returns-2 : tie.Need-returns-2 Inv-loop μ-loop
-returns-2 c = asks-none (lent (c .before .before .before .before .before .before .args .s .now) (c .before .before .before .before .before .before .args .nodes .now) (c .before .before .before .before .before .before .args .entries .now) (c .before .before .before .before .before .before .args .used)) (contentsOf (lent (c .before .before .before .before .before .before .args .s .now) (c .before .before .before .before .before .before .args .nodes .now) (c .before .before .before .before .before .before .args .entries .now) (c .before .before .before .before .before .before .args .used)) (c .before .before .before .before .before .before .args .node)) (c .before .before .before .before .before .before .args .locals) (c .before .loop .inv) (omega arith)
+returns-2 c =
+    let a = c .before .before .before .before .before .before .before .args in
+    let t = lent (a .s .now) (a .nodes .now) (a .entries .now) (a .used) in
+    let own = c .before .before .before .node-at .result in
+    answer-of t (a .locals) (a .node)
+    (asks-none t (contents (a .s .now) (own .place) (own .size)) (a .locals) (c .before .loop .inv) (omega arith))
+    (ap (λ (m : Node). m .place) (c .before .before .before .node-at .ensures)) (ap (λ (m : Node). m .size) (c .before .before .before .node-at .ensures))
 
 pub is-local-spec : {M : Type 1} → statement M
 is-local-spec =
@@ -59,15 +118,23 @@ is-local-spec =
     (tie.spec
     Inv-loop
     μ-loop
+    node-at-requires
     cast-kinds
     loop-holds
-    cast-local-is
-    add-local-is
-    shared-slice-read-local-is
-    child-requires
+    cast-kind
+    add-kind
+    shared-slice-read-kind
+    cast-name
+    mul-name
+    mul-name-2
+    shared-slice-read-name
     local-is-requires
     returns
-    next-requires
+    cast-e
+    mul-e
+    add-e
+    mul-e-2
+    shared-slice-read-e
     add-i
     loop-less
     loop-again
