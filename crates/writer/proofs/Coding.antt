@@ -241,6 +241,9 @@ module _ {t : Tables} {kinds i v : ℕ} (k : PartIn t kinds i v) where
   fits-as : {j : ℕ} → i ≡ j → suited t (getD rules j whatever) v (whole t v) ≡ none
   fits-as e = sym (ap (λ j. suited t (getD rules j whatever) v (whole t v)) e) ∙ k .fits
 
+  pub asks-bytes : {j : ℕ} → i ≡ j → getD rules j whatever ≡ rule.asBytes → suited t rule.asBytes v (whole t v) ≡ none
+  asks-bytes e f = ap (λ r. suited t r v (whole t v)) (sym f) ∙ fits-as e
+
   pub asks-names : i ≡ 2 → suited t rule.asNames v (whole t v) ≡ none
   unfolding rules
   asks-names e = fits-as e

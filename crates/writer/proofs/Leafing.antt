@@ -9,17 +9,18 @@ use lib.ListN.{length, getD}
 use lib.Dec.{leb, ltb, eqb}
 use borrow.Author.Tests.{lt-ltb, le-leb, eq-eqb, ne-eqb, eqb-true}
 use Rattle.grammar.specs.Letters as letter
-use Rattle.grammar.specs.Letters.{Class, keeps, contains, codes, classOf, letters, found, isString}
+use Rattle.grammar.specs.Letters.{Class, keeps, contains, codes, classOf, letters, found, isBytes, isString}
 use Rattle.grammar.specs.Reading.{stops}
-use Rattle.refusals.specs.Numbers.{dataTooShort}
+use Rattle.refusals.specs.Numbers.{dataTooShort, tooDeep}
+use Rattle.grammar.specs.Steps.{asBytes}
 use Rattle.grammar.specs.Fields.{fields, contents, span, items}
 use Rattle.grammar.specs.State.{Node, nodeAt}
-use Rattle.grammar.specs.Record.{Tables, nodeOf, nodesIn, chain, whole, sound, soundAt, ruled, readsAs, containing}
+use Rattle.grammar.specs.Record.{Tables, nodeOf, nodesIn, chain, whole, sound, soundAt, ruled, readsAs, containing, suited}
 use Rattle.grammar.proofs.Lettered.{among-each}
 use Rattle.grammar.proofs.Tests.{both-true}
-use Rattle.grammar.proofs.Passed.{sound-ruled}
+use Rattle.grammar.proofs.Passed.{sound-ruled, sound-at, unless-none, fits-some, fits-sound}
 use Rattle.writing.specs.Shape.{classed}
-use Rattle.writing.specs.Writing.{Writing}
+use Rattle.writing.specs.Writing.{Writing, refused}
 use Rattle.writing.specs.Steps.{shaped, writing, isCode}
 use Rattle.puts.specs.declared.Wrote.{Wrote}
 use Rattle.puts.specs.declared.Wrote.the-variants as wrote
@@ -130,6 +131,32 @@ module _ (t : Tables) (n : ℕ) (below : n < nodesIn (t .nodes) (t .usedNodes)) 
       let held = look-plain t n [] no-kids no-letter in
       writing-holds t a n (levels-left a h) (held .kids) (held .holds-kids)
       ∙ k .writes (writing (a - 1) t) (partsBy t a n) (held .kids)
+
+-- bytes of a code, as it has tested them
+module _ (t : Tables) (small : (i : ℕ) → getD (t .input) i 0 < 256) (v : ℕ) (fits : suited t asBytes v (whole t v) ≡ none) where
+  bytes-sound : (v < nodesIn (t .nodes) (t .usedNodes)) × (sound (t .input) (nodeOf t v) ≡ true)
+  bytes-sound = sound-at t v (fits-sound t asBytes v fits)
+
+  bytes-class : classOf (nodeOf t v .letter) ≡ contains letter.bytes
+  unfolding classOf letters found
+  bytes-class =
+      let w = fits-some t asBytes v (whole t v) fits in
+      among-each (λ l. classOf l ≡ contains letter.bytes) (nodeOf t v .letter) (0x73 ∷ []) (refl, tt)
+      (unless-none (isBytes (nodeOf t v .letter)) v (sym (ap (suited t asBytes v) (w .1)) ∙ fits))
+
+  bytes-leaf : LeafIs (t .input) (nodeOf t v) (leaf.Sized 0x73 (nodeOf t v .place) (nodeOf t v .size))
+  bytes-leaf = leaf-sized (t .input) (nodeOf t v) bytes-class (λ f g kids. as-bytes (t .input) small (nodeOf t v) f g kids bytes-class) (bytes-sound .1)
+
+  pub bytes-in : nodeOf t v .place + nodeOf t v .size ≤ length (t .input)
+  bytes-in = bytes-leaf .1
+
+  pub bytes-written : (a : ℕ) → 0 < a → writing a t v ≡ sizedAt (t .input) 0x73 (nodeOf t v .place) (nodeOf t v .size)
+  bytes-written a h = leaf-written t v (bytes-sound .0) (bytes-leaf .0) a h
+
+-- without a level nothing is written
+pub deep-written : (t : Tables) (v a : ℕ) → a ≡ 0 → writing a t v ≡ refused tooDeep v
+unfolding writing
+deep-written t v a e = ap (λ k. writing k t v) e
 
 pub leaf-held : (s nodes : List ℕ) (used : Used) (a n : ℕ) {N : Node} {r : Leaf} → 0 < a → n < nodesIn nodes (used .nodes)
     → N ≡ nodeAt nodes n → LeafIs s N r → Leaves s nodes used a n r

@@ -8,7 +8,7 @@ ghost use lib.Dec.{eqb};
 ghost use Prim.Native.Nat.{_+_, _-_, _≤_, _<_, min};
 ghost use lib.ListN.{length};
 ghost use Rattle.refusals.specs.Limits.{mostBytes};
-ghost use Rattle.grammar.specs.Steps.{asNames};
+ghost use Rattle.grammar.specs.Steps.{asBytes, asNames};
 ghost use Rattle.grammar.specs.Letters.{classOf};
 ghost use Rattle.grammar.specs.Fields.{le64};
 ghost use Rattle.fields.specs.Classes.{classAt};
@@ -54,6 +54,27 @@ fn write_string(
     }
     let n = tables::node_at(nodes, node);
     puts::write_marshal_str(out, at, s, n.place, n.size)
+}
+
+// Bytes of a code.
+fn write_bytes(
+    s: &[u8],
+    nodes: &[u32],
+    entries: &[u32],
+    out: &mut [u8],
+    used: tables::Used,
+    allowance: u32,
+    node: u32,
+    at: u32,
+) -> puts::Wrote
+    requires { ⌜ Open at (now out) × (Record.suited (lent (now s) (now nodes) (now entries) used) asBytes node (Record.whole (lent (now s) (now nodes) (now entries) used) node) ≡ none) ⌝ }
+    ensures { λ r. ⌜ Puts (writing allowance (lent (now (s .entry)) (now (nodes .entry)) (now (entries .entry)) used) node) at (now (out .entry)) r (now (out .exit)) ⌝ }
+{
+    if allowance == 0 {
+        return puts::Wrote::Refused(refusals::TOO_DEEP, node);
+    }
+    let n = tables::node_at(nodes, node);
+    puts::write_vec(out, at, 0x73, s, n.place, n.size)
 }
 
 // The names of a chain, one after another.
@@ -648,7 +669,8 @@ fn write_children(
     }
 }
 
-// A part of a code: as any value is, as names, as local names, or as a code string; the first line comes before the ninth.
+// A part of a code: as bytes, as names, as local names, as a code string, or as any value is, as its constants are; the first line
+// comes before the ninth.
 fn write_part(
     s: &[u8],
     nodes: &[u32],
@@ -666,15 +688,18 @@ fn write_part(
     ensures { λ r. ⌜ Puts (linedPart (lent (now (s .entry)) (now (nodes .entry)) (now (entries .entry)) used) allowance line (contentsOf (lent (now (s .entry)) (now (nodes .entry)) (now (entries .entry)) used) kinds) part node) at (now (out .entry)) r (now (out .exit)) ⌝ }
 {
     match part {
+        0 => write_bytes(s, nodes, entries, out, used, allowance, node, at),
         2 => write_marshal_name_tuple(s, nodes, entries, out, used, allowance, node, at),
         3 => write_locals(s, nodes, entries, out, used, allowance, kinds, node, at),
+        4 => write_bytes(s, nodes, entries, out, used, allowance, node, at),
         5 => write_string(s, nodes, entries, out, used, allowance, node, at),
         6 => write_string(s, nodes, entries, out, used, allowance, node, at),
         7 => write_string(s, nodes, entries, out, used, allowance, node, at),
         8 => match puts::write_u32(out, at, shown(line)) {
             puts::Wrote::Refused(number, place) => puts::Wrote::Refused(number, place),
-            puts::Wrote::Done(a) => write_value(s, nodes, entries, out, used, allowance, node, a),
+            puts::Wrote::Done(a) => write_bytes(s, nodes, entries, out, used, allowance, node, a),
         },
+        9 => write_bytes(s, nodes, entries, out, used, allowance, node, at),
         _ => write_value(s, nodes, entries, out, used, allowance, node, at),
     }
 }

@@ -2,7 +2,6 @@
 use Rattle.writing.specs.Names.{contentsOf}
 use Rattle.writing.specs.Canonical.{codeString}
 use Rattle.writing.specs.Writing.{emit, ended}
--- The level, then the string. Assumes nothing.
 use Rattle.writer.proofs.Naming.{no-level, string-put}
 use Rattle.tables.proofs.Groups.{string-within}
 use Rattle.tables.specs.Looking.{lent}

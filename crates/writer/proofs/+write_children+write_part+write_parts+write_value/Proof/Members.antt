@@ -24,6 +24,7 @@ use Rattle.tables.proofs.node_at.Reads as node-at
 use Rattle.tables.proofs.part_at.Reads as part-at
 use Rattle.writer.proofs.open_node.Reads as open-node
 use Rattle.writer.proofs.shown.Reads as shown
+use Rattle.writer.proofs.write_bytes.Reads as write-bytes
 use Rattle.writer.proofs.write_leaves.Reads as write-leaves
 use Rattle.writer.proofs.write_locals.Reads as write-locals
 use Rattle.writer.proofs.write_marshal_name_tuple.Reads as write-marshal-name-tuple
@@ -70,7 +71,7 @@ abbrev pub write-children-calls : ℕ → write-children-lts.Claims
 write-children-calls m = (node-at.Asked, node-at.Learnt, write-leaves.Asked, write-leaves.Learnt, child.Asked, child.Learnt, write-value-below m, write-value.Post, next.Asked, next.Learnt)
 
 abbrev pub write-part-calls : ℕ → write-part-lts.Claims
-write-part-calls m = (write-marshal-name-tuple.Asked, write-marshal-name-tuple.Learnt, write-locals.Asked, write-locals.Learnt, write-string.Asked, write-string.Learnt, shown.Asked, shown.Learnt, write-u32.Asked, write-u32.Learnt, write-value-below m, write-value.Post)
+write-part-calls m = (write-bytes.Asked, write-bytes.Learnt, write-marshal-name-tuple.Asked, write-marshal-name-tuple.Learnt, write-locals.Asked, write-locals.Learnt, write-string.Asked, write-string.Learnt, shown.Asked, shown.Learnt, write-u32.Asked, write-u32.Learnt, write-value-below m, write-value.Post)
 
 abbrev pub write-parts-calls : ℕ → write-parts-lts.Claims
 write-parts-calls m = (node-at.Asked, node-at.Learnt, le32.Asked, le32.Learnt, part-at.Asked, part-at.Learnt, child.Asked, child.Learnt, write-part-below m, write-part.Post, next.Asked, next.Learnt)
