@@ -5,7 +5,7 @@ use Prim.Native.Nat.{ℕ, zero, suc, _+_, _%_, _≤_, _<_}
 use mathlib.Core.Bool.{Bool, true, false, _&&_}
 use mathlib.Core.Option.{Option, none, some}
 use mathlib.Core.List.{List, []}
-use Rattle.grammar.specs.Letters.{isString}
+use Rattle.grammar.specs.Letters.{isBytes, isString}
 use lib.Dec.{eqb}
 use Rattle.grammar.specs.State.{nodeAt, entryAt}
 use Rattle.grammar.specs.Steps.{rules, codeParts, asNames}
@@ -38,7 +38,10 @@ Looks t n false = look t n ≡ faulty n
 abbrev pub links : (entries : List ℕ) → (used : ℕ) → Tables
 links entries used = record { input = []; nodes = []; entries = entries; usedNodes = 0; usedEntries = used }
 
--- a sound string
+-- sound bytes, and a sound string
+abbrev pub bytesAt : (input nodes : List ℕ) → (used node : ℕ) → Bool
+bytesAt input nodes used v = soundAt input nodes used v && isBytes (nodeAt nodes v .letter)
+
 abbrev pub stringAt : (input nodes : List ℕ) → (used node : ℕ) → Bool
 stringAt input nodes used v = soundAt input nodes used v && isString (nodeAt nodes v .letter)
 

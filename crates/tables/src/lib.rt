@@ -7,14 +7,14 @@ ghost use lib.ListN.{length, getD};
 ghost use Rattle.refusals.specs.Limits.{mostBytes};
 ghost use Rattle.grammar.specs.Letters;
 ghost use Rattle.grammar.specs.State.{nodeAt, entryAt};
-ghost use Rattle.grammar.specs.Steps.{rules, whatever};
+ghost use Rattle.grammar.specs.Steps.{rules, whatever, asTuple, asNames};
 ghost use Rattle.grammar.specs.Record;
 ghost use Rattle.records.specs.Nodes.{nodeOf};
 ghost use Rattle.grammar.specs.Fields.{contents};
 ghost use Rattle.localsplus.specs.Kind;
 ghost use Rattle.writing.specs.Names.{contentsOf, sameBytes, namedIn};
 ghost use Rattle.tables.specs.Groups.{localsIn, inGroup, Listed};
-ghost use Rattle.tables.specs.Looking.{lent, links, isSome, isNone, stringAt, Straight, Names, NamesFit, Parts, after, partOf, evenly, Looks};
+ghost use Rattle.tables.specs.Looking.{lent, links, isSome, isNone, bytesAt, stringAt, Straight, Names, NamesFit, Parts, after, partOf, evenly, Looks};
 
 // The bits of a kind.
 pub const LOCAL: u32 = 0x20;
@@ -174,6 +174,23 @@ fn string_at(s: &[u8], nodes: &[u32], used: u32, node: u32) -> bool
     records::text_sound(s, n)
 }
 
+// Whether a node is sound bytes.
+fn bytes_at(s: &[u8], nodes: &[u32], used: u32, node: u32) -> bool
+    ensures { λ r. ⌜ r ≡ bytesAt (now (s .entry)) (now (nodes .entry)) used node ⌝ }
+{
+    if records::nodes_in(nodes, used) <= node {
+        return false;
+    }
+    let n = records::node_at(nodes, node);
+    if !is_bytes(n.letter) {
+        return false;
+    }
+    if s.len() < n.place as usize + n.size as usize {
+        return false;
+    }
+    n.count == 0
+}
+
 // Whether so many children, linked from an entry on, are sound strings: those that go round are tested once.
 fn named(s: &[u8], nodes: &[u32], entries: &[u32], used: Used, first: u32, count: u32) -> bool
     requires { ⌜ length (now s) ≤ mostBytes ⌝ }
@@ -220,23 +237,41 @@ fn names_fit(s: &[u8], nodes: &[u32], entries: &[u32], used: Used, node: u32) ->
     named(s, nodes, entries, used, n.first, n.count)
 }
 
+// Whether a part of a code is a sound tuple.
+fn tuple_fits(s: &[u8], nodes: &[u32], entries: &[u32], used: Used, node: u32) -> bool
+    requires { ⌜ length (now s) ≤ mostBytes ⌝ }
+    ensures { λ r. ⌜ r ≡ isNone (Record.suited (lent (now (s .entry)) (now (nodes .entry)) (now (entries .entry)) used) asTuple node (Record.whole (lent (now (s .entry)) (now (nodes .entry)) (now (entries .entry)) used) node)) ⌝ }
+{
+    if !whole(s, nodes, entries, used, node) {
+        return false;
+    }
+    is_tuple(word_at(nodes, node as usize * 5))
+}
+
+// Whether a part of a code is a sound tuple of sound strings.
+fn list_fits(s: &[u8], nodes: &[u32], entries: &[u32], used: Used, node: u32) -> bool
+    requires { ⌜ length (now s) ≤ mostBytes ⌝ }
+    ensures { λ r. ⌜ r ≡ isNone (Record.suited (lent (now (s .entry)) (now (nodes .entry)) (now (entries .entry)) used) asNames node (Record.whole (lent (now (s .entry)) (now (nodes .entry)) (now (entries .entry)) used) node)) ⌝ }
+{
+    if !whole(s, nodes, entries, used, node) {
+        return false;
+    }
+    names_fit(s, nodes, entries, used, node)
+}
+
 // Whether a part of a code is what its rule asks.
 fn part_fits(s: &[u8], nodes: &[u32], entries: &[u32], used: Used, part: u32, node: u32) -> bool
     requires { ⌜ (length (now s) ≤ mostBytes) × (part < 10) ⌝ }
     ensures { λ r. ⌜ r ≡ isNone (Record.suited (lent (now (s .entry)) (now (nodes .entry)) (now (entries .entry)) used) (getD rules part whatever) node (Record.whole (lent (now (s .entry)) (now (nodes .entry)) (now (entries .entry)) used) node)) ⌝ }
 {
-    if !whole(s, nodes, entries, used, node) {
-        return false;
-    }
-    let letter = word_at(nodes, node as usize * 5);
     match part {
-        1 => is_tuple(letter),
-        2 => names_fit(s, nodes, entries, used, node),
-        3 => names_fit(s, nodes, entries, used, node),
-        5 => is_string(letter),
-        6 => is_string(letter),
-        7 => is_string(letter),
-        _ => is_bytes(letter),
+        1 => tuple_fits(s, nodes, entries, used, node),
+        2 => list_fits(s, nodes, entries, used, node),
+        3 => list_fits(s, nodes, entries, used, node),
+        5 => string_at(s, nodes, used.nodes, node),
+        6 => string_at(s, nodes, used.nodes, node),
+        7 => string_at(s, nodes, used.nodes, node),
+        _ => bytes_at(s, nodes, used.nodes, node),
     }
 }
 

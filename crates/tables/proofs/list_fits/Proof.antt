@@ -1,0 +1,32 @@
+-- The record and its chain, then the names. Assumes nothing.
+use Rattle.tables.proofs.Codes.{part-broken, names-part}
+use Rattle.tables.proofs.Chains.{none-is}
+use Rattle.tables.specs.Looking.{lent}
+use Rattle.grammar.specs.Steps.{asNames}
+use Rattle.grammar.specs.Record
+use borrow.Author.Tests.{not-true, not-false}
+use mathlib.Core.Path.{sym, _∙_}
+use borrow.Author.Needs.{needs}
+use Rattle.tables.proofs.list_fits.Statement.{statement}
+use Rattle.tables.proofs.list_fits.Tie as tie
+
+whole-requires : tie.Need-whole-requires
+whole-requires c κs = search needs
+
+returns : tie.Need-returns
+returns c =
+    let a = c .before .before .before .before .before .args in
+    let t = lent (a .s .now) (a .nodes .now) (a .entries .now) (a .used) in
+    part-broken t asNames (a .node) (none-is (Record.whole t (a .node)) (sym (not-true _ (c .if1 .taken)) ∙ c .before .whole .ensures))
+
+names-fit-requires : tie.Need-names-fit-requires
+names-fit-requires c κs = search needs
+
+returns-2 : tie.Need-returns-2
+returns-2 c =
+    let a = c .before .before .before .before .before .before .args in
+    let t = lent (a .s .now) (a .nodes .now) (a .entries .now) (a .used) in
+    names-part t (a .node) (c .names-fit .ensures) (sym (not-false _ (c .before .if1 .left)) ∙ c .before .before .whole .ensures)
+
+pub list-fits-spec : {M : Type 1} → statement M
+list-fits-spec = tie.close (tie.spec whole-requires returns names-fit-requires returns-2)
