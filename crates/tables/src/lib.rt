@@ -249,7 +249,7 @@ fn tuple_fits(s: &[u8], nodes: &[u32], entries: &[u32], used: Used, node: u32) -
 }
 
 // Whether a part of a code is a sound tuple of sound strings.
-fn list_fits(s: &[u8], nodes: &[u32], entries: &[u32], used: Used, node: u32) -> bool
+fn whole_names_fit(s: &[u8], nodes: &[u32], entries: &[u32], used: Used, node: u32) -> bool
     requires { ⌜ length (now s) ≤ mostBytes ⌝ }
     ensures { λ r. ⌜ r ≡ isNone (Record.suited (lent (now (s .entry)) (now (nodes .entry)) (now (entries .entry)) used) asNames node (Record.whole (lent (now (s .entry)) (now (nodes .entry)) (now (entries .entry)) used) node)) ⌝ }
 {
@@ -266,8 +266,8 @@ fn part_fits(s: &[u8], nodes: &[u32], entries: &[u32], used: Used, part: u32, no
 {
     match part {
         1 => tuple_fits(s, nodes, entries, used, node),
-        2 => list_fits(s, nodes, entries, used, node),
-        3 => list_fits(s, nodes, entries, used, node),
+        2 => whole_names_fit(s, nodes, entries, used, node),
+        3 => whole_names_fit(s, nodes, entries, used, node),
         5 => string_at(s, nodes, used.nodes, node),
         6 => string_at(s, nodes, used.nodes, node),
         7 => string_at(s, nodes, used.nodes, node),

@@ -1,5 +1,5 @@
 -- The number, then the letter, then the span and the count. Assumes nothing.
-use Rattle.tables.proofs.Codes.{and-false, bytes-told}
+use Rattle.tables.proofs.Suited.{and-false, bytes-told}
 use Rattle.grammar.specs.State.{Node, nodeAt}
 use Rattle.grammar.specs.Record.{soundAt}
 use Rattle.grammar.specs.Letters.{isBytes}

@@ -1,5 +1,5 @@
 -- By the letter. Assumes nothing.
-use Rattle.tables.proofs.Codes.{not-among}
+use Rattle.tables.proofs.Suited.{not-among}
 use Rattle.grammar.specs.Letters.{isBytes}
 use mathlib.Core.List.{[], _∷_}
 use mathlib.Core.Path.{sym, ap}

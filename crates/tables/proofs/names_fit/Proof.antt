@@ -1,5 +1,5 @@
 -- The letter, then the children. Assumes nothing.
-use Rattle.tables.proofs.Codes.{no-tuple, a-tuple}
+use Rattle.tables.proofs.Suited.{no-tuple, a-tuple}
 use Rattle.tables.specs.Looking.{lent}
 use Rattle.grammar.specs.State.{Node}
 use borrow.Author.Tests.{not-true, not-false}

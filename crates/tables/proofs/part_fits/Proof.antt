@@ -1,5 +1,5 @@
 -- By the part's number. Assumes nothing.
-use Rattle.tables.proofs.Codes.{bytes-part, string-part, rule-else, by-rule}
+use Rattle.tables.proofs.Suited.{bytes-part, string-part, rule-else, by-rule}
 use Rattle.tables.specs.Looking.{lent}
 use Rattle.grammar.specs.Steps.{rules, whatever}
 use lib.ListN.{getD}
@@ -11,11 +11,11 @@ use Rattle.tables.proofs.part_fits.Tie as tie
 tuple-fits-requires : tie.Need-tuple-fits-requires
 tuple-fits-requires c κs = search needs
 
-list-fits-requires : tie.Need-list-fits-requires
-list-fits-requires c κs = search needs
+whole-names-fit-requires : tie.Need-whole-names-fit-requires
+whole-names-fit-requires c κs = search needs
 
-list-fits-requires-2 : tie.Need-list-fits-requires-2
-list-fits-requires-2 c κs = search needs
+whole-names-fit-requires-2 : tie.Need-whole-names-fit-requires-2
+whole-names-fit-requires-2 c κs = search needs
 
 string-at-requires : tie.Need-string-at-requires
 string-at-requires c κs = search needs
@@ -41,14 +41,14 @@ unfolding rules
 returns-2 c =
     let a = c .before .before .before .before .before .args in
     let t = lent (a .s .now) (a .nodes .now) (a .entries .now) (a .used) in
-    c .list-fits .ensures ∙ by-rule t (a .node) (ap (λ p. getD rules p whatever) (c .before .match .keys2))
+    c .whole-names-fit .ensures ∙ by-rule t (a .node) (ap (λ p. getD rules p whatever) (c .before .match .keys2))
 
 returns-3 : tie.Need-returns-3
 unfolding rules
 returns-3 c =
     let a = c .before .before .before .before .before .args in
     let t = lent (a .s .now) (a .nodes .now) (a .entries .now) (a .used) in
-    c .list-fits2 .ensures ∙ by-rule t (a .node) (ap (λ p. getD rules p whatever) (c .before .match .keys3))
+    c .whole-names-fit2 .ensures ∙ by-rule t (a .node) (ap (λ p. getD rules p whatever) (c .before .match .keys3))
 
 returns-4 : tie.Need-returns-4
 unfolding rules
@@ -84,8 +84,8 @@ part-fits-spec =
     tie.close
     (tie.spec
     tuple-fits-requires
-    list-fits-requires
-    list-fits-requires-2
+    whole-names-fit-requires
+    whole-names-fit-requires-2
     string-at-requires
     string-at-requires-2
     string-at-requires-3

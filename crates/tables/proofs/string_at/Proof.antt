@@ -1,5 +1,5 @@
 -- The number, then the letter, then the record test of a string. Assumes nothing.
-use Rattle.tables.proofs.Codes.{and-false, and-true}
+use Rattle.tables.proofs.Suited.{and-false, and-true}
 use Rattle.grammar.specs.State.{Node, nodeAt}
 use Rattle.grammar.specs.Record.{sound, soundAt}
 use Rattle.grammar.specs.Letters.{isString}

@@ -1,5 +1,5 @@
 -- The record and its chain, then the letter. Assumes nothing.
-use Rattle.tables.proofs.Codes.{part-broken, tuple-part}
+use Rattle.tables.proofs.Suited.{part-broken, tuple-part}
 use Rattle.tables.proofs.Chains.{some-is, none-is}
 use Rattle.tables.specs.Looking.{lent}
 use Rattle.grammar.specs.Steps.{asTuple}

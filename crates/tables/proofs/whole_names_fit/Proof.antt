@@ -1,5 +1,5 @@
 -- The record and its chain, then the names. Assumes nothing.
-use Rattle.tables.proofs.Codes.{part-broken, names-part}
+use Rattle.tables.proofs.Suited.{part-broken, names-part}
 use Rattle.tables.proofs.Chains.{none-is}
 use Rattle.tables.specs.Looking.{lent}
 use Rattle.grammar.specs.Steps.{asNames}
@@ -7,8 +7,8 @@ use Rattle.grammar.specs.Record
 use borrow.Author.Tests.{not-true, not-false}
 use mathlib.Core.Path.{sym, _∙_}
 use borrow.Author.Needs.{needs}
-use Rattle.tables.proofs.list_fits.Statement.{statement}
-use Rattle.tables.proofs.list_fits.Tie as tie
+use Rattle.tables.proofs.whole_names_fit.Statement.{statement}
+use Rattle.tables.proofs.whole_names_fit.Tie as tie
 
 whole-requires : tie.Need-whole-requires
 whole-requires c κs = search needs
@@ -28,5 +28,5 @@ returns-2 c =
     let t = lent (a .s .now) (a .nodes .now) (a .entries .now) (a .used) in
     names-part t (a .node) (c .names-fit .ensures) (sym (not-false _ (c .before .if1 .left)) ∙ c .before .before .whole .ensures)
 
-pub list-fits-spec : {M : Type 1} → statement M
-list-fits-spec = tie.close (tie.spec whole-requires returns names-fit-requires returns-2)
+pub whole-names-fit-spec : {M : Type 1} → statement M
+whole-names-fit-spec = tie.close (tie.spec whole-requires returns names-fit-requires returns-2)
