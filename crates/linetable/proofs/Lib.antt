@@ -8,4 +8,3 @@ pub mod Whole
 pub mod Layer
 pub mod Relent
 pub mod Sheet
-pub mod OneAnswer
