@@ -4,7 +4,10 @@ use mathlib.Core.Path.{_≡_, refl, sym, ap, _∙_}
 use Prim.Native.Nat.{ℕ, zero, suc, max}
 use native.Mathlib.Omega.{arith}
 use mathlib.Core.Bool.{true}
-use mathlib.Core.List.{List}
+use mathlib.Core.List.{List, []}
+use lib.ListN.{length, length-replicate}
+use denote.Ref.{RefT}
+use Rattle.lent.specs.Lent.{zeros}
 use Rattle.grammar.specs.Input.{Bytes}
 use Rattle.grammar.specs.Reading.{Answer, gives, stops}
 use Rattle.grammar.specs.Answer.{Counts, countsOf, readOf}
@@ -21,10 +24,13 @@ use Rattle.meaning.specs.Round.{IsRead, countsFor}
 use Rattle.meaning.proofs.Octets.{octets, below-at}
 use Rattle.meaning.proofs.TheoremA.{answer-gives}
 use Rattle.meaning.proofs.RoundTrip.{reads-whole}
-use Rattle.promises.specs.Calls.{Reader, Writer}
+use Rattle.reader.specs.Delivered.{answerOf}
+use Rattle.sillgarland.specs.Values.{readStruct}
+use Rattle.promises.specs.Calls.{Reader, Writer, deserializeValue, sillRead}
 use Rattle.promises.specs.Demand2.{ReadFits, Demand2}
 use Rattle.promises.specs.Demand3.{Demand3}
 use Rattle.promises.specs.Substance.{CallWith, Callable, RefusesAll, Constant, MadeUp, tuple, Invents, ReadsChildren, ShutOut}
+use Rattle.promises.proofs.Reader.{outcomeFrom}
 use Rattle.promises.proofs.Reading.{Exactly}
 use Rattle.promises.proofs.Demand3.{exactly-so}
 
@@ -143,4 +149,52 @@ shut-out =
       made-up-counts = made-up-counts-are-out;
       children-read = children-are-read;
       inventing-the-rest = inventing-is-out;
+    }
+
+-- Both readers can be called: each contract is met by the definition's own answer.
+abbrev lentAs : List ℕ → RefT (List ℕ)
+lentAs xs = record { ptr = (0, 0); name = 0; now = xs }
+
+pub deserialize-callable : Callable deserializeValue
+deserialize-callable s bytes small nodes entries slots nesting ln le ls lg =
+    let o = readOf s (length (zeros nodes)) (length (zeros entries)) (length (zeros slots)) nesting in
+    record {
+      call =
+          record {
+            κs = ([], ([], ([], ([], tt))));
+            args = (lentAs s, (lentAs (zeros nodes), (lentAs (zeros entries), (lentAs (zeros slots), (nesting, tt)))));
+            meant = tt;
+            result = outcomeFrom (o .answer);
+            last = (tt, (o .nodes, (o .entries, (o .slots, (tt, tt)))));
+            meets = record { answer = told (o .answer); nodes = refl; entries = refl; slots = refl };
+          };
+      input = refl;
+      nodes-lent = length-replicate nodes 0;
+      entries-lent = length-replicate entries 0;
+      slots-lent = length-replicate slots 0;
+      allowed = refl;
+    }
+  where
+    told : (a : Answer Counts) → answerOf (outcomeFrom a) ≡ a
+    told (gives counts) = refl
+    told (stops number place) = refl
+
+pub sill-read-callable : Callable sillRead
+sill-read-callable s bytes small nodes entries slots nesting ln le ls lg =
+    let o = readOf s (length (zeros nodes)) (length (zeros entries)) (length (zeros slots)) nesting in
+    record {
+      call =
+          record {
+            κs = ([], ([], ([], ([], tt))));
+            args = (lentAs s, (lentAs (zeros nodes), (lentAs (zeros entries), (lentAs (zeros slots), (nesting, tt)))));
+            meant = tt;
+            result = readStruct (o .answer);
+            last = (tt, (o .nodes, (o .entries, (o .slots, (tt, tt)))));
+            meets = record { numbers = refl; holds-nodes = refl; holds-entries = refl; holds-slots = refl };
+          };
+      input = refl;
+      nodes-lent = length-replicate nodes 0;
+      entries-lent = length-replicate entries 0;
+      slots-lent = length-replicate slots 0;
+      allowed = refl;
     }
