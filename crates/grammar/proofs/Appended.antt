@@ -9,12 +9,13 @@ use lib.ListN.{length, drop, length-append, List·getD-append}
 use lib.Seq.{take-append-le}
 use lib.Dec.{leb}
 use Rattle.refusals.specs.Limits.{mostBytes}
-use Rattle.grammar.specs.Reading.{Reading, done, refused, claim, Answer, stops}
+use Rattle.grammar.specs.Reading.{Reading, done, refused, claim, stops}
 use Rattle.grammar.specs.Room.{Rooms, roomFor, numberOf, run}
 use Rattle.grammar.specs.State.{State, start}
 use Rattle.grammar.specs.Steps.{value}
 use Rattle.grammar.specs.Answer.{plain, roomsOf, reading, outcomeOf, readOf}
-use Rattle.grammar.proofs.Extension.{cut, uncut, even, Ext, Front-of, On, value-ext}
+use Rattle.grammar.specs.Counted.{Uncut}
+use Rattle.grammar.proofs.Extension.{uncut, even, Ext, Front-of, On, value-ext}
 use Rattle.grammar.proofs.Exactness.{within-room}
 
 appended : (s t : List ℕ) → Front-of s (s ++ t)
@@ -27,10 +28,6 @@ appended s t =
 
 itself : (s : List ℕ) → Front-of s s
 itself s = record { longer = omega arith; byte = λ i h. refl; part = λ i n h. refl }
-
--- An answer that is neither 1 nor 2.
-abbrev pub Uncut : {A : Type 0} → Answer A → Type 0
-Uncut a = (number place : ℕ) → a ≡ stops number place → cut number ≡ false
 
 run-ext : {A : Type 0} (E : Type 0) (P : A → Type 0) (R : Rooms) (m m′ : Reading A) → Ext E P m m′ → Uncut (run R m) → run R m′ ≡ run R m
 unfolding run

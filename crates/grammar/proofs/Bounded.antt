@@ -1,5 +1,5 @@
 -- What the answer says is bounded by the input, and what the stores name is there: consequences of Keeping for the whole reading.
--- Assumes that the input is bytes, 16 MiB of them at most.
+-- Assumes an input of 16 MiB at most.
 use mathlib.Core.Path.{_≡_, refl, sym, ap, _∙_}
 use Prim.Native.Nat.{ℕ, _≤_, _<_, max}
 use native.Mathlib.Omega.{arith}
@@ -13,21 +13,18 @@ use Rattle.grammar.specs.Letters.{among}
 use Rattle.grammar.specs.Room.{Rooms, roomFor, numberOf, run, plainly, Claim, same, most}
 use Rattle.grammar.specs.State.{State, start, unlinked, blank}
 use Rattle.grammar.specs.Answer.{plain}
-use Rattle.grammar.proofs.Fitting.{exact-where-all-fit, most-fits, Over, Fitted, all, some-over, fitted, refused-where-one-is-over, fits-unless-of-room, gives-not-of-room}
-use Rattle.grammar.proofs.Exactness.{needed, claimsOf}
+use Rattle.grammar.specs.Counted.{claimsOf, needed, Over}
+use Rattle.grammar.proofs.Fitting.{exact-where-all-fit, most-fits, Fitted, all, some-over, fitted, refused-where-one-is-over, fits-unless-of-room, gives-not-of-room}
 use Rattle.grammar.proofs.Following.{Need, Follows, follows-gives, follows-stops, AllAt, follows-claims}
 use Rattle.grammar.proofs.Links.{UsedOrNone, linked-first}
 use Rattle.grammar.proofs.Standing.{Holds, EntryIn, Finished, Valued}
 use Rattle.grammar.proofs.Fielding.{ofInput, Own}
 use Rattle.grammar.proofs.Keeping.{value-keeps}
 
--- the input is bytes
-abbrev pub Bytes : List ℕ → Type 0
-Bytes s = (i : ℕ) → getD s i 0 < 256
-
 -- An accepted reading. Consumed is at most the length; there are no more nodes, entries or slots than bytes consumed, and as many as were
--- claimed; every entry names a node and an entry that there is, or no entry; every node is finished: its children are as many as it
--- says, linked in the order in which they were read, and its record passes the record test.
+-- claimed; every entry names a node and an entry that there is, or no entry; every node is finished: as many children as it says are linked
+-- from its first entry on, and its record passes the record test, if the input is bytes. Which nodes the children are is not said here, but by
+-- what the stores mean (`meaning`).
 pub record Accepted (s : List ℕ) (r : ℕ × State) : Type 0 where
   pub consumed : r .1 .at ≤ length s
   pub some-consumed : 0 < r .1 .at
@@ -50,7 +47,7 @@ first-used-or-none {s} {r} a n l =
 abbrev none-claimed : Need
 none-claimed = record { levels = 0; nodes = 0; entries = 0; slots = 0 }
 
-module _ (s : List ℕ) (small : length s ≤ mostBytes) (bytes : Bytes s) where
+module _ (s : List ℕ) (small : length s ≤ mostBytes) where
   abbrev Q : ℕ → ℕ → Type 0
   Q n p = Own s n p
 
@@ -73,7 +70,7 @@ module _ (s : List ℕ) (small : length s ≤ mostBytes) (bytes : Bytes s) where
 
   follows : Follows Q C (Valued s start) none-claimed (plain s)
   unfolding plain
-  follows = value-keeps s small bytes (length s) 0 none-claimed start at-start
+  follows = value-keeps s small (length s) 0 none-claimed start at-start
 
   -- the plain reading, accepted
   pub accepted : (r : ℕ × State) → plainly (plain s) ≡ gives r → Accepted s r
@@ -146,11 +143,11 @@ deep-is-none-of-input n e q =
     let z : _≡_ {A = ℕ} 0 1 = cc in
     omega arith
 
-pub enough-levels : (s : List ℕ) → length s ≤ mostBytes → Bytes s → (R : Rooms) → needed s level ≤ R .levels → (p : ℕ) → run R (plain s) ≡ stops tooDeep p → ⊥
-enough-levels s small bytes R l p e = go (fitted R (claimsOf s))
+pub enough-levels : (s : List ℕ) → length s ≤ mostBytes → (R : Rooms) → needed s level ≤ R .levels → (p : ℕ) → run R (plain s) ≡ stops tooDeep p → ⊥
+enough-levels s small R l p e = go (fitted R (claimsOf s))
   where
     go : Fitted R (claimsOf s) → ⊥
-    go (all h) = deep-is-none-of-input tooDeep refl (refused-in s small bytes tooDeep p (sym (exact-where-all-fit R (plain s) h) ∙ e) .0)
+    go (all h) = deep-is-none-of-input tooDeep refl (refused-in s small tooDeep p (sym (exact-where-all-fit R (plain s) h) ∙ e) .0)
     go (some-over o) =
         let q = sym (refused-where-one-is-over R (plain s) o) ∙ e in
         let z : numberOf (o .first .kind) ≡ tooDeep = cc in

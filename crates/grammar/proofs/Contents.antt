@@ -1,5 +1,5 @@
 -- What the three stores hold after an accepted reading: the records fit, and more room only adds zeros at the end.
--- Assumes that the input is bytes.
+-- Assumes nothing.
 use mathlib.Core.Path.{_≡_, refl, sym, ap, _∙_}
 use Prim.Native.Nat.{ℕ, _+_, _-_, _*_, _≤_}
 use native.Mathlib.Omega.{arith}
@@ -14,10 +14,11 @@ use Rattle.lent.specs.Lent.{zeros, padded}
 use Rattle.grammar.specs.Reading.{node, entry, slot, Answer, gives, stops}
 use Rattle.grammar.specs.Room.{run}
 use Rattle.grammar.specs.State.{Node, Entry, State, nodeWidth, entryWidth, nodeCells, entryCells}
-use Rattle.grammar.specs.Answer.{plain, roomsOf, reading, Outcome, outcomeOf, readOf}
-use Rattle.grammar.proofs.Fitting.{most-fits, fits-unless-of-room, gives-not-of-room, NotOfRoom}
-use Rattle.grammar.proofs.Exactness.{claimsOf, Larger, more-room-same-answer}
-use Rattle.grammar.proofs.Bounded.{Bytes, Accepted, accepted-within}
+use Rattle.grammar.specs.Answer.{plain, roomsOf, reading, outcomeOf, readOf}
+use Rattle.grammar.specs.Counted.{claimsOf, NotOfRoom, Larger, Widened}
+use Rattle.grammar.proofs.Fitting.{most-fits, fits-unless-of-room, gives-not-of-room}
+use Rattle.grammar.proofs.Exactness.{more-room-same-answer}
+use Rattle.grammar.proofs.Bounded.{Accepted, accepted-within}
 
 -- one record, so many numbers
 pub length-nodeCells : (ns : List Node) → length (nodeCells ns) ≡ length ns * nodeWidth
@@ -45,15 +46,15 @@ pub record Fits (nodes entries slots : ℕ) (st : State) : Type 0 where
   pub in-entries : length (entryCells (st .entries)) ≤ entries
   pub in-slots : length (st .slots) ≤ slots
 
-pub accepted-reading : (s : List ℕ) → Bytes s → (nodes entries slots nesting : ℕ) (r : ℕ × State) → reading s nodes entries slots nesting ≡ gives r → Accepted s r
-accepted-reading s bytes nodes entries slots nesting r e =
+pub accepted-reading : (s : List ℕ) (nodes entries slots nesting : ℕ) (r : ℕ × State) → reading s nodes entries slots nesting ≡ gives r → Accepted s r
+accepted-reading s nodes entries slots nesting r e =
     let w = gives-within s nodes entries slots nesting r e in
-    accepted-within s (w .0) bytes (roomsOf nodes entries slots nesting) r (w .1)
+    accepted-within s (w .0) (roomsOf nodes entries slots nesting) r (w .1)
 
-pub records-fit : (s : List ℕ) → Bytes s → (nodes entries slots nesting : ℕ) (r : ℕ × State) → reading s nodes entries slots nesting ≡ gives r → Fits nodes entries slots (r .1)
-records-fit s bytes nodes entries slots nesting r e =
+pub records-fit : (s : List ℕ) (nodes entries slots nesting : ℕ) (r : ℕ × State) → reading s nodes entries slots nesting ≡ gives r → Fits nodes entries slots (r .1)
+records-fit s nodes entries slots nesting r e =
     let w = gives-within s nodes entries slots nesting r e in
-    let a = accepted-reading s bytes nodes entries slots nesting r e in
+    let a = accepted-reading s nodes entries slots nesting r e in
     let fits = fits-unless-of-room (roomsOf nodes entries slots nesting) (plain s) (λ n p q. gives-not-of-room r n p (sym (w .1) ∙ q)) in
     let m = most-fits (roomsOf nodes entries slots nesting) (claimsOf s) fits in
     record {
@@ -75,20 +76,14 @@ padded-more : (n n′ : ℕ) (xs : List ℕ) → length xs ≤ n → n ≤ n′ 
 unfolding padded
 padded-more n n′ xs h l = add-zeros xs (n - length xs) (n′ - n) (n′ - length xs) (omega arith)
 
-pub record Widened (nodes entries slots nodes′ entries′ slots′ : ℕ) (o o′ : Outcome) : Type 0 where
-  pub same-answer : o′ .answer ≡ o .answer
-  pub node-store : o′ .nodes ≡ o .nodes ++ zeros (nodes′ - nodes)
-  pub entry-store : o′ .entries ≡ o .entries ++ zeros (entries′ - entries)
-  pub slot-store : o′ .slots ≡ o .slots ++ zeros (slots′ - slots)
-
 -- More room changes no answer that is no refusal for want of room, and nothing in the stores but that zeros are added at the end.
-pub more-room-same-stores : (s : List ℕ) → Bytes s → (nodes entries slots nesting nodes′ entries′ slots′ nesting′ : ℕ)
+pub more-room-same-stores : (s : List ℕ) (nodes entries slots nesting nodes′ entries′ slots′ nesting′ : ℕ)
     → Larger nodes entries slots nesting nodes′ entries′ slots′ nesting′ → NotOfRoom (reading s nodes entries slots nesting)
     → Widened nodes entries slots nodes′ entries′ slots′ (readOf s nodes entries slots nesting) (readOf s nodes′ entries′ slots′ nesting′)
 unfolding readOf
-more-room-same-stores s bytes nodes entries slots nesting nodes′ entries′ slots′ nesting′ l other =
+more-room-same-stores s nodes entries slots nesting nodes′ entries′ slots′ nesting′ l other =
     rw (more-room-same-answer s nodes entries slots nesting nodes′ entries′ slots′ nesting′ l other)
-    (go (reading s nodes entries slots nesting) (λ r e. records-fit s bytes nodes entries slots nesting r e))
+    (go (reading s nodes entries slots nesting) (λ r e. records-fit s nodes entries slots nesting r e))
   where
     go : (a : Answer (ℕ × State)) → ((r : ℕ × State) → a ≡ gives r → Fits nodes entries slots (r .1))
         → Widened nodes entries slots nodes′ entries′ slots′ (outcomeOf nodes entries slots a) (outcomeOf nodes′ entries′ slots′ a)

@@ -1,26 +1,20 @@
 -- Demand 3 over the whole reading: exact where the four counts fit, the first claim's refusal where one does not; more room changes no other
--- answer, and no number of the stores but for the zeros at their end; one answer to each input. The laws of Fitting carry it. Assumes nothing.
-use mathlib.Core.Path.{_≡_, refl, sym, _∙_}
+-- answer. The laws of Fitting carry it. Assumes nothing.
+use mathlib.Core.Path.{_≡_, refl, _∙_}
 use Prim.Native.Nat.{ℕ, _≤_, _<_}
 use native.Mathlib.Omega.{arith}
 use mathlib.Core.Bool.{Bool, true, false, cond}
-use mathlib.Core.List.{List}
+use mathlib.Core.List.{List, [], _∷_, _++_}
 use lib.ListN.{length}
 use lib.Dec.{ltb}
 use borrow.Author.Tests.{le-ltb, lt-ltb}
 use Rattle.refusals.specs.Numbers.{inputTooLong}
 use Rattle.refusals.specs.Limits.{mostBytes}
 use Rattle.grammar.specs.Reading.{Kind, level, node, entry, slot, stops}
-use Rattle.grammar.specs.Room.{roomFor, numberOf, run, plainly, Claim, claims, most}
-use Rattle.grammar.specs.Answer.{plain, roomsOf, reading, Outcome, readOf}
-use Rattle.grammar.proofs.Fitting.{exact-where-all-fit, all-fit, Over, Fitted, fitted, refused-where-one-is-over, NotOfRoom, more-room}
-
--- How much of a kind the plain reading of an input needs, counted to where it stops.
-abbrev pub needed : List ℕ → Kind → ℕ
-needed s k = most k (claims (plain s))
-
-abbrev pub claimsOf : List ℕ → List Claim
-claimsOf s = claims (plain s)
+use Rattle.grammar.specs.Room.{Rooms, roomFor, numberOf, run, plainly, Claim, most, AllFit}
+use Rattle.grammar.specs.Answer.{plain, roomsOf, reading}
+use Rattle.grammar.specs.Counted.{claimsOf, AllFour, Over, NotOfRoom, Larger}
+use Rattle.grammar.proofs.Fitting.{exact-where-all-fit, all-fit, most-fits, Fitted, all, some-over, fitted, refused-where-one-is-over, fits-unless-of-room, more-room}
 
 -- "InputTooLong, tested before all"
 pub too-long : (s : List ℕ) (nodes entries slots nesting : ℕ) → mostBytes < length s → reading s nodes entries slots nesting ≡ stops inputTooLong 0
@@ -34,7 +28,7 @@ within-room s nodes entries slots nesting h = rw (le-ltb mostBytes (length s) h)
 
 -- Where nesting, nodes, entries and slots all fit, the answer is the plain one, refusals and places included.
 pub exact-where-it-fits : (s : List ℕ) (nodes entries slots nesting : ℕ) → length s ≤ mostBytes
-    → ((k : Kind) → needed s k ≤ roomFor (roomsOf nodes entries slots nesting) k) → reading s nodes entries slots nesting ≡ plainly (plain s)
+    → AllFour s (roomsOf nodes entries slots nesting) → reading s nodes entries slots nesting ≡ plainly (plain s)
 exact-where-it-fits s nodes entries slots nesting h fits =
     within-room s nodes entries slots nesting h
     ∙ exact-where-all-fit (roomsOf nodes entries slots nesting) (plain s) (all-fit (roomsOf nodes entries slots nesting) (claimsOf s) fits)
@@ -45,16 +39,38 @@ pub first-over-refuses : (s : List ℕ) (nodes entries slots nesting : ℕ) → 
 first-over-refuses s nodes entries slots nesting h o =
     within-room s nodes entries slots nesting h ∙ refused-where-one-is-over (roomsOf nodes entries slots nesting) (plain s) o
 
--- One of the two is so.
-pub fits-or-over : (s : List ℕ) (nodes entries slots nesting : ℕ) → Fitted (roomsOf nodes entries slots nesting) (claimsOf s)
-fits-or-over s nodes entries slots nesting = fitted (roomsOf nodes entries slots nesting) (claimsOf s)
+-- One of the two is so and not the other: all four counts fit, or some claim is over, and then they do not.
+over-not-four : (R : Rooms) (before rest : List Claim) (c : Claim) → ((k : Kind) → most k (before ++ c ∷ rest) ≤ roomFor R k) → c .need ≤ roomFor R (c .kind)
+unfolding AllFit most
+over-not-four R [] rest c four = all-fit R (c ∷ rest) four .0
+over-not-four R (b ∷ bs) rest c four = over-not-four R bs rest c (λ k. below k (four k))
+  where
+    below : (k : Kind) → most k (b ∷ bs ++ c ∷ rest) ≤ roomFor R k → most k (bs ++ c ∷ rest) ≤ roomFor R k
+    below k h = omega arith
 
--- stores and nesting at least as large
-pub record Larger (nodes entries slots nesting nodes′ entries′ slots′ nesting′ : ℕ) : Type 0 where
-  pub more-nodes : nodes ≤ nodes′
-  pub more-entries : entries ≤ entries′
-  pub more-slots : slots ≤ slots′
-  pub more-nesting : nesting ≤ nesting′
+pub not-both : (s : List ℕ) (R : Rooms) → AllFour s R → Over R (claimsOf s) → ⊥
+not-both s R four o =
+    let e : claimsOf s ≡ o .before ++ o .first ∷ o .rest = o .order in
+    let fits = over-not-four R (o .before) (o .rest) (o .first) (λ k. rw e at (four k)) in
+    omega (arith, fits, o .over)
+
+pub data FourOrOver (s : List ℕ) (R : Rooms) : Type 0 where
+  four : AllFour s R → FourOrOver s R
+  short : (AllFour s R → ⊥) → Over R (claimsOf s) → FourOrOver s R
+
+pub four-or-over : (s : List ℕ) (R : Rooms) → FourOrOver s R
+four-or-over s R = go (fitted R (claimsOf s))
+  where
+    go : Fitted R (claimsOf s) → FourOrOver s R
+    go (all h) = four (most-fits R (claimsOf s) h)
+    go (some-over o) = short (λ f. not-both s R f o) o
+
+-- Wherever an answer is given that is no refusal for want of room, all four counts fit: so wherever an input is accepted.
+pub four-unless-of-room : (s : List ℕ) (nodes entries slots nesting : ℕ) → length s ≤ mostBytes → NotOfRoom (reading s nodes entries slots nesting)
+    → AllFour s (roomsOf nodes entries slots nesting)
+four-unless-of-room s nodes entries slots nesting h other =
+    let R = roomsOf nodes entries slots nesting in
+    most-fits R (claimsOf s) (fits-unless-of-room R (plain s) (λ n p e. other n p (within-room s nodes entries slots nesting h ∙ e)))
 
 larger-rooms : {nodes entries slots nesting nodes′ entries′ slots′ nesting′ : ℕ} → Larger nodes entries slots nesting nodes′ entries′ slots′ nesting′
     → (k : Kind) → roomFor (roomsOf nodes entries slots nesting) k ≤ roomFor (roomsOf nodes′ entries′ slots′ nesting′) k
@@ -75,8 +91,3 @@ more-room-same-answer s nodes entries slots nesting nodes′ entries′ slots′
         → cond b (stops inputTooLong 0) (run (roomsOf nodes′ entries′ slots′ nesting′) (plain s)) ≡ cond b (stops inputTooLong 0) (run (roomsOf nodes entries slots nesting) (plain s))
     go true other = refl
     go false other = more-room (roomsOf nodes entries slots nesting) (roomsOf nodes′ entries′ slots′ nesting′) (plain s) (larger-rooms l) other
-
--- Determinism: any two outcomes that are what the definition says are the same, the contents of the three stores included.
-pub one-answer : (s : List ℕ) (nodes entries slots nesting : ℕ) (a b : Outcome)
-    → a ≡ readOf s nodes entries slots nesting → b ≡ readOf s nodes entries slots nesting → a ≡ b
-one-answer s nodes entries slots nesting a b p q = p ∙ sym q

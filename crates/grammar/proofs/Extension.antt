@@ -16,13 +16,10 @@ use Rattle.grammar.specs.Letters.{Form, Sort, Class, refers, keeps, cont
 use Rattle.grammar.specs.Fields.{Fields, Children, items, pairs, parts, le16, le32, notNegative, contents, field, size32, string, digitCount, digits, lastDigit, pylong, numbers, codeNumbers, fields, contained, codeFields}
 use Rattle.grammar.specs.State.{State}
 use Rattle.grammar.specs.Steps.{Front, known, opens, stored, reference, reserving, opened, header, front, Chain, fresh, attach, Rule, whatever, suits, Reader, child, kids, keyOr, couples, codeParts, rules, linePart, lined, firstLine, partsFrom, faultOf, ended, body, enter, close, after, one, value}
+use Rattle.grammar.specs.Counted.{cut}
 use Rattle.grammar.proofs.Unrolling.{value-unroll, couples-unroll}
 
--- refusals 1 and 2: there were not bytes enough
-abbrev pub cut : ℕ → Bool
-cut n = cond (eqb n eofObject) true (eqb n dataTooShort)
-
--- A refusal stays if it is not one of those, or if nothing was appended.
+-- A refusal stays if it is neither 1 nor 2, or if nothing was appended.
 pub data Stays (nothingMore : Type 0) (n : ℕ) : Type 0 where
   uncut : cut n ≡ false → Stays nothingMore n
   even : nothingMore → Stays nothingMore n

@@ -1,5 +1,6 @@
 -- The fields of a node: what they give lies in the input, what they refuse is a refusal of the input's at a place of it, and the record of
--- a node with these fields, once its children are read, passes the record test. Assumes that the input is bytes.
+-- a node with these fields, once its children are read, passes the record test. That test alone assumes that the input is bytes: a string with
+-- a one-byte length is at most 255 bytes long.
 use mathlib.Core.Path.{_≡_, refl, ap, _∙_}
 use Prim.Native.Nat.{ℕ, zero, suc, _+_, _-_, _*_, _%_, _≤_, _<_}
 use native.Mathlib.Omega.{arith}
@@ -10,6 +11,7 @@ use lib.Dec.{leb, ltb, eqb}
 use borrow.Author.Tests.{leb-true, le-leb, lt-ltb, eq-eqb}
 use Rattle.refusals.specs.Numbers.{eofObject, dataTooShort, unknownType, nullObject, invalidRef, badSize, badType, invalidBytecode, invalidUtf8, notCarried, numberRange}
 use Rattle.wtf8.specs.Forms.{wellFormed}
+use Rattle.grammar.specs.Input.{Bytes}
 use Rattle.grammar.specs.Reading.{Answer, gives, stops}
 use Rattle.grammar.specs.Letters as letter
 use Rattle.grammar.specs.Letters.{Form, Sort, Class, refers, keeps, contains, codes, refuses, classOf, letters, found, among}
@@ -46,7 +48,7 @@ pub record SaidContents (s : List ℕ) (sort : Sort) (at : ℕ) (f : Fields) : T
   pub ahead : at ≤ f .place
   pub within : f .place + f .size ≤ length s
   pub children : f .children ≡ items 0
-  pub good : (n : Node) → n .place ≡ f .place → n .size ≡ f .size → containing s n sort ≡ true
+  pub good : Bytes s → (n : Node) → n .place ≡ f .place → n .size ≡ f .size → containing s n sort ≡ true
 
 pub record SaidCode (s : List ℕ) (at : ℕ) (f : Fields) : Type 0 where
   pub is : f ≡ record { place = at; size = codeNumbers; children = parts }
@@ -131,19 +133,19 @@ module _ (s : List ℕ) where
   unfolding codeFields
   codeFields-in at l = numbers-in (SaidCode s at) 5 at _ l (λ q. record { is = refl; within = q })
 
-  pub contained-in : ((i : ℕ) → getD s i 0 < 256) → (sort : Sort) (at : ℕ) → at ≤ length s → FollowsA Q (SaidContents s sort at) (contained s sort at)
+  pub contained-in : (sort : Sort) (at : ℕ) → at ≤ length s → FollowsA Q (SaidContents s sort at) (contained s sort at)
   unfolding contained
-  contained-in bytes letter.bytes at l =
+  contained-in letter.bytes at l =
       size32-in (SaidContents s letter.bytes at) at _ l
-      (λ q. field-in (SaidContents s letter.bytes at) (at + 4) (le32 s at) _ q (λ w. record { ahead = omega arith; within = w; children = refl; good = λ n p z. refl }))
-  contained-in bytes letter.text at l =
+      (λ q. field-in (SaidContents s letter.bytes at) (at + 4) (le32 s at) _ q (λ w. record { ahead = omega arith; within = w; children = refl; good = λ bytes n p z. refl }))
+  contained-in letter.text at l =
       size32-in (SaidContents s letter.text at) at _ l
       (λ q. string-in (SaidContents s letter.text at) (at + 4) (le32 s at) _ q
-      (λ w e. record { ahead = omega arith; within = w; children = refl; good = λ n p z. rw (p, z) e }))
-  contained-in bytes letter.short at l =
+      (λ w e. record { ahead = omega arith; within = w; children = refl; good = λ bytes n p z. rw (p, z) e }))
+  contained-in letter.short at l =
       field-in (SaidContents s letter.short at) at 1 _ l
       (λ q. string-in (SaidContents s letter.short at) (at + 1) (getD s at 0) _ q
-      (λ w e. record { ahead = omega arith; within = w; children = refl; good = λ n p z. rw (p, z, le-leb (getD s at 0) 255 (omega (arith, bytes at))) e }))
+      (λ w e. record { ahead = omega arith; within = w; children = refl; good = λ bytes n p z. rw (p, z, le-leb (getD s at 0) 255 (omega (arith, bytes at))) e }))
 
 -- The record of a node whose children are read.
 pub record FilledCode (s : List ℕ) (at : ℕ) (c : Chain) : Type 0 where
@@ -174,20 +176,20 @@ filled-counted s at parts c h e = absurd h
 reads-as : (r : Answer Fields) (f : Fields) (n : Node) → r ≡ gives f → n .size ≡ f .size → counted (f .children) (n .count) ≡ true → readsAs r n ≡ true
 reads-as r f n e z k = rw e (both (eqb (n .size) (f .size)) (counted (f .children) (n .count)) (eq-eqb (n .size) (f .size) z) k)
 
-ruled-sound : (s : List ℕ) (l at : ℕ) (f : Fields) (c : Chain) (cl : Class) → Said s cl at f → Filled s at (f .children) c
+ruled-sound : (s : List ℕ) → Bytes s → (l at : ℕ) (f : Fields) (c : Chain) (cl : Class) → Said s cl at f → Filled s at (f .children) c
     → (closing l f c .place + closing l f c .size ≤ length s) × (ruled s (closing l f c) cl ≡ true)
-ruled-sound s l at f c refers said filled = absurd said
-ruled-sound s l at f c (refuses n) said filled = absurd said
-ruled-sound s l at f c (keeps form) said filled =
+ruled-sound s bytes l at f c refers said filled = absurd said
+ruled-sound s bytes l at f c (refuses n) said filled = absurd said
+ruled-sound s bytes l at f c (keeps form) said filled =
     let z = plain-size (f .children) (f .place) (f .size) (c .line) (said .children) in
     (omega (arith, z, said .within), reads-as (fields s form (f .place)) f (closing l f c) (ap (fields s form) (said .place) ∙ said .told) z (filled-counted s at (f .children) c (said .children) filled))
-ruled-sound s l at f c (contains sort) said filled =
+ruled-sound s bytes l at f c (contains sort) said filled =
     let no-parts : NotParts (f .children) = rw (said .children) tt in
     let z = plain-size (f .children) (f .place) (f .size) (c .line) no-parts in (
       omega (arith, z, said .within),
-      both (eqb (length (c .kids)) 0) (containing s (closing l f c) sort) (eq-eqb (length (c .kids)) 0 (rw (said .children) at filled)) (said .good (closing l f c) refl z),
+      both (eqb (length (c .kids)) 0) (containing s (closing l f c) sort) (eq-eqb (length (c .kids)) 0 (rw (said .children) at filled)) (said .good bytes (closing l f c) refl z),
     )
-ruled-sound s l at f c codes said filled = coded (rw (said .is) at filled)
+ruled-sound s bytes l at f c codes said filled = coded (rw (said .is) at filled)
   where
     coded : FilledCode s at c → (closing l f c .place + closing l f c .size ≤ length s) × (ruled s (closing l f c) codes ≡ true)
     coded k =
@@ -202,10 +204,10 @@ ruled-sound s l at f c codes said filled = coded (rw (said .is) at filled)
         )
 
 -- the record test passes
-pub closing-sound : (s : List ℕ) (l at : ℕ) (f : Fields) (c : Chain) → Said s (classOf l) at f → Filled s at (f .children) c → sound s (closing l f c) ≡ true
+pub closing-sound : (s : List ℕ) (l at : ℕ) (f : Fields) (c : Chain) → Said s (classOf l) at f → Filled s at (f .children) c → Bytes s → sound s (closing l f c) ≡ true
 unfolding sound
-closing-sound s l at f c said filled =
-    let r = ruled-sound s l at f c (classOf l) said filled in
+closing-sound s l at f c said filled bytes =
+    let r = ruled-sound s bytes l at f c (classOf l) said filled in
     both (leb (closing l f c .place + closing l f c .size) (length s)) (ruled s (closing l f c) (classOf l)) (le-leb _ (length s) (r .0)) (r .1)
 
 -- what any fields say: they lie ahead and in the input

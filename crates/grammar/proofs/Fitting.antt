@@ -5,10 +5,17 @@ use Prim.Native.Nat.{ℕ, _≤_, _<_, max}
 use native.Mathlib.Omega.{arith}
 use mathlib.Core.Bool.{Bool, true, false, cond}
 use mathlib.Core.List.{List, [], _∷_, _++_}
-use lib.Dec.{leb}
-use borrow.Author.Tests.{le-leb, lt-leb, leb-true, leb-false}
+use lib.Dec.{leb, ltb}
+use borrow.Author.Tests.{le-leb, lt-leb, leb-true, leb-false, ltb-true, ltb-false}
+use Rattle.refusals.specs.Numbers.{noNode, noEntry, noSlot}
 use Rattle.grammar.specs.Reading.{Kind, level, node, entry, slot, Reading, done, refused, claim, Answer, gives, stops}
-use Rattle.grammar.specs.Room.{Rooms, roomFor, numberOf, run, plainly, Claim, claims, same, most, firstOver, AllFit}
+use Rattle.grammar.specs.Room.{Rooms, roomFor, numberOf, run, plainly, Claim, claims, same, most, AllFit}
+use Rattle.grammar.specs.Counted.{Over, OfRoom, NotOfRoom}
+
+-- the refusal of the first claim that does not fit, or else an answer
+unfoldable pub firstOver : {A : Type 0} → Rooms → List Claim → Answer A → Answer A
+firstOver R [] a = a
+firstOver R (c ∷ cs) a = cond (leb (c .need) (roomFor R (c .kind))) (firstOver R cs a) (stops (numberOf (c .kind)) (c .place))
 
 -- The answer within room is read off the claims and the plain answer.
 pub run-is-first-over : {A : Type 0} (R : Rooms) (m : Reading A) → run R m ≡ firstOver R (claims m) (plainly m)
@@ -61,15 +68,6 @@ most-fits R (c ∷ cs) h k = own k (c .kind) (h .0) (most-fits R cs (h .1) k)
     own slot entry f m = omega arith
     own slot slot f m = omega arith
 
--- A claim that does not fit, all before it fitting.
-pub record Over (R : Rooms) (cs : List Claim) : Type 0 where
-  pub before : List Claim
-  pub first : Claim
-  pub rest : List Claim
-  pub order : cs ≡ before ++ first ∷ rest
-  pub fitting : AllFit R before
-  pub over : roomFor R (first .kind) < first .need
-
 -- All fit, or there is a first that does not.
 pub data Fitted (R : Rooms) (cs : List Claim) : Type 0 where
   all : AllFit R cs → Fitted R cs
@@ -98,13 +96,21 @@ pub refused-where-one-is-over : {A : Type 0} (R : Rooms) (m : Reading A) (o : Ov
 refused-where-one-is-over R m o =
     run-is-first-over R m ∙ ap (λ cs. firstOver R cs (plainly m)) (o .order) ∙ over-refuses R (o .before) (o .first) (o .rest) (plainly m) (o .fitting) (o .over)
 
--- The numbers of refusals for want of room, 10 to 13.
-pub data OfRoom : ℕ → Type 0 where
-  of-room : (k : Kind) → OfRoom (numberOf k)
+-- The number of each kind's refusal is of room, and no other number is: not 1 to 9, and not 14 to 18.
+pub of-room : (k : Kind) → OfRoom (numberOf k)
+of-room level = (omega arith, omega arith)
+of-room node = (omega arith, omega arith)
+of-room entry = (omega arith, omega arith)
+of-room slot = (omega arith, omega arith)
 
--- An answer that is no refusal for want of room.
-abbrev pub NotOfRoom : {A : Type 0} → Answer A → Type 0
-NotOfRoom a = (number place : ℕ) → a ≡ stops number place → OfRoom number → ⊥
+pub of-room-only : (number : ℕ) → OfRoom number → (k : Kind) × (number ≡ numberOf k)
+of-room-only number h = go (ltb number noNode) (ltb number noEntry) (ltb number noSlot) refl refl refl
+  where
+    go : (a b c : Bool) → ltb number noNode ≡ a → ltb number noEntry ≡ b → ltb number noSlot ≡ c → (k : Kind) × (number ≡ numberOf k)
+    go true b c p q r = (level, omega (arith, h .0, ltb-true number noNode p))
+    go false true c p q r = (node, omega (arith, ltb-false number noNode p, ltb-true number noEntry q))
+    go false false true p q r = (entry, omega (arith, ltb-false number noEntry q, ltb-true number noSlot r))
+    go false false false p q r = (slot, omega (arith, h .1, ltb-false number noSlot r))
 
 -- Such an answer is given only where all fits.
 pub fits-unless-of-room : {A : Type 0} (R : Rooms) (m : Reading A) → NotOfRoom (run R m) → AllFit R (claims m)

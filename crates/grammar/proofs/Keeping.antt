@@ -1,5 +1,5 @@
 -- Every step of the reading keeps what Standing says of a state, claims and refuses at places of the input only, and refuses for the input's
--- own sake only. One law a definition of Steps. Assumes that the input is bytes, 16 MiB of them at most.
+-- own sake only. One law a definition of Steps. Assumes an input of 16 MiB at most.
 use mathlib.Core.Path.{_≡_, refl}
 use Prim.Native.Nat.{ℕ, zero, suc, _+_, _%_, _≤_, _<_}
 use native.Mathlib.Omega.{arith}
@@ -61,7 +61,7 @@ claims-both zero h =
 claims-both (suc g) h =
     record { nodes = omega (arith, h .claimed-nodes); entries = h .claimed-entries; slots = omega (arith, h .claimed-slots) }
 
-module _ (s : List ℕ) (small : length s ≤ mostBytes) (bytes : (i : ℕ) → getD s i 0 < 256) where
+module _ (s : List ℕ) (small : length s ≤ mostBytes) where
   abbrev Q : ℕ → ℕ → Type 0
   Q n p = Own s n p
 
@@ -98,7 +98,7 @@ module _ (s : List ℕ) (small : length s ≤ mostBytes) (bytes : (i : ℕ) → 
       (h .within, opened-keeps st _ l g (keeps form) (fields s form (st .at + 1)) e (claims-both g h) (fields-in s form (st .at + 1) (omega arith)))
   header-keeps st t depth l g (contains sort) h here e =
       reserving-keeps (Fronted s st) t g (length (st .slots)) (st .at) _ (h .within)
-      (h .within, opened-keeps st _ l g (contains sort) (contained s sort (st .at + 1)) e (claims-both g h) (contained-in s bytes sort (st .at + 1) (omega arith)))
+      (h .within, opened-keeps st _ l g (contains sort) (contained s sort (st .at + 1)) e (claims-both g h) (contained-in s sort (st .at + 1) (omega arith)))
   header-keeps st t depth l g codes h here e =
       reserving-keeps (Fronted s st) t g (length (st .slots)) (st .at) _ (h .within)
       (h .within, (omega arith, opened-keeps st _ l g codes (codeFields s (st .at + 1)) e (deeper-claimed (claims-both g h)) (codeFields-in s (st .at + 1) (omega arith))))

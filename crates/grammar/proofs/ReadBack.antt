@@ -11,15 +11,16 @@ use borrow.Author.Tests.{lt-ltb, le-ltb}
 use Rattle.refusals.specs.Limits.{mostBytes}
 use Rattle.lent.specs.Lent.{padded}
 use Rattle.lent.proofs.Laws.{length-padded}
+use Rattle.grammar.specs.Input.{Bytes}
 use Rattle.grammar.specs.Reading.{node, entry, gives}
 use Rattle.grammar.specs.State.{Node, Entry, State, blank, unlinked, nodeWidth, entryWidth, nodeCells, entryCells, nodeAt, entryAt}
 use Rattle.grammar.specs.Answer.{plain, roomsOf, reading, nodesHeld, entriesHeld}
+use Rattle.grammar.specs.Counted.{claimsOf}
 use Rattle.grammar.specs.Record.{sound, nodesIn, entriesIn, soundAt, Tables, put, chain, whole}
 use Rattle.grammar.specs.Leaf.{leafAs, leafOf}
 use Rattle.grammar.proofs.Fitting.{most-fits, fits-unless-of-room, gives-not-of-room}
-use Rattle.grammar.proofs.Exactness.{claimsOf}
 use Rattle.grammar.proofs.Links.{childOf, nextOf, More, Linked}
-use Rattle.grammar.proofs.Bounded.{Bytes, Accepted}
+use Rattle.grammar.proofs.Bounded.{Accepted}
 use Rattle.grammar.proofs.Contents.{gives-within, accepted-reading, Fits, records-fit}
 
 -- The records of a store, in front of whatever follows them.
@@ -74,10 +75,10 @@ tablesOf s nodes entries r =
 
 module _ (s : List ℕ) (bytes : Bytes s) (nodes entries slots nesting : ℕ) (r : ℕ × State) (e : reading s nodes entries slots nesting ≡ gives r) where
   pub accepted : Accepted s r
-  accepted = accepted-reading s bytes nodes entries slots nesting r e
+  accepted = accepted-reading s nodes entries slots nesting r e
 
   fits : Fits nodes entries slots (r .1)
-  fits = records-fit s bytes nodes entries slots nesting r e
+  fits = records-fit s nodes entries slots nesting r e
 
   -- as many as are used are within the store and the cap
   all-nodes : length (r .1 .nodes) ≤ nodesIn (nodesHeld nodes (gives r)) (length (r .1 .nodes))
@@ -105,7 +106,7 @@ module _ (s : List ℕ) (bytes : Bytes s) (nodes entries slots nesting : ℕ) (r
   unfolding soundAt
   read-is-sound n l =
       rw (lt-ltb n (nodesIn (nodesHeld nodes (gives r)) (length (r .1 .nodes))) (omega (arith, all-nodes)))
-      (ap (sound s) (node-held n l) ∙ accepted .finished n l .own)
+      (ap (sound s) (node-held n l) ∙ accepted .finished n l .own bytes)
 
   -- .. its chain is its children ..
   pub read-is-whole : (n : ℕ) (l : n < length (r .1 .nodes)) → whole (tablesOf s nodes entries r) n ≡ some (accepted .finished n l .kids)

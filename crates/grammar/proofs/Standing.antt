@@ -11,6 +11,7 @@ use lib.Seq.{getD-set-same, getD-set-other}
 use lib.Dec.{ltb, eqb}
 use borrow.Author.Tests.{ltb-true, ltb-false, eqb-true, eqb-false}
 use Rattle.refusals.specs.Limits.{mostBytes, nothing}
+use Rattle.grammar.specs.Input.{Bytes}
 use Rattle.grammar.specs.Reading.{entry}
 use Rattle.grammar.specs.Fields.{Fields}
 use Rattle.grammar.specs.State.{Node, Entry, State, blank, unlinked, movedTo}
@@ -36,12 +37,12 @@ pub record Holds (s : List ℕ) (t : Need) (st : State) : Type 0 where
   pub entries-in : (e : ℕ) → e < length (st .entries) → EntryIn (length (st .nodes)) (length (st .entries)) (getD (st .entries) e unlinked)
   pub slots-in : (k : ℕ) → getD (st .slots) k 0 ≤ length (st .nodes)
 
--- a finished node: its children, linked in reading order, are as many as it says, and its record is sound
+-- a finished node: its children are linked from its first entry on and are as many as it says; and its record is sound, if the input is bytes
 pub record Finished (s : List ℕ) (es : List Entry) (n : Node) : Type 0 where
   pub kids : List ℕ
   pub linked : Linked es (n .first) kids
   pub counted : n .count ≡ length kids
-  pub own : sound s n ≡ true
+  pub own : Bytes s → sound s n ≡ true
 
 abbrev pub FinishedFrom : List ℕ → ℕ → State → Type 0
 FinishedFrom s from st = (i : ℕ) → from ≤ i → i < length (st .nodes) → Finished s (st .entries) (getD (st .nodes) i blank)
@@ -96,7 +97,7 @@ finished-grows {s} {es} {es′} {n} {n′} g l e f =
       kids = f .kids;
       linked = rw e (grows-linked es es′ g l (n .first) (f .kids) (f .linked));
       counted = ap (λ z. z .count) e ∙ f .counted;
-      own = ap (sound s) e ∙ f .own;
+      own = λ bytes. ap (sound s) e ∙ f .own bytes;
     }
 
 -- A child is attached.
@@ -268,7 +269,7 @@ abbrev pub closing : (letter : ℕ) → Fields → Chain → Node
 closing l f c = record { letter = l; place = f .place; size = sizeOf (f .children) (f .place) (f .size) (c .line); first = c .first; count = length (c .kids) }
 
 pub closed : {s : List ℕ} {t₀ t : Need} {st : State} {c : Chain} (l g at : ℕ) (f : Fields) → Holds s t₀ st → st .at < at → Chained s (enter st at g) t c
-    → sound s (closing l f c) ≡ true → Valued s st t (length (st .nodes), close st l g f c)
+    → (Bytes s → sound s (closing l f c) ≡ true) → Valued s st t (length (st .nodes), close st l g f c)
 unfolding enter close
 closed {s} {t₀} {t} {st} {c} l g at f h past k own =
     let ln = length-append (st .nodes) (blank ∷ []) in

@@ -1,3 +1,4 @@
+pub mod Input
 pub mod Reading
 pub mod Room
 pub mod Letters
@@ -6,5 +7,6 @@ pub mod Fields
 pub mod State
 pub mod Steps
 pub mod Answer
+pub mod Counted
 pub mod Record
 pub mod Leaf

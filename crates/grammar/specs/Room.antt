@@ -73,11 +73,7 @@ unfoldable pub most : Kind → List Claim → ℕ
 most k [] = 0
 most k (c ∷ cs) = max (cond (same k (c .kind)) (c .need) 0) (most k cs)
 
--- the refusal of the first claim that does not fit, or else an answer
-unfoldable pub firstOver : {A : Type 0} → Rooms → List Claim → Answer A → Answer A
-firstOver R [] a = a
-firstOver R (c ∷ cs) a = cond (leb (c .need) (roomFor R (c .kind))) (firstOver R cs a) (stops (numberOf (c .kind)) (c .place))
-
+-- every claim of a list is for no more than there is room for
 unfoldable pub AllFit : Rooms → List Claim → Type 0
 AllFit R [] = Unit
 AllFit R (c ∷ cs) = (c .need ≤ roomFor R (c .kind)) × AllFit R cs

@@ -18,7 +18,7 @@ use Rattle.grammar.specs.Fields.{Fields, le16, le32, le64, digitCount, lastDigi
 use Rattle.grammar.specs.State.{Node, start}
 use Rattle.grammar.specs.Steps.{asBytes, asNames, rules, linePart}
 use Rattle.grammar.specs.Record.{containing, readsAs, ruled, sound, Tables, nodeOf, badEnd, Looked, holds, faulty, look}
-use Rattle.grammar.proofs.Bounded.{Bytes}
+use Rattle.grammar.specs.Input.{Bytes}
 use Rattle.grammar.proofs.Tests.{none-some, same-some, both-true}
 use Rattle.grammar.proofs.Passed.{unless-none, sound-ruled, code-ruled, Held, looked-held}
 use Rattle.writing.specs.Canonical.{Integer, ofBits, shownLine}

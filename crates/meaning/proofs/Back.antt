@@ -17,7 +17,7 @@ use Rattle.grammar.specs.Leaf.{magnitude}
 use Rattle.grammar.specs.State.{State}
 use Rattle.grammar.specs.Steps.{fresh, kids, couples, body, enter, value}
 use Rattle.grammar.proofs.Following.{Need, follows-map}
-use Rattle.grammar.proofs.Bounded.{Bytes}
+use Rattle.grammar.specs.Input.{Bytes}
 use Rattle.grammar.proofs.Standing.{Chained, closing}
 use Rattle.grammar.proofs.Lettered.{among-each}
 use Rattle.writing.specs.Canonical.{Integer, bytes16, bytes32, bitsOf, inSigned32, digitsOf, digitBytes, longBytes, integerBytes}

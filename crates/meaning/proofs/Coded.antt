@@ -13,7 +13,7 @@ use Rattle.grammar.specs.Fields.{Fields, parts, le32, numbers, codeFields}
 use Rattle.grammar.specs.State.{Node, State, blank}
 use Rattle.grammar.specs.Steps.{opens, header, front, Chain, fresh, whatever, child, rules, linePart, lined, firstLine, partsFrom, faultOf, ended, body, enter, one, value}
 use Rattle.grammar.proofs.Following.{Need, raise, follows-bind}
-use Rattle.grammar.proofs.Bounded.{Bytes}
+use Rattle.grammar.specs.Input.{Bytes}
 use Rattle.grammar.proofs.Standing.{Chained, Claimed, entered, started}
 use Rattle.writing.specs.Canonical.{bytes32, words, shownLine}
 use Rattle.writing.specs.Shape as shape

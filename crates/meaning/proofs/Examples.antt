@@ -49,13 +49,14 @@ backAs s o (stops n p) = stops n p
 abbrev back : List ℕ → Answer (List ℕ)
 back s = backAs s (readOf s 100 40 5 9) (readOf s 100 40 5 9 .answer)
 
--- P4 and P6 of 01: (1, true); and the shared 5 means what it means twice
+-- P4 and P6 of 01: (1, true); and the shared 5 means what it means twice. A tuple's children are its own and none of theirs: ((none,), true)
 pub sheets :
     (meant (0x29 ∷ 2 ∷ 0x69 ∷ 1 ∷ 0 ∷ 0 ∷ 0 ∷ 0x54 ∷ []) ≡ some (sequence 0x28 (more (number 1) (more (single 0x54) nil))))
     × (meant (0x29 ∷ 2 ∷ 0xE9 ∷ 5 ∷ 0 ∷ 0 ∷ 0 ∷ 0x72 ∷ 0 ∷ 0 ∷ 0 ∷ 0 ∷ []) ≡ some (sequence 0x28 (more (number 5) (more (number 5) nil))))
+    × (meant (0x29 ∷ 2 ∷ 0x29 ∷ 1 ∷ 0x4E ∷ 0x54 ∷ []) ≡ some (sequence 0x28 (more (sequence 0x28 (more (single 0x4E) nil)) (more (single 0x54) nil))))
     × (back (0x29 ∷ 2 ∷ 0xE9 ∷ 5 ∷ 0 ∷ 0 ∷ 0 ∷ 0x72 ∷ 0 ∷ 0 ∷ 0 ∷ 0 ∷ []) ≡ gives (0x28 ∷ 2 ∷ 0 ∷ 0 ∷ 0 ∷ 0x69 ∷ 5 ∷ 0 ∷ 0 ∷ 0 ∷ 0x69 ∷ 5 ∷ 0 ∷ 0 ∷ 0 ∷ []))
 unfolding afterLead afterByte allows bind run letters found classOf digits pylong numbers fields contained codeFields reference header front attach strings suits child kids couples rules firstLine partsFrom ended body enter close after one value plain reading readOf padded sound soundAt chain whole badString badPart badEnd look magnitude then each into words digitsFrom digitBytes integerBytes ascii codeString shapeOf sameBytes having namedIn apartFrom inGroups manners partsAs parted writing written allOf valueOf has
-sheets = (refl, refl, refl)
+sheets = (refl, refl, refl, refl)
 
 -- A code with one constant, one local name and first line -3, its code bytes shared with its last table; and the value that it is.
 abbrev shortCode : List ℕ

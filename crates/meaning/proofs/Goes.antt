@@ -12,7 +12,7 @@ use Rattle.grammar.specs.Letters.{endsDict}
 use Rattle.grammar.specs.State.{State}
 use Rattle.grammar.specs.Steps.{Chain, attach, Rule, whatever, suits, child, kids, Reader, value}
 use Rattle.grammar.proofs.Following.{Need, raise, Follows, follows-bind, follows-map}
-use Rattle.grammar.proofs.Bounded.{Bytes}
+use Rattle.grammar.specs.Input.{Bytes}
 use Rattle.grammar.proofs.Standing.{Holds, Valued, Chained, attached}
 use Rattle.meaning.specs.Value.{Value, Values, nil, more, countOf}
 use Rattle.meaning.specs.Extent.{depthOf, depthAll, nodesOf, nodesAll, entriesOf, entriesAll}

@@ -16,7 +16,7 @@ use Rattle.grammar.specs.Fields.{Fields, items, le32, le64, notNegative, fields
 use Rattle.grammar.specs.State.{State}
 use Rattle.grammar.specs.Steps.{opens, header, front, Chain, fresh, kids, body, enter, value}
 use Rattle.grammar.proofs.Following.{Need}
-use Rattle.grammar.proofs.Bounded.{Bytes}
+use Rattle.grammar.specs.Input.{Bytes}
 use Rattle.grammar.proofs.Standing.{Holds, closing}
 use Rattle.grammar.proofs.Lettered.{among-each}
 use Rattle.writing.specs.Canonical.{Integer, bytes32, bytes64, ofBits, bitsOf, inSigned32, sized, ascii, codeString}

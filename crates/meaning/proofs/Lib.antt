@@ -24,3 +24,4 @@ pub mod RoundTrip
 pub mod Hostile
 pub mod AnyStores
 pub mod Examples
+pub mod Codes

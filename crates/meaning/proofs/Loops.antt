@@ -15,7 +15,7 @@ use Rattle.grammar.specs.State.{State, movedTo, blank}
 use Rattle.grammar.specs.Steps.{opens, front, Chain, fresh, Rule, whatever, suits, child, kids, couples, passed, Reader, rules, linePart, firstLine, partsFrom, body, enter, close, after, one, value}
 use Rattle.grammar.specs.Record.{sound}
 use Rattle.grammar.proofs.Following.{Need, raise, follows-bind, follows-map}
-use Rattle.grammar.proofs.Bounded.{Bytes}
+use Rattle.grammar.specs.Input.{Bytes}
 use Rattle.grammar.proofs.Links.{built-linked}
 use Rattle.grammar.proofs.Standing.{Holds, Valued, Chained, Claimed, entered, started, closing}
 use Rattle.grammar.proofs.Keeping.{value-keeps}
@@ -206,12 +206,12 @@ module _ (s : List ℕ) (small : length s ≤ mostBytes) (bytes : Bytes s) where
     pub value-goes : Goes (Nearly v long depth st t) t (value fuel s depth st) → Goes (Wrote s v long depth st t) t (value fuel s depth st)
     value-goes g =
         follows-map Never Anywhere (λ t′ r. Valued s st t′ r × Nearly v long depth st t t′ r) (Wrote s v long depth st t) t (value fuel s depth st)
-        (follows-both (Own s) Never (λ p. p ≤ length s) Anywhere (Valued s st) (Nearly v long depth st t) t (value fuel s depth st) (value-keeps s small bytes fuel depth t st h) g)
+        (follows-both (Own s) Never (λ p. p ≤ length s) Anywhere (Valued s st) (Nearly v long depth st t) t (value fuel s depth st) (value-keeps s small fuel depth t st h) g)
         (λ t′ r p.
         let w = p .1 in
         record {
           valued = p .0;
-          means = w .means (p .0 .finished (r .0) (omega (arith, w .node)) (p .0 .named) .own);
+          means = w .means (p .0 .finished (r .0) (omega (arith, w .node)) (p .0 .named) .own bytes);
           at = w .at;
           nodes = w .nodes;
           entries = w .entries;

@@ -14,7 +14,7 @@ use Rattle.grammar.specs.State.{State, start, nodeCapacity, entryCapacity}
 use Rattle.grammar.specs.Record.{Tables}
 use Rattle.grammar.proofs.Tests.{same-some}
 use Rattle.grammar.specs.Answer.{plain, reading, Counts, countsOf, readOf}
-use Rattle.grammar.proofs.Bounded.{Bytes}
+use Rattle.grammar.specs.Input.{Bytes}
 use Rattle.grammar.proofs.Contents.{gives-within}
 use Rattle.grammar.proofs.Following.{follows-gives}
 use Rattle.grammar.proofs.ReadBack.{tablesOf}

@@ -21,7 +21,7 @@ use Rattle.grammar.specs.State.{Node}
 use Rattle.grammar.specs.Steps.{linePart, codeParts}
 use Rattle.grammar.specs.Record.{readsAs, ruled, sound}
 use Rattle.grammar.proofs.Tests.{both-true}
-use Rattle.grammar.proofs.Bounded.{Bytes}
+use Rattle.grammar.specs.Input.{Bytes}
 use Rattle.writing.specs.Canonical.{Integer, ofBits, digitsFrom, digitsOf, shownLine}
 use Rattle.writing.specs.Shape as shape
 use Rattle.writing.specs.Shape.{classed, numbersAt, longAt}

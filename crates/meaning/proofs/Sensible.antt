@@ -17,7 +17,7 @@ use Rattle.grammar.specs.State.{State, blank, movedTo}
 use Rattle.grammar.specs.Steps.{Front, known, opens, front, Chain, fresh, attach, Rule, whatever, suits, Reader, child, kids, couples, passed, codeParts, rules, linePart, lined, firstLine, partsFrom, faultOf, ended, body, enter, close, after, one, value}
 use Rattle.grammar.specs.Record.{sound}
 use Rattle.grammar.proofs.Following.{Need, Follows, FollowsA, follows-bind, follows-map, follows-cond, follows-reads}
-use Rattle.grammar.proofs.Bounded.{Bytes}
+use Rattle.grammar.specs.Input.{Bytes}
 use Rattle.grammar.proofs.Links.{built-linked}
 use Rattle.grammar.proofs.Standing.{Holds, Valued, Chained, attached, entered, started, closing}
 use Rattle.grammar.proofs.Fielding.{Own, said-ahead, said-within}
@@ -255,14 +255,14 @@ module _ (s : List ℕ) (small : length s ≤ mostBytes) (bytes : Bytes s) where
       let F₂ : Need → Front → Type 0 = λ t r. Fronted s st t r × FrontIs st r in
       let m = value (suc fuel) s depth st in
       follows-map Always Anywhere (λ t r. Valued s st t r × NearlyTold st r) (Told st) t m
-      (follows-both (Own s) Always (λ p. p ≤ length s) Anywhere (Valued s st) (N st) t m (value-keeps s small bytes (suc fuel) depth t st h)
+      (follows-both (Own s) Always (λ p. p ≤ length s) Anywhere (Valued s st) (N st) t m (value-keeps s small (suc fuel) depth t st h)
       (follows-bind Always Anywhere F₂ (N st) t (front s depth (st .at) (length (st .nodes)) (length (st .slots)) (st .slots)) (after (value fuel s) s fuel depth st)
-      (follows-both (Own s) Always (λ p. p ≤ length s) Anywhere (Fronted s st) (λ t r. FrontIs st r) t (front s depth (st .at) (length (st .nodes)) (length (st .slots)) (st .slots)) (front-keeps s small bytes st t depth h) (front-is s st t depth))
+      (follows-both (Own s) Always (λ p. p ≤ length s) Anywhere (Fronted s st) (λ t r. FrontIs st r) t (front s depth (st .at) (length (st .nodes)) (length (st .slots)) (st .slots)) (front-keeps s small st t depth h) (front-is s st t depth))
       (λ t′ r k. after-told (value fuel s) (λ d. value-tells fuel d) fuel depth t t′ st h sl r (k .0) (k .1))))
       (λ t′ r p. whole t′ r (p .0) (p .1))
     where
       whole : (t′ : Need) (r : ℕ × State) → Valued s st t′ r → NearlyTold st r → Told st t′ r
       whole t′ r v (already a b c) = record { valued = v; slots = a; sense = b; every = c }
       whole t′ r v (anew e f) =
-          let x = f (v .finished (r .0) (omega (arith, e)) (v .named) .own) in
+          let x = f (v .finished (r .0) (omega (arith, e)) (v .named) .own bytes) in
           record { valued = v; slots = x .0; sense = x .1; every = x .2 }

@@ -19,7 +19,7 @@ use Rattle.grammar.specs.Steps.{Rule, whatever, asBytes, asTuple, asNames, asSt
 use Rattle.grammar.specs.Answer.{reading}
 use Rattle.grammar.specs.Record.{ruled, sound, Tables, whole, nodeOf, badString, unless, suited, orElse, badPart, badEnd, holds, judged, lookedAs, lookedOf, look}
 use Rattle.grammar.proofs.Tests.{both-true}
-use Rattle.grammar.proofs.Bounded.{Bytes}
+use Rattle.grammar.specs.Input.{Bytes}
 use Rattle.grammar.proofs.Links.{Linked, More, nextOf}
 use Rattle.grammar.proofs.ReadBack.{tablesOf, accepted as accepted-so, node-held, read-is-sound, read-is-whole}
 use Rattle.writing.specs.Shape as shape

@@ -12,7 +12,7 @@ use Rattle.grammar.specs.Room.{plainly}
 use Rattle.grammar.specs.State.{State, start}
 use Rattle.grammar.specs.Steps.{value}
 use Rattle.grammar.specs.Answer.{plain, roomsOf, reading, Counts, countsOf, answered, readOf}
-use Rattle.grammar.proofs.Bounded.{Bytes}
+use Rattle.grammar.specs.Input.{Bytes}
 use Rattle.grammar.proofs.Contents.{gives-within}
 use Rattle.grammar.proofs.Fitting.{exact-where-all-fit, fits-unless-of-room, gives-not-of-room}
 use Rattle.grammar.proofs.Fielding.{Own}
@@ -41,7 +41,7 @@ pub meaning-stays : (s : List ℕ) (small : length s ≤ mostBytes) (bytes : Byt
     → Follows (Own s) (λ p. p ≤ length s) (λ t′ r. (n : ℕ) (v : Value) → Means (InState s st) n v → Means (InState s (r .1)) n v) t (value fuel s depth st)
 meaning-stays s small bytes fuel depth t st h =
     follows-map (Own s) (λ p. p ≤ length s) (Valued s st) (λ t′ r. (n : ℕ) (v : Value) → Means (InState s st) n v → Means (InState s (r .1)) n v) t (value fuel s depth st)
-    (value-keeps s small bytes fuel depth t st h) (λ t′ r k n v m. means-on (since-on small h (k .since)) v n m)
+    (value-keeps s small fuel depth t st h) (λ t′ r k n v m. means-on (since-on small h (k .since)) v n m)
 
 -- A node's value in the stores.
 pub record Meant (s : List ℕ) (nodes entries : ℕ) (r : ℕ × State) (n : ℕ) : Type 0 where

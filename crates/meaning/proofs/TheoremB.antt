@@ -12,7 +12,7 @@ use Rattle.grammar.specs.Room.{roomFor, plainly, claims, most}
 use Rattle.grammar.specs.State.{State, start, nodeCapacity, entryCapacity}
 use Rattle.grammar.specs.Answer.{plain, roomsOf, reading}
 use Rattle.grammar.specs.Steps.{Rule, whatever, asBytes, asTuple, asNames, asString, rules}
-use Rattle.grammar.proofs.Bounded.{Bytes}
+use Rattle.grammar.specs.Input.{Bytes}
 use Rattle.grammar.proofs.Fitting.{exact-where-all-fit, all-fit}
 use Rattle.grammar.proofs.Following.{Need, raise, needOf, follows-gives}
 use Rattle.grammar.proofs.Standing.{Holds}

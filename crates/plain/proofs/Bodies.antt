@@ -5,13 +5,13 @@ use Prim.Native.Nat.{ℕ, _+_, _-_, _%_, _≤_, _<_}
 use native.Mathlib.Omega.{arith}
 use mathlib.Core.Bool.{Bool, true, false, cond}
 use mathlib.Core.List.{List}
-use lib.ListN.{length}
+use lib.ListN.{length, getD}
 use lib.Dec.{leb, ltb, eqb}
 use borrow.Author.Tests.{eqb-true, eqb-false, ltb-true, ltb-false}
 use Rattle.refusals.specs.Numbers.{dataTooShort}
 use Rattle.grammar.specs.Reading.{bind}
 use Rattle.grammar.specs.Fields.{parts}
-use Rattle.grammar.specs.Steps.{whatever, codeParts, linePart, couples, ended, body, value}
+use Rattle.grammar.specs.Steps.{whatever, rules, codeParts, linePart, couples, ended, body, value}
 use Rattle.fields.specs.Behind.{childrenOf}
 use Rattle.fields.specs.declared.Kids.{Kids}
 use Rattle.fields.specs.declared.Kids.the-variants as kind
@@ -23,6 +23,7 @@ use Rattle.steps.specs.declared.Next.{Next}
 use Rattle.steps.specs.declared.Next.the-variants as next
 use Rattle.steps.specs.Held.{Safe, LineIn}
 use Rattle.steps.specs.Linking.{ruleOf, lineLined, firstLined, NextOf, Nexts, belowOf}
+use Rattle.steps.proofs.Letters.{rule-back}
 use Rattle.plain.specs.Readings.{Lists, LinkedMoved, Counted, ReadsChild, BodyLists, ReadsBody, childOf, partsOf, bodyOf}
 use Rattle.plain.specs.Turns.{Stands, InvKids, InvDict, InvCode, InvOf, InvBody}
 use Rattle.plain.proofs.Chains.{lists-inside}
@@ -142,7 +143,7 @@ module _ {kids : Kids} {at : ℕ} {s : List ℕ} {room : Room} {allowance : ℕ}
               → BodyLists kids at s room allowance line₀ ns₀ es₀ ss₀ (linked.Refused a b) ns′ es′ ss′
           go (kind.Items count) some inv y u = kids-cut inv (y .2) (plain (y .0) (y .1) u) it
           go kind.Pairs some inv y u = pair inv y u (eqb (line .count % 2) 0) refl
-          go kind.Parts some inv y u = part-cut (some refl) inv (y .2) refl (y .0) rule (y .1) (under-code u) it
+          go kind.Parts some inv y u = part-cut (some refl) inv (y .2) refl (y .0) rule (ap ruleOf (y .1) ∙ rule-back (getD rules (line .count) whatever)) (under-code u) it
 
       module _ {l : Line} (it : r ≡ linked.Line l) where
         moved : LinkedMoved 1 s room (m .walk) (linked.Line l)
@@ -191,7 +192,7 @@ module _ {kids : Kids} {at : ℕ} {s : List ℕ} {room : Room} {allowance : ℕ}
                 subst (InvKids s room allowance count line₀ ns₀ es₀ ss₀ ns′ es′ ss′ l) (sym (more ∙ ap (λ x. x .count + 1) (y .0))) (kids-next inv (y .2) (plain (y .0) (y .1) u) it ln le ls)
             go kind.Pairs some inv y u = pair inv y u (eqb (line .count % 2) 0) refl
             go kind.Parts some inv y u =
-                subst (InvCode s room allowance at line₀ ns₀ es₀ ss₀ ns′ es′ ss′ l) (sym (more ∙ ap (λ n. n + 1) (subst (Passes line) (y .0) (line-passes s (line .count) line) .0))) (code-next (some refl) inv (y .2) refl (y .0) rule (y .1) (under-code u) it ln le ls)
+                subst (InvCode s room allowance at line₀ ns₀ es₀ ss₀ ns′ es′ ss′ l) (sym (more ∙ ap (λ n. n + 1) (subst (Passes line) (y .0) (line-passes s (line .count) line) .0))) (code-next (some refl) inv (y .2) refl (y .0) rule (ap ruleOf (y .1) ∙ rule-back (getD rules (line .count) whatever)) (under-code u) it ln le ls)
 
 -- What a node holds: its container or code's body has the allowance less one.
 pub node-lists : {kids : Kids} {at : ℕ} {s : List ℕ} {room : Room} (allowance : ℕ) {line : Line} {ns es ss ns′ es′ ss′ : List ℕ} {r : Linked} → 0 < allowance → ReadsBody kids at s room (allowance - 1) line ns es ss r ns′ es′ ss′

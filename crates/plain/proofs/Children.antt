@@ -24,6 +24,7 @@ use Rattle.steps.specs.declared.Linked.{Linked}
 use Rattle.steps.specs.declared.Linked.the-variants as linked
 use Rattle.steps.specs.Held.{rooms, Safe, Moved, Holds, HoldsChain, LastIn, LineIn}
 use Rattle.steps.specs.Linking.{ruleOf, suitsIn, lineNext, entriesNext, Attaches}
+use Rattle.steps.proofs.Links.{attach-entries}
 use Rattle.steps.proofs.Runs.{bind-gives, bind-stops, claim-fits, claim-fails, run-done}
 use Rattle.steps.proofs.States.{chain-next, suits-held}
 use Rattle.plain.specs.Readings.{ReadsValue, Lists, ReadsChild, Counted, childOf, Agrees, StepMoved}
@@ -123,7 +124,7 @@ module _ {s : List ℕ} {room : Room} {allowance : ℕ} {line : Line} {ns es ss 
           record {
             counted = subst (Counted line) (sym (at .answer)) (attach-counted (ltb (a .entries) (room .entries)));
             lists = subst (λ q. Lists (childOf s (ruleOf rule)) 1 s room allowance line ns es ss q ns′ es″ ss′) (sym (at .answer))
-                (child-attached (ruleOf rule) t test u es″ le (at .entries) (ltb (a .entries) (room .entries)) refl);
+                (child-attached (ruleOf rule) t test u es″ le (attach-entries at) (ltb (a .entries) (room .entries)) refl);
           }
 
 -- what `attach` asks

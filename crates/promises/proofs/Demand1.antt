@@ -1,5 +1,5 @@
 -- DEMAND 1: no export asks anything; each call returns; and it ends in its answer, or in a refusal of 01's table with every store lent for
--- writing all zero. By cases of the definition that each contract cites, with Numbers. Of `sill_read` it assumes that the input is bytes.
+-- writing all zero. By cases of the definition that each contract cites, with Numbers. Assumes nothing.
 use mathlib.Core.Path.{_≡_, refl, ap, _∙_}
 use Prim.Native.Nat.{ℕ, _/_, min}
 use mathlib.Core.Bool.{Bool}
@@ -14,7 +14,6 @@ use Rattle.grammar.specs.Reading.{Answer, gives, stops}
 use Rattle.grammar.specs.State.{State}
 use Rattle.grammar.specs.Answer.{outcomeOf, reading, readOf}
 use Rattle.grammar.specs.Leaf.{Leaf, leafOf}
-use Rattle.grammar.proofs.Bounded.{Bytes}
 use Rattle.leaf.specs.Answers.{toldOf, answeredOf}
 use Rattle.leaf.specs.declared.Answered.the-variants as leaf
 use Rattle.lineentry.specs.declared.Location.{Location}
@@ -49,17 +48,17 @@ use Rattle.promises.proofs.Reading.{writtenBy}
 use Rattle.promises.proofs.Numbers.{Tabled, reading-in-table, leaf-in-table, TabledLines, located-in-table, located-at-in-table, TabledSplit, split-in-table, TabledStore, stored-in-table, signed-in-table, written-in-table}
 
 -- Each kind of definition: what its contract says of an outcome gives the end.
-read-ends : (s : List ℕ) → Bytes s → (nodes entries slots : List ℕ) (nesting : ℕ) (r : SillRead) (ns es ss : List ℕ)
+read-ends : (s : List ℕ) (nodes entries slots : List ℕ) (nesting : ℕ) (r : SillRead) (ns es ss : List ℕ)
     → ReadAs (readOf s (length nodes) (length entries) (length slots) nesting) r ns es ss
     → Ends r (λ counts. readStruct (gives counts)) (λ number place. readStruct (stops number place)) (Zero nodes ns × Zero entries es × Zero slots ss)
 unfolding readOf
-read-ends s bytes nodes entries slots nesting r ns es ss h = go (reading s (length nodes) (length entries) (length slots) nesting) refl h
+read-ends s nodes entries slots nesting r ns es ss h = go (reading s (length nodes) (length entries) (length slots) nesting) refl h
   where
     go : (a : Answer (ℕ × State)) → reading s (length nodes) (length entries) (length slots) nesting ≡ a → ReadAs (outcomeOf (length nodes) (length entries) (length slots) a) r ns es ss
         → Ends r (λ counts. readStruct (gives counts)) (λ number place. readStruct (stops number place)) (Zero nodes ns × Zero entries es × Zero slots ss)
     go (gives x) e k = answers _ (k .numbers)
     go (stops n p) e k =
-        refuses n p (reading-in-table s bytes (length nodes) (length entries) (length slots) nesting n p e) (k .numbers) (k .holds-nodes, k .holds-entries, k .holds-slots)
+        refuses n p (reading-in-table s (length nodes) (length entries) (length slots) nesting n p e) (k .numbers) (k .holds-nodes, k .holds-entries, k .holds-slots)
 
 write-ends : (a : Answer (List ℕ)) → Tabled a → (out : List ℕ) (r : SillWritten) (left : List ℕ) → WroteAs a (length out) r left
     → Ends r (λ count. wroteStruct (wrote.Done count)) (λ number place. wroteStruct (wrote.Refused number place)) (Zero out left)
@@ -103,9 +102,9 @@ demand-1 =
             asks-nothing = λ κs a. tt;
             returns = λ M. sillgarland.values.sill_read.Met.met;
             ends =
-                λ c bytes.
+                λ c.
                 let a = c .args in
-                read-ends (now (a .0)) bytes (now (a .1 .0)) (now (a .1 .1 .0)) (now (a .1 .1 .1 .0)) (a .1 .1 .1 .1 .0) (c .result) _ _ _ (c .meets);
+                read-ends (now (a .0)) (now (a .1 .0)) (now (a .1 .1 .0)) (now (a .1 .1 .1 .0)) (a .1 .1 .1 .1 .0) (c .result) _ _ _ (c .meets);
           };
       sill-write =
           record {

@@ -1,11 +1,12 @@
 -- DEMAND 2: what either reader reads means a value, either writer writes it back as its canonical bytes, and these read as the same value.
--- From meaning's RoundTrip. Assumes nothing but bytes for input.
+-- From meaning's RoundTrip. Assumes nothing but bytes for input, where the reader's calls are restricted to them.
 use mathlib.Core.Path.{_≡_, sym, ap, subst, _∙_}
 use Prim.Native.Nat.{_≤_, _-_, min}
 use lib.ListN.{length, take}
 use lib.Seq.{take-append-seam}
 use Rattle.refusals.specs.Limits.{mostBytes, mostNesting}
 use Rattle.lent.specs.Lent.{zeros, padded}
+use Rattle.grammar.specs.Input.{Bytes}
 use Rattle.grammar.specs.Reading.{gives}
 use Rattle.grammar.specs.Answer.{Counts}
 use Rattle.writing.specs.Answer.{written, outputHeld}
@@ -18,14 +19,14 @@ use Rattle.grammar.proofs.Contents.{gives-within}
 use Rattle.meaning.proofs.TheoremA.{answer-gives}
 use Rattle.meaning.proofs.AnyStores.{found-in-order-is-written}
 use Rattle.meaning.proofs.RoundTrip.{RoundTrip, round-trip, reads-whole}
-use Rattle.promises.specs.Calls.{Reader, Writer, deserializeValue, sillRead, serializeValue, sillWrite}
+use Rattle.promises.specs.Calls.{Reader, Writer, onBytes, deserializeValue, sillRead, serializeValue, sillWrite}
 use Rattle.promises.specs.Demand2.{ReadAs, Hands, WriteFits, WrittenBack, Demand2}
 use Rattle.promises.proofs.Reading.{Exactly, Exact, writtenBy, lengthIn, deserialize-exactly, sill-read-exactly, serialize-exact, sill-write-exact}
 
-module _ (R : Reader) (exactly : Exactly R) where
+module _ (R : Reader) (of-bytes : (c : R .Calls) → Bytes (R .input c)) (exactly : Exactly R) where
   trip : (c : R .Calls) (counts : Counts) → R .ends c .answer ≡ gives counts → RoundTrip (R .input c) (R .nodes c) (R .entries c) (R .slots c) (R .nesting c) counts
   trip c counts e =
-      round-trip (R .input c) (R .bytes c) (R .nodes c) (R .entries c) (R .slots c) (R .nesting c) counts (sym (ap (λ o. o .answer) (exactly c)) ∙ e)
+      round-trip (R .input c) (of-bytes c) (R .nodes c) (R .entries c) (R .slots c) (R .nesting c) counts (sym (ap (λ o. o .answer) (exactly c)) ∙ e)
 
   -- a call that the definition reads as a value reads it
   read-as : (c : R .Calls) (counts : Counts) (v : Value) → IsRead (R .input c) (R .nodes c) (R .entries c) (R .slots c) (R .nesting c) counts v → ReadAs R c counts v
@@ -50,7 +51,7 @@ module _ (R : Reader) (exactly : Exactly R) where
         let means = read-as c counts v (trip c counts e .read) .means (min (W .nesting w) mostNesting) (f .nesting) in
         let is : writtenBy W w ≡ gives (canonical v) =
         (λ i. written (h .tables i) (h .root i) (W .nesting w) (W .room w))
-        ∙ found-in-order-is-written t (R .bytes c) (small c counts e) 0 (W .nesting w) (W .room w) v means o (f .bytes) in
+        ∙ found-in-order-is-written t (of-bytes c) (small c counts e) 0 (W .nesting w) (W .room w) v means o (f .bytes) in
         record { answer = exact w .answer ∙ ap lengthIn is; output = exact w .output ∙ ap (outputHeld (W .room w)) is }
 
     demanded : Demand2 R W
@@ -71,5 +72,8 @@ module _ (R : Reader) (exactly : Exactly R) where
         }
 
 -- of the functions that are carried, and of the exports
-pub demand-2 : Demand2 deserializeValue serializeValue × Demand2 sillRead sillWrite
-demand-2 = (demanded deserializeValue deserialize-exactly serializeValue serialize-exact, demanded sillRead sill-read-exactly sillWrite sill-write-exact)
+pub demand-2 : Demand2 (onBytes deserializeValue) serializeValue × Demand2 (onBytes sillRead) sillWrite
+demand-2 = (
+  demanded (onBytes deserializeValue) (λ c. c .bytes) (λ c. deserialize-exactly (c .call)) serializeValue serialize-exact,
+  demanded (onBytes sillRead) (λ c. c .bytes) (λ c. sill-read-exactly (c .call)) sillWrite sill-write-exact,
+)

@@ -21,5 +21,7 @@ pub mod Numbers
 pub mod Reading
 pub mod Demand1
 pub mod Demand2
+pub mod Asked
 pub mod Lines
 pub mod Demand3
+pub mod Substance

@@ -1,5 +1,5 @@
 -- Every refusal that a definition gives has a number of 01's table, so that no refusal can be taken for an answer. Of the reading by what
--- grammar proves of its refusals, of the others by going through their definitions. Of the reading it assumes that the input is bytes.
+-- grammar proves of its refusals, of the others by going through their definitions. Assumes nothing.
 use mathlib.Core.Path.{_≡_, refl, sym, ap, _∙_}
 use Prim.Native.Nat.{ℕ, zero, suc, _≤_, _-_, _+_, _^_, min}
 use native.Mathlib.Omega.{arith}
@@ -16,10 +16,11 @@ use Rattle.grammar.specs.Letters.{among}
 use Rattle.grammar.specs.Room.{Rooms, numberOf}
 use Rattle.grammar.specs.Steps.{kindsPart, linePart}
 use Rattle.grammar.specs.Answer.{plain, roomsOf, reading}
+use Rattle.grammar.specs.Counted.{claimsOf}
 use Rattle.grammar.specs.Leaf.{leafOf}
 use Rattle.grammar.specs.Record.{Tables, Looked, holds, faulty, look, soundAt}
-use Rattle.grammar.proofs.Bounded.{Bytes, refused-in}
-use Rattle.grammar.proofs.Exactness.{claimsOf, too-long, within-room}
+use Rattle.grammar.proofs.Bounded.{refused-in}
+use Rattle.grammar.proofs.Exactness.{too-long, within-room}
 use Rattle.grammar.proofs.Fielding.{ofInput}
 use Rattle.grammar.proofs.Fitting.{Fitted, all, some-over, fitted, exact-where-all-fit, refused-where-one-is-over}
 use Rattle.lineentry.specs.declared.Location.{Location}
@@ -94,8 +95,8 @@ stops-number {A} {n} {m} {p} {q} e h = let i : n ≡ m = ap number e in (omega (
     number (gives x) = 0
     number (stops n p) = n
 
-pub reading-in-table : (s : List ℕ) → Bytes s → (nodes entries slots nesting n p : ℕ) → reading s nodes entries slots nesting ≡ stops n p → InTable n
-reading-in-table s bytes nodes entries slots nesting n p e = go (ltb mostBytes (length s)) refl
+pub reading-in-table : (s : List ℕ) (nodes entries slots nesting n p : ℕ) → reading s nodes entries slots nesting ≡ stops n p → InTable n
+reading-in-table s nodes entries slots nesting n p e = go (ltb mostBytes (length s)) refl
   where
     R : Rooms
     R = roomsOf nodes entries slots nesting
@@ -103,7 +104,7 @@ reading-in-table s bytes nodes entries slots nesting n p e = go (ltb mostBytes (
     at-fit : length s ≤ mostBytes → Fitted R (claimsOf s) → InTable n
     at-fit small (all h) =
         among-in-table n ofInput refl
-        (refused-in s small bytes n p (sym (exact-where-all-fit R (plain s) h) ∙ (sym (within-room s nodes entries slots nesting small) ∙ e)) .0)
+        (refused-in s small n p (sym (exact-where-all-fit R (plain s) h) ∙ (sym (within-room s nodes entries slots nesting small) ∙ e)) .0)
     at-fit small (some-over o) =
         stops-number (sym (refused-where-one-is-over R (plain s) o) ∙ (sym (within-room s nodes entries slots nesting small) ∙ e)) (kind-in-table (o .first .kind))
 

@@ -11,7 +11,7 @@ use Rattle.promises.specs.Agreement.{Agree}
 use Rattle.promises.proofs.Same.{one, retold}
 
 -- the answer, from the grammar's words back
-abbrev outcomeFrom : Answer Counts → Outcome
+abbrev pub outcomeFrom : Answer Counts → Outcome
 outcomeFrom (gives counts) = outcome.Read (counts .consumed) (counts .nodes) (counts .entries) (counts .slots)
 outcomeFrom (stops number place) = outcome.Refused number place
 

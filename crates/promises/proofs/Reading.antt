@@ -10,7 +10,6 @@ use Rattle.refusals.specs.Numbers.{accepted}
 use Rattle.grammar.specs.Reading.{Answer, gives, stops}
 use Rattle.grammar.specs.State.{State}
 use Rattle.grammar.specs.Answer.{Counts, answered, reading, readOf}
-use Rattle.grammar.proofs.Bounded.{Bytes}
 use Rattle.writing.specs.Answer.{written, outputHeld}
 use Rattle.writer.specs.Entry.{wroteOf}
 use Rattle.sillgarland.specs.Values.{readStruct, wroteStruct}
@@ -35,7 +34,7 @@ pub record Exact (W : Writer) (w : W .Calls) : Type 0 where
 -- `deserialize_value` and `serialize_value`
 pub deserialize-exactly : Exactly deserializeValue
 deserialize-exactly c =
-    let m = c .call .meets in
+    let m = c .meets in
     λ i. record { answer = m .answer i; nodes = m .nodes i; entries = m .entries i; slots = m .slots i }
 
 wrote-back : (a : Answer (List ℕ)) → wroteAs (wroteOf a) ≡ lengthIn a
@@ -46,13 +45,13 @@ pub serialize-exact : (w : serializeValue .Calls) → Exact serializeValue w
 serialize-exact w = record { answer = ap wroteAs (w .meets .answers) ∙ wrote-back (writtenBy serializeValue w); output = w .meets .holds }
 
 -- The structs.
-answered-in-table : (s : List ℕ) → Bytes s → (nodes entries slots nesting : ℕ) → Tabled (readOf s nodes entries slots nesting .answer)
+answered-in-table : (s : List ℕ) (nodes entries slots nesting : ℕ) → Tabled (readOf s nodes entries slots nesting .answer)
 unfolding readOf
-answered-in-table s bytes nodes entries slots nesting = go (reading s nodes entries slots nesting) refl
+answered-in-table s nodes entries slots nesting = go (reading s nodes entries slots nesting) refl
   where
     go : (a : Answer (ℕ × State)) → reading s nodes entries slots nesting ≡ a → Tabled (answered a)
     go (gives r) e = tt
-    go (stops n p) e = reading-in-table s bytes nodes entries slots nesting n p e
+    go (stops n p) e = reading-in-table s nodes entries slots nesting n p e
 
 read-back : (a : Answer Counts) → Tabled a → answerIn (readStruct a) ≡ a
 read-back (gives counts) h = refl
@@ -60,8 +59,8 @@ read-back (stops number place) h = rw (ne-eqb number accepted (λ e. omega (arit
 
 pub sill-read-exactly : Exactly sillRead
 sill-read-exactly c =
-    let m = c .call .meets in
-    let e = ap answerIn (m .numbers) ∙ read-back _ (answered-in-table (sillRead .input c) (c .bytes) (sillRead .nodes c) (sillRead .entries c) (sillRead .slots c) (sillRead .nesting c)) in
+    let m = c .meets in
+    let e = ap answerIn (m .numbers) ∙ read-back _ (answered-in-table (sillRead .input c) (sillRead .nodes c) (sillRead .entries c) (sillRead .slots c) (sillRead .nesting c)) in
     λ i. record { answer = e i; nodes = m .holds-nodes i; entries = m .holds-entries i; slots = m .holds-slots i }
 
 wrote-in : (a : Answer (List ℕ)) → Tabled a → wroteIn (wroteStruct (wroteOf a)) ≡ lengthIn a

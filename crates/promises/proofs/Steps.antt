@@ -1,6 +1,6 @@
--- One answer for each call of the functions of `steps`: by an equation, or in the grammar's words. Two leave a part open: what `attach`
--- leaves in the entries where there is no room, and which of the numbers of one rule `next_child` gives.
-use mathlib.Core.Path.{_≡_, refl, sym, _∙_, ap}
+-- One answer for each call of the functions of `steps`: by an equation, in the grammar's words, or, of what comes next, by cases of the two
+-- answers. Assumes nothing.
+use mathlib.Core.Path.{_≡_, refl, sym, _∙_, ap, ap₂}
 use Prim.Native.Nat.{ℕ}
 use mathlib.Core.Bool.{Bool, true, false}
 use mathlib.Core.List.{List}
@@ -12,7 +12,7 @@ use Rattle.grammar.specs.Steps.{Front, known, opens, codeParts}
 use Rattle.fields.specs.declared.Kids.{Kids}
 use Rattle.fields.specs.declared.Kids.the-variants as kind
 use Rattle.steps.specs.Opening.{frontOf}
-use Rattle.steps.specs.Linking.{ruleOf, ItemNext, PairNext, PartNext, NextOf}
+use Rattle.steps.specs.Linking.{ItemNext, PairNext, PartNext, NextOf}
 use Rattle.steps.specs.declared.Opened.{Opened}
 use Rattle.steps.specs.declared.Opened.the-variants as opened
 use Rattle.steps.specs.declared.Line.{Line}
@@ -21,8 +21,7 @@ use Rattle.steps.specs.declared.Linked.the-variants as linked
 use Rattle.steps.specs.declared.Next.{Next}
 use Rattle.steps.specs.declared.Next.the-variants as next
 use Rattle.steps.proofs as steps
-use Rattle.promises.specs.Agreement.{Agree, AgreeAs}
-use Rattle.promises.specs.Partly.{whereRoom, NextAlike, byRule}
+use Rattle.promises.specs.Agreement.{Agree}
 use Rattle.promises.proofs.Same.{one, retold}
 use Rattle.promises.proofs.Fields.{kidsFrom, kids-back}
 
@@ -46,9 +45,8 @@ byte-at-agrees κs a asked r r′ ws ws′ p p′ = (one (p .0) (p′ .0), refl)
 pub front-agrees : Agree steps.front.ended steps.front.Reads.Asked steps.front.Reads.Learnt
 front-agrees κs a asked r r′ ws ws′ p p′ = (retold frontOf frontFrom front-back (p .exact 0) (p′ .exact 0), refl)
 
-pub attach-agrees : AgreeAs steps.attach.ended whereRoom steps.attach.Reads.Asked steps.attach.Reads.Learnt
-attach-agrees κs a asked r r′ ws ws′ p p′ =
-    (one (p .answer) (p′ .answer), λ room i. (one (p .entries room) (p′ .entries room) i, (tt, (tt, (tt, (tt, (tt, tt)))))))
+pub attach-agrees : Agree steps.attach.ended steps.attach.Reads.Asked steps.attach.Reads.Learnt
+attach-agrees κs a asked r r′ ws ws′ p p′ = (one (p .answer) (p′ .answer), λ i. (one (p .entries) (p′ .entries) i, (tt, (tt, (tt, (tt, (tt, tt)))))))
 
 pub is-tuple-agrees : Agree steps.is_tuple.ended steps.is_tuple.Reads.Asked steps.is_tuple.Reads.Learnt
 is-tuple-agrees κs a asked r r′ ws ws′ p p′ = (one p p′, refl)
@@ -63,25 +61,25 @@ pub node-size-agrees : Agree steps.node_size.ended steps.node_size.Reads.Asked s
 node-size-agrees κs a asked r r′ ws ws′ p p′ = (one p p′, refl)
 
 -- What comes next, by the kind of the children.
-items-alike : (count : ℕ) (l : Line) (r r′ : Next) → ItemNext count l r → ItemNext count l r′ → NextAlike r r′
-items-alike count l (next.Child m rule) (next.Child m′ rule′) h h′ = (one (h .0) (h′ .0), ap ruleOf (one (h .1) (h′ .1)))
-items-alike count l (next.Child m rule) (next.Done m′) h h′ = let a = h .2 in let b = h′ .1 in omega (arith, a, b)
-items-alike count l (next.Child m rule) (next.Refused n′ p′) h h′ = h′
-items-alike count l (next.Done m) (next.Child m′ rule′) h h′ = let a = h .1 in let b = h′ .2 in omega (arith, a, b)
-items-alike count l (next.Done m) (next.Done m′) h h′ = one (h .0) (h′ .0)
-items-alike count l (next.Done m) (next.Refused n′ p′) h h′ = h′
+items-alike : (count : ℕ) (l : Line) (r r′ : Next) → ItemNext count l r → ItemNext count l r′ → r ≡ r′
+items-alike count l (next.Child m rule) (next.Child m′ rule′) h h′ = ap₂ next.Child (one (h .0) (h′ .0)) (one (h .1) (h′ .1))
+items-alike count l (next.Child m rule) (next.Done m′) h h′ = let a = h .2 in let b = h′ .1 in absurd (omega (arith, a, b))
+items-alike count l (next.Child m rule) (next.Refused n′ p′) h h′ = absurd h′
+items-alike count l (next.Done m) (next.Child m′ rule′) h h′ = let a = h .1 in let b = h′ .2 in absurd (omega (arith, a, b))
+items-alike count l (next.Done m) (next.Done m′) h h′ = ap next.Done (one (h .0) (h′ .0))
+items-alike count l (next.Done m) (next.Refused n′ p′) h h′ = absurd h′
 items-alike count l (next.Refused n p) r′ h h′ = absurd h
 
-pairs-alike : (s : List ℕ) (l : Line) (r r′ : Next) → PairNext s l r → PairNext s l r′ → NextAlike r r′
-pairs-alike s l (next.Child m rule) (next.Child m′ rule′) h h′ = (one (h .0) (h′ .0), ap ruleOf (one (h .1) (h′ .1)))
-pairs-alike s l (next.Child m rule) (next.Done m′) h h′ = h .2 (h′ .1) .1 (h′ .3)
-pairs-alike s l (next.Child m rule) (next.Refused n′ p′) h h′ = let a = h .2 (h′ .2) .0 in let b = h′ .3 in omega (arith, a, b)
-pairs-alike s l (next.Done m) (next.Child m′ rule′) h h′ = h′ .2 (h .1) .1 (h .3)
-pairs-alike s l (next.Done m) (next.Done m′) h h′ = one (h .0) (h′ .0)
-pairs-alike s l (next.Done m) (next.Refused n′ p′) h h′ = let a = h .2 in let b = h′ .3 in omega (arith, a, b)
-pairs-alike s l (next.Refused n p) (next.Child m′ rule′) h h′ = let a = h′ .2 (h .2) .0 in let b = h .3 in omega (arith, a, b)
-pairs-alike s l (next.Refused n p) (next.Done m′) h h′ = let a = h′ .2 in let b = h .3 in omega (arith, a, b)
-pairs-alike s l (next.Refused n p) (next.Refused n′ p′) h h′ = (one (h .0) (h′ .0), one (h .1) (h′ .1))
+pairs-alike : (s : List ℕ) (l : Line) (r r′ : Next) → PairNext s l r → PairNext s l r′ → r ≡ r′
+pairs-alike s l (next.Child m rule) (next.Child m′ rule′) h h′ = ap₂ next.Child (one (h .0) (h′ .0)) (one (h .1) (h′ .1))
+pairs-alike s l (next.Child m rule) (next.Done m′) h h′ = absurd (h .2 (h′ .1) .1 (h′ .3))
+pairs-alike s l (next.Child m rule) (next.Refused n′ p′) h h′ = let a = h .2 (h′ .2) .0 in let b = h′ .3 in absurd (omega (arith, a, b))
+pairs-alike s l (next.Done m) (next.Child m′ rule′) h h′ = absurd (h′ .2 (h .1) .1 (h .3))
+pairs-alike s l (next.Done m) (next.Done m′) h h′ = ap next.Done (one (h .0) (h′ .0))
+pairs-alike s l (next.Done m) (next.Refused n′ p′) h h′ = let a = h .2 in let b = h′ .3 in absurd (omega (arith, a, b))
+pairs-alike s l (next.Refused n p) (next.Child m′ rule′) h h′ = let a = h′ .2 (h .2) .0 in let b = h .3 in absurd (omega (arith, a, b))
+pairs-alike s l (next.Refused n p) (next.Done m′) h h′ = let a = h′ .2 in let b = h .3 in absurd (omega (arith, a, b))
+pairs-alike s l (next.Refused n p) (next.Refused n′ p′) h h′ = ap₂ next.Refused (one (h .0) (h′ .0)) (one (h .1) (h′ .1))
 
 -- a line that goes on is no refusal
 abbrev lineIn : Line → Linked → Line
@@ -110,24 +108,24 @@ refused-alike s ns at l n p n′ p′ h h′ = go (ltb (l .count) codeParts) ref
       let more = ltb-false (l .count) codeParts e in
       (one (h .1 more .1) (h′ .1 more .1), one (h .1 more .0) (h′ .1 more .0))
 
-parts-alike : (s ns : List ℕ) (at : ℕ) (l : Line) (r r′ : Next) → PartNext s ns at l r → PartNext s ns at l r′ → NextAlike r r′
-parts-alike s ns at l (next.Child m rule) (next.Child m′ rule′) h h′ = (ap (lineIn l) (one (sym (h .0)) (sym (h′ .0))), one (h .1) (h′ .1))
-parts-alike s ns at l (next.Child m rule) (next.Done m′) h h′ = let a = h .2 in let b = h′ .1 in omega (arith, a, b)
-parts-alike s ns at l (next.Child m rule) (next.Refused n′ p′) h h′ = line-or-refused (h .0) (h′ .0 (h .2))
-parts-alike s ns at l (next.Done m) (next.Child m′ rule′) h h′ = let a = h .1 in let b = h′ .2 in omega (arith, a, b)
-parts-alike s ns at l (next.Done m) (next.Done m′) h h′ = one (h .0) (h′ .0)
-parts-alike s ns at l (next.Done m) (next.Refused n′ p′) h h′ = h′ .1 (h .1) .2 (h′ .1 (h .1) .1 ∙ h .2)
-parts-alike s ns at l (next.Refused n p) (next.Child m′ rule′) h h′ = line-or-refused (h′ .0) (h .0 (h′ .2))
-parts-alike s ns at l (next.Refused n p) (next.Done m′) h h′ = h .1 (h′ .1) .2 (h .1 (h′ .1) .1 ∙ h′ .2)
-parts-alike s ns at l (next.Refused n p) (next.Refused n′ p′) h h′ = refused-alike s ns at l n p n′ p′ h h′
+parts-alike : (s ns : List ℕ) (at : ℕ) (l : Line) (r r′ : Next) → PartNext s ns at l r → PartNext s ns at l r′ → r ≡ r′
+parts-alike s ns at l (next.Child m rule) (next.Child m′ rule′) h h′ = ap₂ next.Child (ap (lineIn l) (one (sym (h .0)) (sym (h′ .0)))) (one (h .1) (h′ .1))
+parts-alike s ns at l (next.Child m rule) (next.Done m′) h h′ = let a = h .2 in let b = h′ .1 in absurd (omega (arith, a, b))
+parts-alike s ns at l (next.Child m rule) (next.Refused n′ p′) h h′ = absurd (line-or-refused (h .0) (h′ .0 (h .2)))
+parts-alike s ns at l (next.Done m) (next.Child m′ rule′) h h′ = let a = h .1 in let b = h′ .2 in absurd (omega (arith, a, b))
+parts-alike s ns at l (next.Done m) (next.Done m′) h h′ = ap next.Done (one (h .0) (h′ .0))
+parts-alike s ns at l (next.Done m) (next.Refused n′ p′) h h′ = absurd (h′ .1 (h .1) .2 (h′ .1 (h .1) .1 ∙ h .2))
+parts-alike s ns at l (next.Refused n p) (next.Child m′ rule′) h h′ = absurd (line-or-refused (h′ .0) (h .0 (h′ .2)))
+parts-alike s ns at l (next.Refused n p) (next.Done m′) h h′ = absurd (h .1 (h′ .1) .2 (h .1 (h′ .1) .1 ∙ h′ .2))
+parts-alike s ns at l (next.Refused n p) (next.Refused n′ p′) h h′ = let e = refused-alike s ns at l n p n′ p′ h h′ in ap₂ next.Refused (e .0) (e .1)
 
-next-alike : (s ns : List ℕ) (kids : Kids) (at : ℕ) (l : Line) (r r′ : Next) → NextOf s ns kids at l r → NextOf s ns kids at l r′ → NextAlike r r′
+next-alike : (s ns : List ℕ) (kids : Kids) (at : ℕ) (l : Line) (r r′ : Next) → NextOf s ns kids at l r → NextOf s ns kids at l r′ → r ≡ r′
 next-alike s ns (kind.Items count) at l r r′ h h′ = items-alike count l r r′ h h′
 next-alike s ns kind.Pairs at l r r′ h h′ = pairs-alike s l r r′ h h′
 next-alike s ns kind.Parts at l r r′ h h′ = parts-alike s ns at l r r′ h h′
 
-pub next-child-agrees : AgreeAs steps.next_child.ended byRule steps.next_child.Reads.Asked steps.next_child.Reads.Learnt
-next-child-agrees κs a asked r r′ ws ws′ p p′ = next-alike _ _ (a .1 .1 .0) _ _ r r′ (p .is) (p′ .is)
+pub next-child-agrees : Agree steps.next_child.ended steps.next_child.Reads.Asked steps.next_child.Reads.Learnt
+next-child-agrees κs a asked r r′ ws ws′ p p′ = (next-alike _ _ (a .1 .1 .0) _ _ r r′ (p .is) (p′ .is), refl)
 
 pub below-agrees : Agree steps.below.ended steps.below.Reads.Asked steps.below.Reads.Learnt
 below-agrees κs a asked r r′ ws ws′ p p′ = (one p p′, refl)

@@ -10,10 +10,10 @@ use denote.Ref.{now}
 use denote.Triple.Entry.{Args, Res}
 use denote.Triple.Clauses.{Ended, Lasts, atExit}
 use Rattle.refusals.specs.Numbers.{accepted}
+use Rattle.grammar.specs.Input.{Bytes}
 use Rattle.grammar.specs.Reading.{Answer, gives, stops}
 use Rattle.grammar.specs.Answer.{Counts, Outcome}
 use Rattle.grammar.specs.Record.{Tables}
-use Rattle.grammar.proofs.Bounded.{Bytes}
 use Rattle.reader.specs.Delivered.{answerOf}
 use Rattle.reader.proofs as reader
 use Rattle.puts.specs.declared.Wrote.{Wrote}
@@ -38,7 +38,6 @@ pub record Call (f : Ended) (asked : Asks f) (learnt : Tells f) : Type 0 where
 pub record Reader : Type 1 where
   pub Calls : Type 0
   pub input : Calls → List ℕ
-  pub bytes : (c : Calls) → Bytes (input c)
   pub nodes : Calls → ℕ
   pub entries : Calls → ℕ
   pub slots : Calls → ℕ
@@ -56,10 +55,23 @@ pub record Writer : Type 1 where
   pub answer : Calls → Answer ℕ
   pub output : Calls → List ℕ
 
--- a call whose first argument is bytes, as its type says
-pub record OfBytes (C : Type 0) (input : C → List ℕ) : Type 0 where
-  pub call : C
-  pub bytes : Bytes (input call)
+-- A reader's calls with bytes, each below 256, as the type of its input says. Demand 2 is of these: a number is the same once it is written
+-- back only if the four or eight numbers that it was read from are bytes. Demands 1 and 3 do not ask it.
+pub record OfBytes (R : Reader) : Type 0 where
+  pub call : R .Calls
+  pub bytes : Bytes (R .input call)
+
+abbrev pub onBytes : Reader → Reader
+onBytes R =
+    record {
+      Calls = OfBytes R;
+      input = λ c. R .input (c .call);
+      nodes = λ c. R .nodes (c .call);
+      entries = λ c. R .entries (c .call);
+      slots = λ c. R .slots (c .call);
+      nesting = λ c. R .nesting (c .call);
+      ends = λ c. R .ends (c .call);
+    }
 
 -- `deserialize_value`
 abbrev pub Deserialize : Type 0
@@ -68,15 +80,13 @@ Deserialize = Call reader.deserialize_value.ended reader.deserialize_value.Reads
 abbrev pub deserializeValue : Reader
 deserializeValue =
     record {
-      Calls = OfBytes Deserialize (λ c. now (c .args .0));
-      input = λ c. now (c .call .args .0);
-      bytes = λ c. c .bytes;
-      nodes = λ c. length (now (c .call .args .1 .0));
-      entries = λ c. length (now (c .call .args .1 .1 .0));
-      slots = λ c. length (now (c .call .args .1 .1 .1 .0));
-      nesting = λ c. c .call .args .1 .1 .1 .1 .0;
-      ends =
-          λ c. record { answer = answerOf (c .call .result); nodes = c .call .last .1 .0; entries = c .call .last .1 .1 .0; slots = c .call .last .1 .1 .1 .0 };
+      Calls = Deserialize;
+      input = λ c. now (c .args .0);
+      nodes = λ c. length (now (c .args .1 .0));
+      entries = λ c. length (now (c .args .1 .1 .0));
+      slots = λ c. length (now (c .args .1 .1 .1 .0));
+      nesting = λ c. c .args .1 .1 .1 .1 .0;
+      ends = λ c. record { answer = answerOf (c .result); nodes = c .last .1 .0; entries = c .last .1 .1 .0; slots = c .last .1 .1 .1 .0 };
     }
 
 -- `sill_read`: refusal 0 means accepted, and any other number is the refusal's
@@ -92,15 +102,13 @@ Read = Call sillgarland.values.sill_read.ended sillgarland.values.sill_read.Read
 abbrev pub sillRead : Reader
 sillRead =
     record {
-      Calls = OfBytes Read (λ c. now (c .args .0));
-      input = λ c. now (c .call .args .0);
-      bytes = λ c. c .bytes;
-      nodes = λ c. length (now (c .call .args .1 .0));
-      entries = λ c. length (now (c .call .args .1 .1 .0));
-      slots = λ c. length (now (c .call .args .1 .1 .1 .0));
-      nesting = λ c. c .call .args .1 .1 .1 .1 .0;
-      ends =
-          λ c. record { answer = answerIn (c .call .result); nodes = c .call .last .1 .0; entries = c .call .last .1 .1 .0; slots = c .call .last .1 .1 .1 .0 };
+      Calls = Read;
+      input = λ c. now (c .args .0);
+      nodes = λ c. length (now (c .args .1 .0));
+      entries = λ c. length (now (c .args .1 .1 .0));
+      slots = λ c. length (now (c .args .1 .1 .1 .0));
+      nesting = λ c. c .args .1 .1 .1 .1 .0;
+      ends = λ c. record { answer = answerIn (c .result); nodes = c .last .1 .0; entries = c .last .1 .1 .0; slots = c .last .1 .1 .1 .0 };
     }
 
 -- `serialize_value`

@@ -19,7 +19,6 @@ use denote.Triple.Clauses.{Ended, Lasts, atExit}
 use Rattle.refusals.specs.Numbers.{accepted, numberRange}
 use Rattle.lent.specs.Lent.{zeros}
 use Rattle.grammar.specs.Reading.{gives, stops}
-use Rattle.grammar.proofs.Bounded.{Bytes}
 use Rattle.leaf.specs.declared.Answered.the-variants as leaf
 use Rattle.linetable.specs.declared.Located.the-variants as lines
 use Rattle.linetable.specs.Answer.{blank}
@@ -80,8 +79,7 @@ pub record Demand1 : Type 2 where
   pub sill-read :
       EachCall sillgarland.values.sill_read.ended sillgarland.values.sill_read.Reads.Asked sillgarland.values.sill_read.Reads.Learnt sillgarland.values.sill_read.Statement.statement
       (λ c.
-      Bytes (now (c .args .0))
-      → Ends (c .result) (λ counts. readStruct (gives counts)) (λ number place. readStruct (stops number place))
+      Ends (c .result) (λ counts. readStruct (gives counts)) (λ number place. readStruct (stops number place))
       (Zero (now (c .args .1 .0)) (c .last .1 .0) × Zero (now (c .args .1 .1 .0)) (c .last .1 .1 .0) × Zero (now (c .args .1 .1 .1 .0)) (c .last .1 .1 .1 .0)))
   pub sill-write :
       EachCall sillgarland.values.sill_write.ended sillgarland.values.sill_write.Reads.Asked sillgarland.values.sill_write.Reads.Learnt sillgarland.values.sill_write.Statement.statement

@@ -3,5 +3,7 @@ pub mod Partly
 pub mod Calls
 pub mod Demand1
 pub mod Demand2
+pub mod Asked
 pub mod Lines
 pub mod Demand3
+pub mod Substance

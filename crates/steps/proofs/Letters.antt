@@ -10,8 +10,8 @@ use lib.Dec.{eqb}
 use borrow.Author.Tests.{ne-eqb, not-true, not-false}
 use Rattle.grammar.specs.Letters.{isBytes, isTuple, isString}
 use Rattle.grammar.specs.State.{nodeAt, entryAt}
-use Rattle.grammar.specs.Steps.{whatever, asString, rules}
-use Rattle.steps.specs.Linking.{ruleOf, stringsIn}
+use Rattle.grammar.specs.Steps.{Rule, whatever, asBytes, asTuple, asNames, asString, rules}
+use Rattle.steps.specs.Linking.{ruleOf, ruleNumber, stringsIn}
 
 pub tuple-none : (x : ℕ) → (x ≡ 0x28 → ⊥) → (x ≡ 0x29 → ⊥) → false ≡ isTuple x
 tuple-none x a b = rw (ne-eqb x 0x28 a, ne-eqb x 0x29 b) refl
@@ -48,6 +48,13 @@ strings-all ns es zero e h = refl
 strings-all ns es (suc n) e h = absurd (omega arith)
 
 -- rules by number
+pub rule-back : (r : Rule) → ruleOf (ruleNumber r) ≡ r
+rule-back whatever = refl
+rule-back asBytes = refl
+rule-back asTuple = refl
+rule-back asNames = refl
+rule-back asString = refl
+
 pub rule-string : (r : ℕ) → (r ≡ 0 → ⊥) → (r ≡ 1 → ⊥) → (r ≡ 2 → ⊥) → (r ≡ 3 → ⊥) → ruleOf r ≡ asString
 rule-string zero a b c d = absurd (a refl)
 rule-string (suc zero) a b c d = absurd (b refl)

@@ -14,9 +14,10 @@ use Rattle.grammar.specs.Fields.{le32}
 use Rattle.grammar.specs.Steps.{known, stored, reference, codePart, localsPart, kindsPart}
 use Rattle.stores.specs.Written.{entryWritten, entryLinked}
 use Rattle.steps.specs.Opening.{References}
-use Rattle.steps.specs.Linking.{kept, Attaches}
+use Rattle.steps.specs.Linking.{kept, entriesNext, Attaches}
 use Rattle.steps.specs.declared.Walk.{Walk}
 use Rattle.steps.specs.declared.Line.{Line}
+use Rattle.steps.specs.declared.Linked.{Linked}
 use Rattle.steps.specs.declared.Linked.the-variants as linked
 use Rattle.steps.specs.declared.Opened.the-variants as opened
 
@@ -48,8 +49,11 @@ module _ {s slots : List ℕ} {at : ℕ} where
 
 -- `attach`
 module _ {room : ℕ} {l : Line} {place v : ℕ} {a : Walk} {es es′ : List ℕ} where
-  pub attach-none : room ≤ a .entries → Attaches room l place v a es (linked.Refused noEntry place) es′
-  attach-none h = record { answer = rw (le-ltb (a .entries) room h) refl; entries = λ lt. absurd (omega arith) }
+  pub attach-none : room ≤ a .entries → es′ ≡ es → Attaches room l place v a es (linked.Refused noEntry place) es′
+  attach-none h same = record { answer = rw (le-ltb (a .entries) room h) refl; entries = same ∙ rw (le-ltb (a .entries) room h) refl }
+
+  pub attach-entries : {r : Linked} → Attaches room l place v a es r es′ → a .entries < room → es′ ≡ entriesNext es l v a
+  attach-entries k fits = k .entries ∙ rw (lt-ltb (a .entries) room fits) refl
 
   module _ (fits : a .entries < room) {code locals kinds : ℕ} (isCode : code ≡ kept codePart (l .count) v (l .code)) (isLocals : locals ≡ kept localsPart (l .count) v (l .locals)) (isKinds : kinds ≡ kept kindsPart (l .count) v (l .kinds)) {es″ : List ℕ} (written : es″ ≡ entryWritten es (a .entries) (record { child = v; next = nothing })) where
     pub attach-first : l .last ≡ nothing → es′ ≡ es″
@@ -69,7 +73,7 @@ module _ {room : ℕ} {l : Line} {place v : ℕ} {a : Walk} {es es′ : List ℕ
     attach-first none now =
         record {
           answer = rw (isCode, isLocals, isKinds, lt-ltb (a .entries) room fits, eq-eqb (l .last) nothing none) refl;
-          entries = λ h. now ∙ written ∙ rw (eq-eqb (l .last) nothing none) refl;
+          entries = now ∙ written ∙ rw (lt-ltb (a .entries) room fits, eq-eqb (l .last) nothing none) refl;
         }
 
     pub attach-next : (l .last ≡ nothing → ⊥) → es′ ≡ entryLinked es″ (l .last) (a .entries)
@@ -89,5 +93,5 @@ module _ {room : ℕ} {l : Line} {place v : ℕ} {a : Walk} {es es′ : List ℕ
     attach-next some linked =
         record {
           answer = rw (isCode, isLocals, isKinds, lt-ltb (a .entries) room fits, ne-eqb (l .last) nothing some) refl;
-          entries = λ h. linked ∙ ap (λ t. entryLinked t (l .last) (a .entries)) written ∙ rw (ne-eqb (l .last) nothing some) refl;
+          entries = linked ∙ ap (λ t. entryLinked t (l .last) (a .entries)) written ∙ rw (lt-ltb (a .entries) room fits, ne-eqb (l .last) nothing some) refl;
         }

@@ -48,22 +48,33 @@ entriesNext es l v a =
     (entryWritten es (a .entries) (record { child = v; next = nothing }))
     (entryLinked (entryWritten es (a .entries) (record { child = v; next = nothing })) (l .last) (a .entries))
 
+-- the entries that are left: where there is no room for one more, as they were
+abbrev pub entriesAfter : (room : ℕ) → List ℕ → Line → ℕ → Walk → List ℕ
+entriesAfter room es l v a = cond (ltb (a .entries) room) (entriesNext es l v a) es
+
 abbrev pub attached : (room : ℕ) → Line → (place child : ℕ) → Walk → Linked
 attached room l place v a = cond (ltb (a .entries) room) (linked.Line (lineNext l v a)) (linked.Refused noEntry place)
 
 pub record Attaches (room : ℕ) (l : Line) (place v : ℕ) (a : Walk) (es : List ℕ) (r : Linked) (es′ : List ℕ) : Type 0 where
   pub answer : r ≡ attached room l place v a
-  pub entries : a .entries < room → es′ ≡ entriesNext es l v a
+  pub entries : es′ ≡ entriesAfter room es l v a
 
 -- A part and its rule.
 
--- the rules by number
+-- the rules by number, and the number of each
 abbrev pub ruleOf : ℕ → Rule
 ruleOf zero = whatever
 ruleOf (suc zero) = asBytes
 ruleOf (suc (suc zero)) = asTuple
 ruleOf (suc (suc (suc zero))) = asNames
 ruleOf (suc (suc (suc (suc n)))) = asString
+
+abbrev pub ruleNumber : Rule → ℕ
+ruleNumber whatever = 0
+ruleNumber asBytes = 1
+ruleNumber asTuple = 2
+ruleNumber asNames = 3
+ruleNumber asString = 4
 
 -- `strings` and `suits` of the definitions, over the stores
 unfoldable pub stringsIn : (ns es : List ℕ) → (more e : ℕ) → Bool
@@ -132,7 +143,7 @@ PairNext s l (next.Refused n p) = (n ≡ eofObject) × (p ≡ l .walk .at) × (l
 
 abbrev pub PartNext : (s ns : List ℕ) → ℕ → Line → Next → Type 0
 PartNext s ns at l (next.Child m rule) =
-    (firstLined s (l .count) l ≡ linked.Line m) × (ruleOf rule ≡ getD rules (l .count) whatever) × (l .count < codeParts)
+    (firstLined s (l .count) l ≡ linked.Line m) × (rule ≡ ruleNumber (getD rules (l .count) whatever)) × (l .count < codeParts)
 PartNext s ns at l (next.Done m) = (m ≡ l) × (codeParts ≤ l .count) × (faultIn s ns (at + 1) l ≡ accepted)
 PartNext s ns at l (next.Refused n p) =
     (l .count < codeParts → firstLined s (l .count) l ≡ linked.Refused n p)

@@ -13,7 +13,7 @@ ghost use Rattle.grammar.specs.Steps.{rules, whatever, codeParts, sizeOf};
 ghost use Rattle.fields.specs.Classes.{keptClasses};
 ghost use Rattle.fields.specs.Behind.{childrenOf};
 ghost use Rattle.steps.specs.Opening.{References, Opens, Fronts};
-ghost use Rattle.steps.specs.Linking.{Attaches, ItemNext, PairNext, PartNext, Nexts, belowOf, ruleOf, stringsIn, suitsIn, firstLined, faultIn};
+ghost use Rattle.steps.specs.Linking.{Attaches, ItemNext, PairNext, PartNext, Nexts, belowOf, ruleOf, ruleNumber, stringsIn, suitsIn, firstLined, faultIn};
 ghost use Rattle.steps.specs.Linking;
 
 // How much of each store may be used.
@@ -275,7 +275,7 @@ pub const AS_STRING: u32 = 4;
 
 // The rule of the ith part of a code.
 fn rule_at(i: u32) -> u32
-    ensures { λ r. ⌜ ruleOf r ≡ getD rules i whatever ⌝ }
+    ensures { λ r. ⌜ r ≡ ruleNumber (getD rules i whatever) ⌝ }
 {
     match i {
         0 => AS_BYTES,
