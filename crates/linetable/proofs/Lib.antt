@@ -8,3 +8,4 @@ pub mod Whole
 pub mod Layer
 pub mod Relent
 pub mod Sheet
+pub mod Entered

@@ -34,7 +34,7 @@ at-next a b c d xs j =
     rw (e₃, e₂, e₁, e₀) (simp leb·suc-suc)
 
 -- records before zeros, at any index
-at-record : (ls : List Location) (m j : ℕ) → locationAt (numbers ls ++ zeros m) j ≡ getD ls j blank
+pub at-record : (ls : List Location) (m j : ℕ) → locationAt (numbers ls ++ zeros m) j ≡ getD ls j blank
 unfolding locationAt
 at-record [] m j = at-zeros (ltb (4 * j + 3) (length (zeros m))) m j
 at-record (l ∷ ls) m zero =

@@ -1,3 +1,4 @@
 pub mod Walk
 pub mod Answer
 pub mod Complete
+pub mod FromEntries

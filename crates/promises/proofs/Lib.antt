@@ -23,5 +23,6 @@ pub mod Demand1
 pub mod Demand2
 pub mod Asked
 pub mod Lines
+pub mod LittleEndian
 pub mod Demand3
 pub mod Substance

@@ -1,39 +1,41 @@
 -- No two numbers are written alike, not even where something follows: what is written reads back.
 -- Assumes nothing.
-use mathlib.Core.Path.{_≡_, sym, ap, _∙_}
+use mathlib.Core.Path.{_≡_, refl, sym, ap, _∙_}
 use mathlib.Core.List.{List, [], _++_}
-use mathlib.Core.Option.{Option, none, some}
-use Prim.Native.Nat.{ℕ, _+_, _^_, _<_}
-use lib.IntN.{ℤ, pos}
-use mir.Syntax.{w32}
-use mir.Val.{SFits, ofZ}
+use mathlib.Core.Bool.{Bool, true, false}
+use Prim.Native.Nat.{ℕ, _+_, _-_, _*_, _^_, _<_}
+use native.Mathlib.Omega.{arith}
+use lib.Dec.{ltb}
+use Rattle.lineentry.specs.Varint.{digits, number}
 use Rattle.varint.specs.Writing.{littleEndian, bigEndian, bigEndianWithStart, signedCode}
-use Rattle.varint.specs.Reading.{readVarint, readVarintWithStart, readLittleEndian, readSigned}
+use Rattle.varint.specs.Reading.{readVarint, readVarintWithStart}
 use Rattle.varint.specs.declared.Found.{Found}
 use Rattle.varint.specs.declared.Found.the-variants.{Number, Nothing}
-use Rattle.varint.proofs.ReadsBack.{little-endian-reads-back, big-endian-reads-back, with-start-reads-back, signed-reads-back}
+use Rattle.varint.proofs.ReadsBack.{little-endian-stands, big-endian-reads-back, with-start-reads-back}
 
 -- the number of an answer
-first : {A : Type 0} → A → Option (A × List ℕ) → A
-first other none = other
-first other (some read) = read .0
-
 value : Found → ℕ
 value (Number n next whole) = n
 value Nothing = 0
 
 pub little-endian-apart : (m n : ℕ) (s t : List ℕ) → littleEndian m ++ s ≡ littleEndian n ++ t → m ≡ n
-unfolding first
 little-endian-apart m n s t h =
-    ap (first 0)
-    (sym (little-endian-reads-back m s) ∙ ap readLittleEndian h ∙ little-endian-reads-back n t)
+    let a = little-endian-stands m s in
+    let b = little-endian-stands n t in
+    sym (a .its-number) ∙ ap number (sym (a .its-digits) ∙ ap digits h ∙ b .its-digits) ∙ b .its-number
 
-pub signed-apart : (y z : ℤ) (s t : List ℕ) → SFits w32 y → SFits w32 z → (ofZ w32 y ≡ 2 ^ 31 → ⊥) → (ofZ w32 z ≡ 2 ^ 31 → ⊥)
-    → littleEndian (signedCode (ofZ w32 y)) ++ s ≡ littleEndian (signedCode (ofZ w32 z)) ++ t → y ≡ z
-unfolding first
-signed-apart y z s t fy fz oy oz h =
-    ap (first (pos 0))
-    (sym (signed-reads-back y s fy oy) ∙ ap readSigned h ∙ signed-reads-back z t fz oz)
+-- the code of a signed number is no other's
+codes-apart : (y z : ℕ) → y < 2 ^ 32 → z < 2 ^ 32 → signedCode y ≡ signedCode z → y ≡ z
+codes-apart y z fy fz h = go (ltb y (2 ^ 31)) (ltb z (2 ^ 31)) refl refl h
+  where
+    go : (s t : Bool) → ltb y (2 ^ 31) ≡ s → ltb z (2 ^ 31) ≡ t → signedCode y ≡ signedCode z → y ≡ z
+    go true true d e k = let q : y * 2 ≡ z * 2 = rw (d, e) at k in omega arith
+    go true false d e k = let q : y * 2 ≡ (2 ^ 32 - z) * 2 + 1 = rw (d, e) at k in absurd (omega arith)
+    go false true d e k = let q : (2 ^ 32 - y) * 2 + 1 ≡ z * 2 = rw (d, e) at k in absurd (omega arith)
+    go false false d e k = let q : (2 ^ 32 - y) * 2 + 1 ≡ (2 ^ 32 - z) * 2 + 1 = rw (d, e) at k in omega arith
+
+pub signed-apart : (y z : ℕ) (s t : List ℕ) → y < 2 ^ 32 → z < 2 ^ 32 → littleEndian (signedCode y) ++ s ≡ littleEndian (signedCode z) ++ t → y ≡ z
+signed-apart y z s t fy fz h = codes-apart y z fy fz (little-endian-apart (signedCode y) (signedCode z) s t h)
 
 pub big-endian-apart : (m n : ℕ) (s t : List ℕ) → m < 2 ^ 32 → n < 2 ^ 32 → bigEndian m ++ s ≡ bigEndian n ++ t → m ≡ n
 unfolding value

@@ -3,20 +3,20 @@
 use mathlib.Core.Path.{_≡_, refl, sym, ap, _∙_}
 use mathlib.Core.Bool.{Bool, true, false}
 use mathlib.Core.List.{List, [], _∷_, _++_, append-assoc}
-use mathlib.Core.Option.{some}
 use Prim.Native.Nat.{ℕ, zero, suc, _+_, _-_, _*_, _/_, _%_, _^_, _≤_, _<_}
 use native.Mathlib.Omega.{arith}
-use lib.Dec.{ltb}
-use lib.IntN.{ℤ, pos, negsuc}
+use lib.Dec.{ltb, leb}
 use lib.ListN.{length, length-append}
 use lib.Seq.{drop-append-seam, getD-append-seam}
-use mir.Syntax.{w32}
-use mir.Val.{SFits, ofZ}
-use borrow.Author.Tests.{ltb-true, ltb-false, lt-ltb, le-ltb, le-leb, eq-eqb, ne-eqb}
+use borrow.Author.Tests.{ltb-true, ltb-false, lt-ltb, le-leb, lt-leb, eq-eqb, ne-eqb}
+use Rattle.lineentry.specs.declared.Varint.the-variants.{Value}
+use Rattle.lineentry.specs.Line.{asSigned}
+use Rattle.lineentry.specs.Varint.{digits, number, cut, varintWithin, varintAt, signedOf, signedAt}
 use Rattle.varint.specs.Writing.{littleEndian, bigEndian, started, bigEndianWithStart, signedCode}
-use Rattle.varint.specs.Reading.{more, readGroups, readVarint, readVarintWithStart, readLittleEndian, signedOf, readSigned}
+use Rattle.varint.specs.Reading.{more, readGroups, readVarint, readVarintWithStart}
 use Rattle.varint.specs.declared.Found.the-variants.{Number}
-use Rattle.varint.proofs.Bytes.{little-last, little-more, ahead, ahead-none, ahead-more, big-last, length-started}
+use Rattle.varint.proofs.Groups.{size-six}
+use Rattle.varint.proofs.Bytes.{little-last, little-more, ahead, ahead-none, ahead-more, big-last, length-little, length-started}
 
 -- 0x40 and what is below it
 more-yes : (g : ℕ) → g < 64 → more (0x40 + g) ≡ true
@@ -25,25 +25,47 @@ more-yes g h = eq-eqb ((0x40 + g) / 0x40 % 2) 1 (omega arith)
 more-no : (g : ℕ) → g < 64 → more g ≡ false
 more-no g h = ne-eqb (g / 0x40 % 2) 1 (λ e. omega arith)
 
-little-back : (f n : ℕ) (after : List ℕ) → n ≤ f → readLittleEndian (littleEndian n ++ after) ≡ some (n, after)
-unfolding readLittleEndian
-little-back zero n after h =
+-- a line table's bytes: 0x40 is asked of the seven low bits
+table-more : (g : ℕ) → g < 64 → leb 64 ((0x40 + g) % 128) ≡ true
+table-more g h = le-leb 64 ((0x40 + g) % 128) (omega arith)
+
+table-last : (g : ℕ) → g < 64 → leb 64 (g % 128) ≡ false
+table-last g h = lt-leb 64 (g % 128) (omega arith)
+
+-- What `lineentry` finds where a number's little-endian bytes stand: those bytes are its digits, their groups sum to the number, and none
+-- is missing.
+pub record Stands (n : ℕ) (after : List ℕ) : Type 0 where
+  pub its-digits : digits (littleEndian n ++ after) ≡ littleEndian n
+  pub its-number : number (littleEndian n) ≡ n
+  pub not-cut : cut (littleEndian n ++ after) ≡ false
+
+little-stands : (f n : ℕ) (after : List ℕ) → n ≤ f → Stands n after
+little-stands zero n after h =
     let e : n ≡ 0 = omega arith in
-    rw (e, little-last 0 (omega arith))
-little-back (suc f) n after h = go (ltb n 64) refl (little-back f (n / 64) after (omega arith))
+    rw e (record { its-digits = rw (little-last 0 (omega arith)); its-number = rw (little-last 0 (omega arith)); not-cut = rw (little-last 0 (omega arith)) })
+little-stands (suc f) n after h = go (ltb n 64) refl (little-stands f (n / 64) after (omega arith))
   where
-    go : (t : Bool) → ltb n 64 ≡ t → readLittleEndian (littleEndian (n / 64) ++ after) ≡ some (n / 64, after)
-        → readLittleEndian (littleEndian n ++ after) ≡ some (n, after)
+    go : (t : Bool) → ltb n 64 ≡ t → Stands (n / 64) after → Stands n after
     go true e i =
         let k = ltb-true n 64 e in
-        let r : n % 64 ≡ n = omega arith in
-        rw (little-last n k, more-no n k, r)
+        let r : n % 64 + 64 * 0 ≡ n = omega arith in
+        record {
+          its-digits = rw (little-last n k, table-last n k);
+          its-number = rw (little-last n k) r;
+          not-cut = rw (little-last n k, table-last n k);
+        }
     go false e i =
+        let k = ltb-false n 64 e in
+        let m = table-more (n % 64) (omega arith) in
         let r : (0x40 + n % 64) % 64 + 64 * (n / 64) ≡ n = omega arith in
-        rw (little-more n (ltb-false n 64 e), more-yes (n % 64) (omega arith), i, r)
+        record {
+          its-digits = rw (little-more n k, m, i .its-digits);
+          its-number = rw (little-more n k, i .its-number) r;
+          not-cut = rw (little-more n k, m, i .not-cut);
+        }
 
-pub little-endian-reads-back : (n : ℕ) (after : List ℕ) → readLittleEndian (littleEndian n ++ after) ≡ some (n, after)
-little-endian-reads-back n after = little-back n n after (omega arith)
+pub little-endian-stands : (n : ℕ) (after : List ℕ) → Stands n after
+little-endian-stands n after = little-stands n n after (omega arith)
 
 -- a byte with 0x40, and one without
 group-reads : (val next g : ℕ) (rest : List ℕ) → g < 64
@@ -88,8 +110,18 @@ ahead-reads (suc f) n next rest h =
         let y : next + 0 ≡ next = omega arith in
         rw (z, ahead-none, y)
 
--- big-endian, from any place of a larger input
+-- from any place of a larger input
 module _ (before : List ℕ) (n : ℕ) (after : List ℕ) where
+  -- little-endian, as a line table's numbers are read
+  pub little-endian-reads-back : n < 2 ^ 32
+      → varintAt (before ++ (littleEndian n ++ after)) (length before) ≡ Value n (length before + length (littleEndian n)) false
+  unfolding varintWithin
+  little-endian-reads-back h =
+      let i = little-endian-stands n after in
+      let six : length (littleEndian n) ≤ 6 = omega (arith, length-little n, size-six n h) in
+      let v : n % 2 ^ 32 ≡ n = omega arith in
+      rw (drop-append-seam before (littleEndian n ++ after), i .its-digits, i .its-number, i .not-cut, le-leb _ 6 six, v)
+
   -- what is read where the bytes stand
   reads-there : (bytes : List ℕ) → 1 ≤ length bytes
       → readVarint (before ++ (bytes ++ after)) (length before) ≡ readGroups 0 (length before) (bytes ++ after)
@@ -144,20 +176,22 @@ module _ (before : List ℕ) (n : ℕ) (after : List ℕ) where
       (start-stands (bigEndian n) big-some ∙ start-unread (bigEndian n) big-some ∙ big-endian-reads-back h)
 
 -- a signed number's code stands for the number, the smallest aside
-pub code-back : (z : ℤ) → SFits w32 z → (ofZ w32 z ≡ 2 ^ 31 → ⊥) → signedOf (signedCode (ofZ w32 z)) ≡ z
-code-back (pos n) fits other =
-    let h : n < 2 ^ 31 = omega (arith, fits .sfits) in
-    let half : n * 2 / 2 ≡ n = omega arith in
-    rw (lt-ltb n (2 ^ 31) h, ne-eqb (n * 2 % 2) 1 (λ e. omega arith), half)
-code-back (negsuc n) fits other =
-    let bits = 2 ^ 32 - suc n in
-    let h : 2 ^ 31 ≤ bits = omega (arith, fits .sfits) in
-    let odd : ((2 ^ 32 - bits) * 2 + 1) % 2 ≡ 1 = omega arith in
-    let half : ((2 ^ 32 - bits) * 2 + 1) / 2 ≡ suc n = omega (arith, fits .sfits) in
-    rw (le-ltb bits (2 ^ 31) h, eq-eqb _ 1 odd, half)
+pub code-back : (bits : ℕ) → bits < 2 ^ 32 → (bits ≡ 2 ^ 31 → ⊥) → (signedCode bits < 2 ^ 32) × (signedOf (signedCode bits) ≡ asSigned bits)
+unfolding asSigned
+code-back bits h other = go (ltb bits (2 ^ 31)) refl
+  where
+    go : (t : Bool) → ltb bits (2 ^ 31) ≡ t → (signedCode bits < 2 ^ 32) × (signedOf (signedCode bits) ≡ asSigned bits)
+    go true e =
+        let k = ltb-true bits (2 ^ 31) e in
+        rw (e, eq-eqb (bits * 2 % 2) 0 (omega arith)) (omega arith, omega arith)
+    go false e =
+        let k : 2 ^ 31 < bits = omega (arith, ltb-false bits (2 ^ 31) e, other) in
+        rw (e, ne-eqb (((2 ^ 32 - bits) * 2 + 1) % 2) 0 (λ z. omega arith)) (omega arith, omega arith)
 
-pub signed-reads-back : (z : ℤ) (after : List ℕ) → SFits w32 z → (ofZ w32 z ≡ 2 ^ 31 → ⊥)
-    → readSigned (littleEndian (signedCode (ofZ w32 z)) ++ after) ≡ some (z, after)
-unfolding readSigned
-signed-reads-back z after fits other =
-    rw (little-endian-reads-back (signedCode (ofZ w32 z)) after, code-back z fits other)
+pub signed-reads-back : (before : List ℕ) (bits : ℕ) (after : List ℕ) → bits < 2 ^ 32 → (bits ≡ 2 ^ 31 → ⊥)
+    → signedAt (before ++ (littleEndian (signedCode bits) ++ after)) (length before)
+    ≡ Value (asSigned bits) (length before + length (littleEndian (signedCode bits))) false
+unfolding signedAt
+signed-reads-back before bits after h other =
+    let c = code-back bits h other in
+    rw (little-endian-reads-back before (signedCode bits) after (c .0), c .1)

@@ -1,21 +1,21 @@
 -- The written form is the shortest: bytes that read as a number are no fewer than those that it is written as.
 -- What a reading passes bounds the size of the number, group by group, and a smaller number takes no more bytes.
 -- Assumes nothing.
-use mathlib.Core.Path.{_≡_, refl, ap}
+use mathlib.Core.Path.{_≡_, refl, sym, ap, _∙_}
 use mathlib.Core.Bool.{Bool, true, false, cond}
 use mathlib.Core.List.{List, [], _∷_}
-use mathlib.Core.Option.{Option, none, some, Option·map}
 use Prim.Native.Nat.{ℕ, zero, suc, _+_, _-_, _*_, _/_, _%_, _^_, _≤_, _<_}
 use native.Mathlib.Omega.{arith}
 use lib.Dec.{ltb, leb, eqb}
-use lib.IntN.{ℤ, pos, negsuc}
 use lib.ListN.{length, getD, drop}
 use lib.Seq.{drop-cons}
-use mir.Syntax.{w32}
-use mir.Val.{SFits, ofZ}
-use borrow.Author.Tests.{ltb-true, lt-ltb, le-ltb, eqb-true}
+use borrow.Author.Tests.{ltb-true, ltb-false, eqb-false}
+use Rattle.lineentry.specs.declared.Varint.{Varint}
+use Rattle.lineentry.specs.declared.Varint.the-variants.{Value, TooLong}
+use Rattle.lineentry.specs.Line.{asSigned}
+use Rattle.lineentry.specs.Varint.{digits, number, cut, varintWithin, varintAt, signedOf, signed, signedAt}
 use Rattle.varint.specs.Writing.{littleEndian, bigEndian, bigEndianWithStart, signedCode}
-use Rattle.varint.specs.Reading.{more, readGroups, readVarint, readVarintWithStart, readLittleEndian, signedOf, readSigned}
+use Rattle.varint.specs.Reading.{more, readGroups, readVarint, readVarintWithStart}
 use Rattle.varint.specs.declared.Found.{Found}
 use Rattle.varint.specs.declared.Found.the-variants.{Number, Nothing}
 use Rattle.varint.proofs.Groups.{size, size-last, size-mono, size-below}
@@ -78,60 +78,75 @@ with-start-shortest bytes at n next whole h =
     in
     omega (arith, length-big-with-start n)
 
--- The same where the number comes with the bytes after it.
-abbrev Holds : ℕ → Option (ℕ × List ℕ) → Type 0
-Holds count none = Unit {0}
-Holds count (some read) = size (read .0) + length (read .1) ≤ count
+-- The same of a line table's numbers: the digits of a number that is not cut are as many as it is written with, or more.
+digits-hold : (s : List ℕ) → cut s ≡ false → size (number (digits s)) ≤ length (digits s)
+digits-hold [] c = let q : _≡_ {A = ℕ} 0 1 = ap (λ (b : Bool). cond b 0 1) c in absurd (omega (arith, q))
+digits-hold (b ∷ s) c = go (leb 64 (b % 128)) refl c (digits-hold s)
+  where
+    go : (t : Bool) → leb 64 (b % 128) ≡ t → cut (b ∷ s) ≡ false → (cut s ≡ false → size (number (digits s)) ≤ length (digits s))
+        → size (number (digits (b ∷ s))) ≤ length (digits (b ∷ s))
+    go true e k i =
+        let q : cut s ≡ false = rw e at k in
+        let r : b % 64 + 64 * number (digits s) ≡ number (digits s) * 64 + b % 64 = omega arith in
+        rw (e, r) (omega (arith, i q, size-below (number (digits s)) (b % 64) (omega arith)))
+    go false e k i =
+        let r : b % 64 + 64 * 0 ≡ b % 64 = omega arith in
+        rw (e, r) (omega (arith, size-last (b % 64) (omega arith)))
 
-holds-above : (count g : ℕ) (o : Option (ℕ × List ℕ)) → g < 64 → Holds count o
-    → Holds (suc count) (Option·map (λ (above : ℕ × List ℕ). (g + 64 * above .0, above .1)) o)
-holds-above count g none h k = tt
-holds-above count g (some read) h k =
-    let e : g + 64 * read .0 ≡ read .0 * 64 + g = omega arith in
-    rw e (omega (arith, size-below (read .0) g h))
+-- A number that was read whole: no greater than its groups, and its place after as many bytes.
+record Whole (s : List ℕ) (at n next : ℕ) : Type 0 where
+  pub below : n ≤ number (digits (drop at s))
+  pub in-32 : n < 2 ^ 32
+  pub after : next ≡ at + length (digits (drop at s))
+  pub not-cut : cut (drop at s) ≡ false
 
-little-holds : (bytes : List ℕ) → Holds (length bytes) (readLittleEndian bytes)
-unfolding readLittleEndian
-little-holds [] = tt
-little-holds (b ∷ bytes) =
-    either (Holds (suc (length bytes))) (more b) _ (some (b % 64, bytes))
-    (holds-above (length bytes) (b % 64) (readLittleEndian bytes) (omega arith) (little-holds bytes))
-    (omega (arith, size-last (b % 64) (omega arith)))
+read-whole : (s : List ℕ) (at n next : ℕ) → varintAt s at ≡ Value n next false → Whole s at n next
+unfolding varintWithin
+read-whole s at n next h = go (leb (length (digits (drop at s))) 6) refl h
+  where
+    go : (t : Bool) → leb (length (digits (drop at s))) 6 ≡ t → varintAt s at ≡ Value n next false → Whole s at n next
+    go true e k =
+        let q : Value (number (digits (drop at s)) % 2 ^ 32) (at + length (digits (drop at s))) (cut (drop at s)) ≡ Value n next false = rw e at k in
+        let v : number (digits (drop at s)) % 2 ^ 32 ≡ n = cc in
+        let p : at + length (digits (drop at s)) ≡ next = cc in
+        let c : cut (drop at s) ≡ false = cc in
+        record { below = omega (arith, v); in-32 = omega (arith, v); after = sym p; not-cut = c }
+    go false e k =
+        let q : TooLong ≡ Value n next false = rw e at k in
+        let z : _≡_ {A = ℕ} 0 1 = cc in
+        absurd (omega (arith, z))
 
-pub little-endian-shortest : (bytes : List ℕ) (n : ℕ) (after : List ℕ)
-    → readLittleEndian bytes ≡ some (n, after) → length (littleEndian n) + length after ≤ length bytes
-little-endian-shortest bytes n after h =
-    let w : Holds (length bytes) (some (n, after)) = rw h at (little-holds bytes) in
-    omega (arith, length-little n)
+whole-shortest : (s : List ℕ) (at n next m : ℕ) → Whole s at n next → m ≤ n → at + length (littleEndian m) ≤ next
+whole-shortest s at n next m w h =
+    omega (arith, w .after, length-little m, digits-hold (drop at s) (w .not-cut), size-mono m (number (digits (drop at s))) (omega (arith, w .below)))
+
+pub little-endian-shortest : (s : List ℕ) (at n next : ℕ) → varintAt s at ≡ Value n next false → at + length (littleEndian n) ≤ next
+little-endian-shortest s at n next h = whole-shortest s at n next n (read-whole s at n next h) (omega arith)
 
 -- the code of a signed number is the least that stands for it
-code-least : (code : ℕ) → SFits w32 (signedOf code) → signedCode (ofZ w32 (signedOf code)) ≤ code
-code-least code fits = go (eqb (code % 2) 1) (code / 2) refl refl fits
+code-least : (code bits : ℕ) → code < 2 ^ 32 → bits < 2 ^ 32 → signedOf code ≡ asSigned bits → signedCode bits ≤ code
+unfolding asSigned
+code-least code bits fc fb h = go (eqb (code % 2) 0) (ltb bits (2 ^ 31)) refl refl h
   where
-    go : (odd : Bool) (half : ℕ) → eqb (code % 2) 1 ≡ odd → code / 2 ≡ half
-        → SFits w32 (signedOf code) → signedCode (ofZ w32 (signedOf code)) ≤ code
-    go false half e d k =
-        let f : SFits w32 (pos half) = rw (e, d) at k in
-        rw (e, d, lt-ltb half (2 ^ 31) (omega (arith, f .sfits))) (omega arith)
-    go true zero e d k = rw (e, d) (omega arith)
-    go true (suc half) e d k =
-        let f : SFits w32 (negsuc half) = rw (e, d) at k in
-        let bits = 2 ^ 32 - suc half in
-        rw (e, d, le-ltb bits (2 ^ 31) (omega (arith, f .sfits))) (omega (arith, f .sfits, eqb-true (code % 2) 1 e))
+    go : (even low : Bool) → eqb (code % 2) 0 ≡ even → ltb bits (2 ^ 31) ≡ low → signedOf code ≡ asSigned bits → signedCode bits ≤ code
+    go true true d e k = let q : 2147483648 + code / 2 ≡ bits + 2147483648 = rw (d, e) at k in rw e (omega arith)
+    go true false d e k = let q : 2147483648 + code / 2 ≡ bits - 2147483648 = rw (d, e) at k in absurd (omega (arith, ltb-false bits (2 ^ 31) e))
+    go false true d e k = let q : 2147483648 - code / 2 ≡ bits + 2147483648 = rw (d, e) at k in rw e (omega arith)
+    go false false d e k =
+        let q : 2147483648 - code / 2 ≡ bits - 2147483648 = rw (d, e) at k in
+        rw e (omega (arith, ltb-false bits (2 ^ 31) e, eqb-false (code % 2) 0 d))
 
-pub signed-shortest : (bytes : List ℕ) (z : ℤ) (after : List ℕ) → SFits w32 z
-    → readSigned bytes ≡ some (z, after) → length (littleEndian (signedCode (ofZ w32 z))) + length after ≤ length bytes
-unfolding readSigned
-signed-shortest bytes z after fits h = go (readLittleEndian bytes) (little-holds bytes) h
+-- the number of a signed answer, before its lowest bit was taken for the sign
+pub signed-shortest : (s : List ℕ) (at bits next : ℕ) → bits < 2 ^ 32 → signedAt s at ≡ Value (asSigned bits) next false
+    → at + length (littleEndian (signedCode bits)) ≤ next
+unfolding signedAt
+signed-shortest s at bits next f h = go (varintAt s at) refl h
   where
-    go : (o : Option (ℕ × List ℕ)) → Holds (length bytes) o
-        → Option·map {B = ℤ × List ℕ} (λ (read : ℕ × List ℕ). (signedOf (read .0), read .1)) o ≡ some (z, after)
-        → length (littleEndian (signedCode (ofZ w32 z))) + length after ≤ length bytes
-    go none k e = let q : _≡_ {A = ℕ} 0 1 = cc in absurd (omega arith)
-    go (some read) k e =
-        let both : _≡_ {A = ℤ × List ℕ} (signedOf (read .0), read .1) (z, after) = cc in
-        let number : signedOf (read .0) ≡ z = ap (λ (p : ℤ × List ℕ). p .0) both in
-        let rest : read .1 ≡ after = ap (λ (p : ℤ × List ℕ). p .1) both in
-        let f : SFits w32 (signedOf (read .0)) = rw number fits in
-        let least = size-mono (signedCode (ofZ w32 (signedOf (read .0)))) (read .0) (code-least (read .0) f) in
-        rw (← number, ← rest) (omega (arith, length-little (signedCode (ofZ w32 (signedOf (read .0))))))
+    go : (v : Varint) → varintAt s at ≡ v → signed v ≡ Value (asSigned bits) next false → at + length (littleEndian (signedCode bits)) ≤ next
+    go (Value code p m) e k =
+        let c : signedOf code ≡ asSigned bits = cc in
+        let q : p ≡ next = cc in
+        let o : m ≡ false = cc in
+        let w = read-whole s at code next (e ∙ rw (q, o)) in
+        whole-shortest s at code next (signedCode bits) w (code-least code bits (w .in-32) f c)
+    go TooLong e k = let z : _≡_ {A = ℕ} 0 1 = cc in absurd (omega (arith, z))

@@ -1,19 +1,18 @@
 -- What a writer left in its store reads back from the store's start, wherever there was room: the bytes, then zeros, are one case of
 -- bytes with anything after them. Assumes nothing.
 use mathlib.Core.Path.{_≡_}
-use mathlib.Core.Bool.{true}
+use mathlib.Core.Bool.{true, false}
 use mathlib.Core.List.{List, [], _++_}
-use mathlib.Core.Option.{some}
 use Prim.Native.Nat.{ℕ, _-_, _^_, _≤_, _<_}
 use native.Mathlib.Nat.{zero-add}
-use lib.IntN.{ℤ}
 use lib.ListN.{length}
-use mir.Syntax.{w32}
-use mir.Val.{SFits, ofZ}
 use borrow.Author.Tests.{le-leb, ne-eqb}
 use Rattle.lent.specs.Lent.{zeros, padded}
+use Rattle.lineentry.specs.declared.Varint.the-variants.{Value}
+use Rattle.lineentry.specs.Line.{asSigned}
+use Rattle.lineentry.specs.Varint.{varintAt, signedAt}
 use Rattle.varint.specs.Writing.{littleEndian, bigEndian, bigEndianWithStart, signedCode}
-use Rattle.varint.specs.Reading.{readVarint, readVarintWithStart, readLittleEndian, readSigned}
+use Rattle.varint.specs.Reading.{readVarint, readVarintWithStart}
 use Rattle.varint.specs.Answers.{stored, storedSigned}
 use Rattle.varint.specs.declared.Found.the-variants.{Number}
 use Rattle.varint.proofs.ReadsBack.{little-endian-reads-back, big-endian-reads-back, with-start-reads-back, signed-reads-back}
@@ -23,9 +22,11 @@ content : (room : ℕ) (bytes : List ℕ) → length bytes ≤ room → stored r
 unfolding stored padded
 content room bytes h = rw (le-leb (length bytes) room h)
 
-pub little-endian-kept : (room n : ℕ) → length (littleEndian n) ≤ room
-    → readLittleEndian (stored room (littleEndian n) .1) ≡ some (n, zeros (room - length (littleEndian n)))
-little-endian-kept room n h = rw (content room (littleEndian n) h) (little-endian-reads-back n (zeros (room - length (littleEndian n))))
+pub little-endian-kept : (room n : ℕ) → n < 2 ^ 32 → length (littleEndian n) ≤ room
+    → varintAt (stored room (littleEndian n) .1) 0 ≡ Value n (length (littleEndian n)) false
+little-endian-kept room n f h =
+    rw (content room (littleEndian n) h)
+    (rw zero-add at (little-endian-reads-back [] n (zeros (room - length (littleEndian n))) f))
 
 pub big-endian-kept : (room n : ℕ) → n < 2 ^ 32 → length (bigEndian n) ≤ room
     → readVarint (stored room (bigEndian n) .1) 0 ≡ Number n (length (bigEndian n)) true
@@ -39,9 +40,10 @@ with-start-kept room n f h =
     rw (content room (bigEndianWithStart n) h)
     (rw zero-add at (with-start-reads-back [] n (zeros (room - length (bigEndianWithStart n))) f))
 
-pub signed-kept : (room : ℕ) (z : ℤ) → SFits w32 z → (ofZ w32 z ≡ 2 ^ 31 → ⊥) → length (littleEndian (signedCode (ofZ w32 z))) ≤ room
-    → readSigned (storedSigned room (ofZ w32 z) .1) ≡ some (z, zeros (room - length (littleEndian (signedCode (ofZ w32 z)))))
+pub signed-kept : (room bits : ℕ) → bits < 2 ^ 32 → (bits ≡ 2 ^ 31 → ⊥) → length (littleEndian (signedCode bits)) ≤ room
+    → signedAt (storedSigned room bits .1) 0 ≡ Value (asSigned bits) (length (littleEndian (signedCode bits))) false
 unfolding storedSigned
-signed-kept room z f other h =
-    let bytes = littleEndian (signedCode (ofZ w32 z)) in
-    rw (ne-eqb (ofZ w32 z) (2 ^ 31) other, content room bytes h) (signed-reads-back z (zeros (room - length bytes)) f other)
+signed-kept room bits f other h =
+    let bytes = littleEndian (signedCode bits) in
+    rw (ne-eqb bits (2 ^ 31) other, content room bytes h)
+    (rw zero-add at (signed-reads-back [] bits (zeros (room - length bytes)) f other))
