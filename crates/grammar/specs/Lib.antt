@@ -1,5 +1,6 @@
 pub mod Reading
 pub mod Room
+pub mod LetterNames
 pub mod Letters
 pub mod Arguments
 pub mod Fields

@@ -7,6 +7,7 @@ use mathlib.Core.Option.{none}
 use mathlib.Core.List.{List, [], _∷_}
 use lib.ListN.{length, take, getD, drop}
 use lib.Dec.{eqb}
+use Rattle.grammar.specs.LetterNames.{nullLetter}
 use Rattle.grammar.specs.Reading.{Answer, gives, stops}
 use Rattle.grammar.specs.Letters.{Class, codes, classOf}
 use Rattle.grammar.specs.Fields.{le32}
@@ -33,7 +34,7 @@ kidsFrom t count first = orNone (chain t count first)
 
 -- what stands behind a row: of pairs, a dict's closing byte, which comes where it stands
 abbrev pub closed : (pairs : Bool) → Writing
-closed true = emit (0x30 ∷ []) ended
+closed true = emit (nullLetter ∷ []) ended
 closed false = ended
 
 -- local names and their kinds, as a code has tested them
