@@ -353,7 +353,7 @@ fn read_numbers(s: &[u8], at: u32) -> Behind
     ensures { λ r. ⌜ Reads (now (s .entry)) codes at r ⌝ }
 {
     let whole = (s.len() - at as usize) / 4;
-    if whole < grammar::CODE_WORDS as usize {
+    if whole < grammar::CODE_WORDS {
         return Behind::Refused(refusals::DATA_TOO_SHORT, at + 4 * whole as u32);
     }
     Behind::Span(at, grammar::CODE_NUMBERS, Kids::Parts)

@@ -68,6 +68,31 @@ pub const TEXT_FLOAT_LETTER: u32 = 0x66;
 
 pub const TEXT_COMPLEX_LETTER: u32 = 0x78;
 
+// The letters that values are written with, as bytes of the output.
+pub const WRITTEN_INT: u8 = INT_LETTER as u8;
+
+pub const WRITTEN_LONG: u8 = LONG_LETTER as u8;
+
+pub const WRITTEN_FLOAT: u8 = FLOAT_LETTER as u8;
+
+pub const WRITTEN_COMPLEX: u8 = COMPLEX_LETTER as u8;
+
+pub const WRITTEN_BYTES: u8 = BYTES_LETTER as u8;
+
+pub const WRITTEN_UNICODE: u8 = UNICODE_LETTER as u8;
+
+pub const WRITTEN_SHORT: u8 = SHORT_LETTER as u8;
+
+pub const WRITTEN_TUPLE: u8 = TUPLE_LETTER as u8;
+
+pub const WRITTEN_SLICE: u8 = SLICE_LETTER as u8;
+
+pub const WRITTEN_DICT: u8 = DICT_LETTER as u8;
+
+pub const WRITTEN_NULL: u8 = NULL_LETTER as u8;
+
+pub const WRITTEN_CODE: u8 = CODE_LETTER as u8;
+
 // The parts of a code by their number, and how many they are.
 pub const CODE_PART: u32 = 0;
 
@@ -95,6 +120,6 @@ pub const CODE_PARTS: u32 = 10;
 pub const LINE_PART: u32 = LINES_PART;
 
 // How many numbers stand in front of a code's parts, and their bytes.
-pub const CODE_WORDS: u32 = 5;
+pub const CODE_WORDS: usize = 5;
 
 pub const CODE_NUMBERS: u32 = 20;
