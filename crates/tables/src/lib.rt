@@ -4,7 +4,7 @@ ghost use mathlib.Core.Path.{_≡_};
 ghost use mathlib.Core.Bool.{true, _&&_};
 ghost use Prim.Native.Nat.{_+_, _*_, _≤_, _<_, min};
 ghost use lib.ListN.{length, getD};
-ghost use Rattle.refusals.specs.Limits.{mostBytes};
+ghost use Rattle.refusals.specs.Limits.{mostBytes, mostRecords};
 ghost use Rattle.grammar.specs.Letters;
 ghost use Rattle.grammar.specs.State.{nodeAt, entryAt};
 ghost use Rattle.grammar.specs.Steps.{rules, whatever, asTuple, asNames, codeParts, codePart, localsPart, kindsPart};
@@ -73,7 +73,7 @@ pub fn node_at(nodes: &[u32], node: u32) -> records::Node
 
 // How many entries of a store may be named, where so many are said to be used.
 fn entries_in(entries: &[u32], used: u32) -> u32
-    ensures { λ r. ⌜ (r ≡ Record.entriesIn (now (entries .entry)) used) × (r ≤ 1048576) ⌝ }
+    ensures { λ r. ⌜ (r ≡ Record.entriesIn (now (entries .entry)) used) × (r ≤ mostRecords) ⌝ }
 {
     let held = entries.len() / 2;
     let most = lesser(used, refusals::MOST_RECORDS);
@@ -86,7 +86,7 @@ fn entries_in(entries: &[u32], used: u32) -> u32
 // How many entries, from one on and up to so many, are each linked to the one behind it, as a reading leaves the leaves of a row.
 // None of these waits for the one before it.
 fn straight(entries: &[u32], room: u32, first: u32, steps: u32) -> u32
-    requires { ⌜ (room * 2 ≤ length (now entries)) × (room ≤ 1048576) ⌝ }
+    requires { ⌜ (room * 2 ≤ length (now entries)) × (room ≤ mostRecords) ⌝ }
     ensures { λ r. ⌜ Straight (now (entries .entry)) room first steps r ⌝ }
 {
     let mut e = first;
