@@ -25,6 +25,29 @@
 extern "C" {
 #endif
 
+/* ---- Refusals: the numbers of document 01's table, by name. */
+
+enum {
+    SILL_EOF_OBJECT = 1,
+    SILL_DATA_TOO_SHORT = 2,
+    SILL_UNKNOWN_TYPE = 3,
+    SILL_NULL_OBJECT = 4,
+    SILL_INVALID_REF = 5,
+    SILL_BAD_SIZE = 6,
+    SILL_BAD_TYPE = 7,
+    SILL_INVALID_BYTECODE = 8,
+    SILL_INVALID_UTF8 = 9,
+    SILL_TOO_DEEP = 10,
+    SILL_NO_NODE = 11,
+    SILL_NO_ENTRY = 12,
+    SILL_NO_SLOT = 13,
+    SILL_INPUT_TOO_LONG = 14,
+    SILL_NOT_CARRIED = 15,
+    SILL_BAD_TABLE = 16,
+    SILL_NO_ROOM = 17,
+    SILL_NUMBER_RANGE = 18,
+};
+
 /* ---- Varints: six bits a byte, 0x40 meaning more. */
 
 typedef struct {

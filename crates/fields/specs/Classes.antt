@@ -14,6 +14,10 @@ classes =
     ∷ contains bytes ∷ contains text ∷ contains short
     ∷ codes ∷ refers ∷ []
 
+-- the number of a code's class
+abbrev pub codeClass : ℕ
+codeClass = 12
+
 -- how many classes have a form, how many are kept, and the first that is refused
 abbrev pub formClasses : ℕ
 formClasses = 9

@@ -117,35 +117,35 @@ pub fn class_of(letter: u32) -> u32
     ensures { λ r. ⌜ classAt r ≡ classOf letter ⌝ }
 {
     match letter {
-        0x4E => SINGLE,
-        0x46 => SINGLE,
-        0x54 => SINGLE,
-        0x53 => SINGLE,
-        0x2E => SINGLE,
-        0x69 => FIXED4,
-        0x49 => FIXED8,
-        0x67 => FIXED8,
-        0x79 => DOUBLE,
-        0x6C => LONG,
-        0x73 => BYTES,
-        0x75 => TEXT,
-        0x74 => TEXT,
-        0x61 => TEXT,
-        0x41 => TEXT,
-        0x7A => SHORT,
-        0x5A => SHORT,
-        0x28 => SEQUENCE,
-        0x5B => SEQUENCE,
-        0x3C => SEQUENCE,
-        0x3E => SEQUENCE,
-        0x29 => FEW,
-        0x3A => SLICE,
-        0x7B => DICT,
-        0x63 => CODE,
-        0x72 => REFERENCE,
-        0x30 => REFUSED + refusals::NULL_OBJECT,
-        0x66 => REFUSED + refusals::NOT_CARRIED,
-        0x78 => REFUSED + refusals::NOT_CARRIED,
+        grammar::NONE_LETTER => SINGLE,
+        grammar::FALSE_LETTER => SINGLE,
+        grammar::TRUE_LETTER => SINGLE,
+        grammar::STOP_LETTER => SINGLE,
+        grammar::ELLIPSIS_LETTER => SINGLE,
+        grammar::INT_LETTER => FIXED4,
+        grammar::INT64_LETTER => FIXED8,
+        grammar::FLOAT_LETTER => FIXED8,
+        grammar::COMPLEX_LETTER => DOUBLE,
+        grammar::LONG_LETTER => LONG,
+        grammar::BYTES_LETTER => BYTES,
+        grammar::UNICODE_LETTER => TEXT,
+        grammar::INTERNED_LETTER => TEXT,
+        grammar::ASCII_LETTER => TEXT,
+        grammar::ASCII_INTERNED_LETTER => TEXT,
+        grammar::SHORT_LETTER => SHORT,
+        grammar::SHORT_INTERNED_LETTER => SHORT,
+        grammar::TUPLE_LETTER => SEQUENCE,
+        grammar::LIST_LETTER => SEQUENCE,
+        grammar::SET_LETTER => SEQUENCE,
+        grammar::FROZENSET_LETTER => SEQUENCE,
+        grammar::SMALL_TUPLE_LETTER => FEW,
+        grammar::SLICE_LETTER => SLICE,
+        grammar::DICT_LETTER => DICT,
+        grammar::CODE_LETTER => CODE,
+        grammar::REFERENCE_LETTER => REFERENCE,
+        grammar::NULL_LETTER => REFUSED + refusals::NULL_OBJECT,
+        grammar::TEXT_FLOAT_LETTER => REFUSED + refusals::NOT_CARRIED,
+        grammar::TEXT_COMPLEX_LETTER => REFUSED + refusals::NOT_CARRIED,
         _ => REFUSED + refusals::UNKNOWN_TYPE,
     }
 }
@@ -353,15 +353,15 @@ fn read_numbers(s: &[u8], at: u32) -> Behind
     ensures { λ r. ⌜ Reads (now (s .entry)) codes at r ⌝ }
 {
     let whole = (s.len() - at as usize) / 4;
-    if whole < 5 {
+    if whole < grammar::CODE_WORDS {
         return Behind::Refused(refusals::DATA_TOO_SHORT, at + 4 * whole as u32);
     }
-    Behind::Span(at, 20, Kids::Parts)
+    Behind::Span(at, grammar::CODE_NUMBERS, Kids::Parts)
 }
 
 // The argument sum of the code whose numbers stand at a place.
 pub fn argument_sum(s: &[u8], place: usize) -> u64
-    requires { ⌜ place + 20 ≤ length (now s) ⌝ }
+    requires { ⌜ place + Fields.codeNumbers ≤ length (now s) ⌝ }
     ensures { λ r. ⌜ r ≡ Fields.sumAt (now (s .entry)) place ⌝ }
 {
     let arguments = le32(s, place) as u64;

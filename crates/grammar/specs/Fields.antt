@@ -84,6 +84,10 @@ unfoldable pub numbers : {A : Type 0} → List ℕ → ℕ → ℕ → Answer A 
 numbers s zero at rest = rest
 numbers s (suc more) at rest = field s at 4 (numbers s more (at + 4) rest)
 
+-- how many they are, and their bytes
+abbrev pub codeWords : ℕ
+codeWords = 5
+
 abbrev pub codeNumbers : ℕ
 codeNumbers = 20
 
@@ -111,7 +115,7 @@ contained s letter.short at = field s at 1 (string s (at + 1) (getD s at 0) (spa
 
 -- "code, place of the argument count and distance to the first line number", which is known when the first line is read.
 unfoldable pub codeFields : List ℕ → ℕ → Answer Fields
-codeFields s at = numbers s 5 at (span at codeNumbers parts)
+codeFields s at = numbers s codeWords at (span at codeNumbers parts)
 
 -- 01: "At the end: local names and kinds of unequal length 8; argument sum (the split's) above 32 bits 18; an odd number of code
 -- bytes 8." The number of the refusal, if there is one.

@@ -7,6 +7,7 @@ use lib.ListN.{length}
 use lib.Dec.{leb, ltb, eqb}
 use Rattle.refusals.specs.Numbers.{inputTooLong, badTable}
 use Rattle.refusals.specs.Limits.{mostBytes}
+use Rattle.grammar.specs.LetterNames.{noneLetter, falseLetter, trueLetter, stopLetter, ellipsisLetter, intLetter, int64Letter, longLetter, floatLetter, complexLetter}
 use Rattle.grammar.specs.Reading.{Answer, gives, stops}
 use Rattle.grammar.specs.Fields.{le16, le32, le64, notNegative, digitCount}
 use Rattle.grammar.specs.State.{nodeAt}
@@ -43,16 +44,16 @@ longLeaf s at = longOf (notNegative (le32 s at)) (magnitude s (digitCount (le32 
 -- N F T . S i I g y l, and every other letter
 unfoldable pub leafAs : List ℕ → (letter place : ℕ) → Leaf
 leafAs s letter at =
-    cond (eqb letter 0x4E) nothingness
-    (cond (eqb letter 0x46) (truth false)
-    (cond (eqb letter 0x54) (truth true)
-    (cond (eqb letter 0x2E) ellipsis
-    (cond (eqb letter 0x53) stop
-    (cond (eqb letter 0x69) (whole (extended (le32 s at)))
-    (cond (eqb letter 0x49) (whole (le64 s at))
-    (cond (eqb letter 0x67) (float (le64 s at))
-    (cond (eqb letter 0x79) (complex (le64 s at) (le64 s (at + 8)))
-    (cond (eqb letter 0x6C) (longLeaf s at)
+    cond (eqb letter noneLetter) nothingness
+    (cond (eqb letter falseLetter) (truth false)
+    (cond (eqb letter trueLetter) (truth true)
+    (cond (eqb letter ellipsisLetter) ellipsis
+    (cond (eqb letter stopLetter) stop
+    (cond (eqb letter intLetter) (whole (extended (le32 s at)))
+    (cond (eqb letter int64Letter) (whole (le64 s at))
+    (cond (eqb letter floatLetter) (float (le64 s at))
+    (cond (eqb letter complexLetter) (complex (le64 s at) (le64 s (at + 8)))
+    (cond (eqb letter longLetter) (longLeaf s at)
     notLeaf)))))))))
 
 -- "InputTooLong, tested before all", at 0; then the record as the writer tests it, 16 at the node number.

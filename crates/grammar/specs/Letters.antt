@@ -5,6 +5,7 @@ use mathlib.Core.Bool.{Bool, true, false, cond}
 use mathlib.Core.List.{List, [], _∷_}
 use lib.Dec.{eqb}
 use Rattle.refusals.specs.Numbers.{unknownType, nullObject, notCarried}
+use Rattle.grammar.specs.LetterNames.{noneLetter, falseLetter, trueLetter, stopLetter, ellipsisLetter, intLetter, int64Letter, longLetter, floatLetter, complexLetter, bytesLetter, unicodeLetter, internedLetter, asciiLetter, asciiInternedLetter, shortLetter, shortInternedLetter, tupleLetter, smallTupleLetter, listLetter, setLetter, frozensetLetter, sliceLetter, dictLetter, codeLetter, referenceLetter, nullLetter, textFloatLetter, textComplexLetter}
 
 abbrev pub flagOf : ℕ → ℕ
 flagOf byte = byte / 128
@@ -47,20 +48,20 @@ pub data Class : Type 0 where
 unfoldable pub letters : List (ℕ × Class)
 letters =
     -- N F T S .
-    (0x4E, keeps single) ∷ (0x46, keeps single) ∷ (0x54, keeps single) ∷ (0x53, keeps single) ∷ (0x2E, keeps single)
+    (noneLetter, keeps single) ∷ (falseLetter, keeps single) ∷ (trueLetter, keeps single) ∷ (stopLetter, keeps single) ∷ (ellipsisLetter, keeps single)
     -- i I g y l
-    ∷ (0x69, keeps (fixed 4)) ∷ (0x49, keeps (fixed 8)) ∷ (0x67, keeps (fixed 8)) ∷ (0x79, keeps double) ∷ (0x6C, keeps long)
+    ∷ (intLetter, keeps (fixed 4)) ∷ (int64Letter, keeps (fixed 8)) ∷ (floatLetter, keeps (fixed 8)) ∷ (complexLetter, keeps double) ∷ (longLetter, keeps long)
     -- s, u t a A, z Z
-    ∷ (0x73, contains bytes)
-    ∷ (0x75, contains text) ∷ (0x74, contains text) ∷ (0x61, contains text) ∷ (0x41, contains text)
-    ∷ (0x7A, contains short) ∷ (0x5A, contains short)
+    ∷ (bytesLetter, contains bytes)
+    ∷ (unicodeLetter, contains text) ∷ (internedLetter, contains text) ∷ (asciiLetter, contains text) ∷ (asciiInternedLetter, contains text)
+    ∷ (shortLetter, contains short) ∷ (shortInternedLetter, contains short)
     -- ( [ < >, )
-    ∷ (0x28, keeps sequence) ∷ (0x5B, keeps sequence) ∷ (0x3C, keeps sequence) ∷ (0x3E, keeps sequence)
-    ∷ (0x29, keeps few)
+    ∷ (tupleLetter, keeps sequence) ∷ (listLetter, keeps sequence) ∷ (setLetter, keeps sequence) ∷ (frozensetLetter, keeps sequence)
+    ∷ (smallTupleLetter, keeps few)
     -- : { c
-    ∷ (0x3A, keeps slice) ∷ (0x7B, keeps dict) ∷ (0x63, codes)
+    ∷ (sliceLetter, keeps slice) ∷ (dictLetter, keeps dict) ∷ (codeLetter, codes)
     -- r, 0, f x
-    ∷ (0x72, refers) ∷ (0x30, refuses nullObject) ∷ (0x66, refuses notCarried) ∷ (0x78, refuses notCarried)
+    ∷ (referenceLetter, refers) ∷ (nullLetter, refuses nullObject) ∷ (textFloatLetter, refuses notCarried) ∷ (textComplexLetter, refuses notCarried)
     ∷ []
 
 unfoldable pub found : ℕ → List (ℕ × Class) → Class
@@ -77,16 +78,16 @@ among letter (l ∷ ls) = cond (eqb letter l) true (among letter ls)
 
 -- s
 abbrev pub isBytes : ℕ → Bool
-isBytes letter = among letter (0x73 ∷ [])
+isBytes letter = among letter (bytesLetter ∷ [])
 
 -- ( )
 abbrev pub isTuple : ℕ → Bool
-isTuple letter = among letter (0x28 ∷ 0x29 ∷ [])
+isTuple letter = among letter (tupleLetter ∷ smallTupleLetter ∷ [])
 
 -- u t a A z Z
 abbrev pub isString : ℕ → Bool
-isString letter = among letter (0x75 ∷ 0x74 ∷ 0x61 ∷ 0x41 ∷ 0x7A ∷ 0x5A ∷ [])
+isString letter = among letter (unicodeLetter ∷ internedLetter ∷ asciiLetter ∷ asciiInternedLetter ∷ shortLetter ∷ shortInternedLetter ∷ [])
 
 -- 01: "0x30 or 0xB0 ends it": the null, flagged or not, in a key's place
 abbrev pub endsDict : ℕ → Bool
-endsDict byte = eqb (letterOf byte) 0x30
+endsDict byte = eqb (letterOf byte) nullLetter

@@ -1,6 +1,7 @@
 pub mod Input
 pub mod Reading
 pub mod Room
+pub mod LetterNames
 pub mod Letters
 pub mod Arguments
 pub mod Fields

@@ -154,6 +154,7 @@ couples f s (suc fuel) c = keyOr s c (bind (child whatever f c) (λ d. bind (chi
 abbrev pub codeParts : ℕ
 codeParts = 10
 
+-- the one table of a code's parts: what each must be to be read and to be tested, and with it how it is written
 unfoldable pub rules : List Rule
 rules =
     asBytes ∷ asTuple ∷ asNames ∷ asNames ∷ asBytes

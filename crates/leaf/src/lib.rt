@@ -198,16 +198,16 @@ fn leaf_as(s: &[u8], node: records::Node) -> Told
     let at = place as usize;
     let letter = node.letter;
     match letter {
-        0x4E => plain(Leaf::None),
-        0x46 => truth(false),
-        0x54 => truth(true),
-        0x2E => plain(Leaf::Ellipsis),
-        0x53 => plain(Leaf::Stop),
-        0x69 => whole(extended(fields::le32(s, at))),
-        0x49 => whole(fields::le64(s, at)),
-        0x67 => float(fields::le64(s, at)),
-        0x79 => complex(fields::le64(s, at), fields::le64(s, at + 8)),
-        0x6C => long_leaf(s, place),
+        grammar::NONE_LETTER => plain(Leaf::None),
+        grammar::FALSE_LETTER => truth(false),
+        grammar::TRUE_LETTER => truth(true),
+        grammar::ELLIPSIS_LETTER => plain(Leaf::Ellipsis),
+        grammar::STOP_LETTER => plain(Leaf::Stop),
+        grammar::INT_LETTER => whole(extended(fields::le32(s, at))),
+        grammar::INT64_LETTER => whole(fields::le64(s, at)),
+        grammar::FLOAT_LETTER => float(fields::le64(s, at)),
+        grammar::COMPLEX_LETTER => complex(fields::le64(s, at), fields::le64(s, at + 8)),
+        grammar::LONG_LETTER => long_leaf(s, place),
         _ => plain(Leaf::NotLeaf),
     }
 }

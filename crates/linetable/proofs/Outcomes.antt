@@ -1,19 +1,19 @@
--- The answer of a whole table, case by case in 01's order: 14, 17, then the walk; and of a part of a larger input.
+-- The answer of a whole table, case by case in 01's order: 14, 17, then the walk.
 -- Assumes nothing.
 use mathlib.Core.Path.{_≡_}
 use mathlib.Core.List.{List}
-use Prim.Native.Nat.{ℕ, _+_, _≤_, _<_}
+use Prim.Native.Nat.{ℕ, _≤_, _<_}
 use native.Mathlib.Omega.{arith}
-use lib.ListN.{length, take, drop}
+use lib.ListN.{length}
 use borrow.Author.Tests.{lt-ltb, le-ltb}
-use Rattle.refusals.specs.Numbers.{dataTooShort, inputTooLong, noRoom}
+use Rattle.refusals.specs.Numbers.{inputTooLong, noRoom}
 use Rattle.refusals.specs.Limits.{mostBytes}
 use Rattle.lent.specs.Lent.{zeros}
 use Rattle.lineentry.specs.Entry.{atLine}
 use Rattle.linetable.specs.declared.Located.{Located}
 use Rattle.linetable.specs.declared.Located.the-variants.{Refused}
 use Rattle.linetable.specs.Walk.{Reading, refused, walk}
-use Rattle.linetable.specs.Answer.{located, locatedIn, recordsOf}
+use Rattle.linetable.specs.Answer.{located, recordsOf}
 use Rattle.linetable.proofs.Walking.{Ends}
 
 -- a refusal's answer, and a store that is all zero
@@ -36,19 +36,6 @@ module _ (s : List ℕ) (first count capacity : ℕ) where
   unfolding located
   located-walks h k = rw (le-ltb mostBytes (length s) h, le-ltb capacity count k)
 
-module _ (input : List ℕ) (place size first count capacity : ℕ) where
-  pub in-long : mostBytes < length input → locatedIn input place size first count capacity ≡ refused inputTooLong 0
-  unfolding locatedIn
-  in-long h = rw (lt-ltb mostBytes (length input) h)
-
-  pub in-cut : length input ≤ mostBytes → length input < place + size → locatedIn input place size first count capacity ≡ refused dataTooShort place
-  unfolding locatedIn
-  in-cut h k = rw (le-ltb mostBytes (length input) h, lt-ltb (length input) (place + size) k)
-
-  pub in-part : length input ≤ mostBytes → place + size ≤ length input → locatedIn input place size first count capacity ≡ located (take size (drop place input)) first count capacity
-  unfolding locatedIn
-  in-part h k = rw (le-ltb mostBytes (length input) h, le-ltb (length input) (place + size) k)
-
 -- ---- what a callee's answer is worth to its caller
 pub ends-walk : (s : List ℕ) (first count capacity : ℕ) (n x : ℕ) {r : Located} {ys : List ℕ} → length s ≤ mostBytes → count ≤ capacity → x ≡ first
     → Ends n (walk count s (atLine x) x 0 count) r ys → Ends n (located s first count capacity) r ys
@@ -57,7 +44,3 @@ ends-walk s first count capacity n x′ h k e x = rw (located-walks s first coun
 pub ends-same : (s : List ℕ) (first count capacity : ℕ) (n f c : ℕ) {r : Located} {ys : List ℕ} → f ≡ first → c ≡ capacity
     → Ends n (located s f count c) r ys → Ends n (located s first count capacity) r ys
 ends-same s first count capacity n f c e q x = rw (← e, ← q) x
-
-pub ends-part : (input : List ℕ) (place size first count capacity : ℕ) (n f m : ℕ) {r : Located} {ys : List ℕ} → length input ≤ mostBytes → place + size ≤ length input → m ≡ size → f ≡ first
-    → Ends n (located (take m (drop place input)) f count capacity) r ys → Ends n (locatedIn input place size first count capacity) r ys
-ends-part input place size first count capacity n f m h k e q x = rw (in-part input place size first count capacity h k, ← e, ← q) x

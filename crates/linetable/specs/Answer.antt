@@ -4,11 +4,11 @@ use lib.IntN.{ℤ}
 use mathlib.Core.Bool.{cond}
 use mathlib.Core.List.{List, [], _∷_, _++_}
 use Prim.Native.Nat.{ℕ, zero, suc, _+_, _-_, _*_}
-use lib.ListN.{length, replicate, getD, take, drop}
+use lib.ListN.{length, replicate, getD}
 use lib.Dec.{ltb}
 use mir.Syntax.{w32}
 use mir.Val.{ofZ}
-use Rattle.refusals.specs.Numbers.{dataTooShort, inputTooLong, noRoom}
+use Rattle.refusals.specs.Numbers.{inputTooLong, noRoom}
 use Rattle.refusals.specs.Limits.{mostBytes}
 use Rattle.lent.specs.Lent.{zeros, padded}
 use Rattle.lineentry.specs.declared.Location.{Location}
@@ -29,14 +29,6 @@ located s first count capacity =
     cond (ltb mostBytes (length s)) (refused inputTooLong 0)
     (cond (ltb capacity count) (refused noRoom capacity)
     (walk count s (atLine first) first 0 count))
-
--- "The line table may be the middle part of a larger input": `size` bytes from `place` on. A part that is not all there is
--- 2 at its start, as cut contents are.
-unfoldable pub locatedIn : List ℕ → ℕ → ℕ → ℕ → ℕ → ℕ → Reading
-locatedIn input place size first count capacity =
-    cond (ltb mostBytes (length input)) (refused inputTooLong 0)
-    (cond (ltb (length input) (place + size)) (refused dataTooShort place)
-    (located (take size (drop place input)) first count capacity))
 
 abbrev pub answer : Reading → Located
 answer (done at k whole) = Done k whole

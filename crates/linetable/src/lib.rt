@@ -10,7 +10,7 @@ ghost use Rattle.refusals.specs.Limits.{mostBytes};
 ghost use Rattle.lent.specs.Lent.{zeros};
 ghost use Rattle.lineentry.specs.Entry.{atLine};
 ghost use Rattle.linetable.specs.Walk.{walk};
-ghost use Rattle.linetable.specs.Answer.{firstLine, located, locatedIn, answer, numbers, recordsOf, locationsOf, locationAt, locationsFrom};
+ghost use Rattle.linetable.specs.Answer.{firstLine, located, answer, numbers, recordsOf, locationsOf, locationAt, locationsFrom};
 use lineentry::Entry;
 use lineentry::Location;
 
@@ -158,29 +158,6 @@ pub fn linetable_to_records(
 {
     let room = records.len() / 4;
     records_within(table, first_line, count, records, room)
-}
-
-// The same where the table is `size` bytes of a larger input, from `place` on.
-pub fn linetable_in(
-    input: &[u8],
-    place: u32,
-    size: u32,
-    first_line: i32,
-    count: u32,
-    records: &mut [u32],
-) -> Located
-    ensures { λ r. ⌜ (r ≡ answer (locatedIn (now (input .entry)) place size (firstLine «first_line») count (length (now (records .entry)) / 4)))
-        × (now (records .exit) ≡ recordsOf (length (now (records .entry))) (locatedIn (now (input .entry)) place size (firstLine «first_line») count (length (now (records .entry)) / 4))) ⌝ }
-{
-    if (refusals::MOST_BYTES as usize) < input.len() {
-        return refuse(records, refusals::INPUT_TOO_LONG, 0);
-    }
-    let start = place as usize;
-    let end = start + size as usize;
-    if input.len() < end {
-        return refuse(records, refusals::DATA_TOO_SHORT, place);
-    }
-    linetable_to_records(&input[start..end], first_line, count, records)
 }
 
 // The location of the four numbers of a record that is all there.

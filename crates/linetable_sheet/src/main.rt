@@ -1,27 +1,22 @@
-// 01's sheet of the location table and cases that its text settles, run through `linetable_to_records` and `linetable_in`.
+// 01's sheet of the location table and cases that its text settles, run through `linetable_to_records` and `locate_node`.
 // Each case prints its name, what is answered, and a line for each record: line:column - end line:end column.
-use libc::STDOUT_FILENO;
 use linetable::Located;
-
-fn say(text: &[u8]) {
-    io::write_all(STDOUT_FILENO, text);
-}
-
-fn say_number(n: u32) {
-    io::print_decimal(STDOUT_FILENO, n as u64);
-}
+use printing::say;
+use printing::say_number;
+use printing::say_refused;
+use reader::Outcome;
 
 fn say_record(records: &[u32], i: usize) {
     if i < records.len() / 4 {
         let j = 4 * i;
         say(b"  ");
-        say_number(records[j]);
+        say_number(records[j] as u64);
         say(b":");
-        say_number(records[j + 1]);
+        say_number(records[j + 1] as u64);
         say(b" - ");
-        say_number(records[j + 2]);
+        say_number(records[j + 2] as u64);
         say(b":");
-        say_number(records[j + 3]);
+        say_number(records[j + 3] as u64);
         say(b"\n");
     }
 }
@@ -41,7 +36,7 @@ fn say_answer(answer: Located) {
             from_entries,
             whole,
         } => {
-            say_number(from_entries);
+            say_number(from_entries as u64);
             if whole {
                 say(b" from entries, whole\n");
             } else {
@@ -49,10 +44,7 @@ fn say_answer(answer: Located) {
             }
         }
         Located::Refused { number, place } => {
-            say(b"refused ");
-            say_number(number);
-            say(b" at ");
-            say_number(place);
+            say_refused(number, place);
             say(b"\n");
         }
     }
@@ -67,12 +59,25 @@ fn run(name: &[u8], table: &[u8], first_line: i32, count: u32, shown: u32) {
     say_records(&records, shown);
 }
 
-// A table in the middle of an input.
-fn run_in(name: &[u8], input: &[u8], place: u32, size: u32, count: u32) {
+// A table in the middle of an input, which is asked for by its node.
+fn run_in(name: &[u8], input: &[u8], node: u32, count: u32) {
+    let mut nodes = [0u32; 15];
     let mut records = [7u32; 16];
     say(name);
     say(b": ");
-    say_answer(linetable::linetable_in(input, place, size, 10, count, &mut records));
+    match reader::deserialize_value(input, &mut nodes, &mut [0; 4], &mut [0; 1], 2) {
+        Outcome::Refused(number, place) => {
+            say_refused(number, place);
+        }
+        Outcome::Read {
+            consumed: _,
+            nodes: used,
+            entries: _,
+            slots: _,
+        } => {
+            say_answer(locate::locate_node(input, &nodes, used, node, 10, count, &mut records));
+        }
+    }
     say_records(&records, count);
 }
 
@@ -141,8 +146,10 @@ fn refusals() {
 }
 
 fn parts() {
-    run_in(b"in the middle of an input", b"\x00\xE9\x02\x00", 1, 2, 3);
-    run_in(b"a part that runs past the input", b"\x00\xE9\x02", 1, 3, 3);
+    let input = b")\x02Ns\x02\x00\x00\x00\xE9\x02";
+    run_in(b"in the middle of an input", input, 2, 3);
+    run_in(b"a node that is not bytes", input, 1, 3);
+    run_in(b"a node that is not there", input, 3, 3);
 }
 
 fn main() {

@@ -1,31 +1,12 @@
 // Prints splits in lines for a person: the answer, then every store whole, a dash standing for none.
 // The stores are lent full of sevens, so that what is not written shows as cleared.
 use localsplus::Split;
+use printing::say;
+use printing::say_field;
+use printing::say_refused;
+use printing::say_store;
 
-const OUT: i32 = 1;
-
-// A number after a blank.
-fn print_number(n: u32) {
-    if n == refusals::NOTHING {
-        io::write_all(OUT, b" -");
-        return;
-    }
-    io::write_all(OUT, b" ");
-    io::print_decimal(OUT, n as u64);
-}
-
-// A store on a line of its own.
-fn print_store(name: &[u8], store: &[u32]) {
-    io::write_all(OUT, name);
-    let mut i = 0;
-    while i < store.len() {
-        print_number(store[i]);
-        i += 1;
-    }
-    io::write_all(OUT, b"\n");
-}
-
-fn print_answer(answer: Split) {
+fn say_answer(answer: Split) {
     match answer {
         Split::Done {
             locals,
@@ -33,22 +14,20 @@ fn print_answer(answer: Split) {
             frees,
             present,
         } => {
-            io::write_all(OUT, b"  Local, Cell, Free:");
-            print_number(locals);
-            print_number(cells);
-            print_number(frees);
+            say(b"  Local, Cell, Free:");
+            say_field(locals);
+            say_field(cells);
+            say_field(frees);
             if present {
-                io::write_all(OUT, b"; cell-to-argument present\n");
+                say(b"; cell-to-argument present\n");
             } else {
-                io::write_all(OUT, b"; cell-to-argument absent\n");
+                say(b"; cell-to-argument absent\n");
             }
         }
         Split::Refused(number, place) => {
-            io::write_all(OUT, b"  refused:");
-            print_number(number);
-            io::write_all(OUT, b" at");
-            print_number(place);
-            io::write_all(OUT, b"\n");
+            say(b"  ");
+            say_refused(number, place);
+            say(b"\n");
         }
     }
 }
@@ -63,12 +42,12 @@ fn show(
     flags: u32,
     arguments: &mut [u32],
 ) {
-    io::write_all(OUT, title);
+    say(title);
     let mut locals = [7u32; 7];
     let mut cells = [7u32; 7];
     let mut frees = [7u32; 7];
     let mut map = [7u32; 7];
-    print_answer(localsplus::split_localplus(
+    say_answer(localsplus::split_localplus(
         kinds,
         names,
         args,
@@ -80,11 +59,11 @@ fn show(
         &mut map,
         arguments,
     ));
-    print_store(b"  Local", &locals);
-    print_store(b"  Cell", &cells);
-    print_store(b"  Free", &frees);
-    print_store(b"  map", &map);
-    print_store(b"  cell-to-argument", arguments);
+    say_store(b"  Local", &locals);
+    say_store(b"  Cell", &cells);
+    say_store(b"  Free", &frees);
+    say_store(b"  map", &map);
+    say_store(b"  cell-to-argument", arguments);
 }
 
 fn main() {

@@ -6,9 +6,6 @@ ghost use Rattle.linetable.specs.Answer.{firstLine, answer, recordsOf};
 ghost use Rattle.locate.specs.Part.{locatedAt};
 use linetable::Located;
 
-// The letter of bytes.
-const BYTES: u32 = 0x73;
-
 // Four numbers for each instruction, as `linetable_to_records` gives them for the node's bytes.
 pub fn locate_node(
     input: &[u8],
@@ -29,7 +26,7 @@ pub fn locate_node(
         return linetable::refuse(records, refusals::BAD_TABLE, node);
     }
     let found = records::node_at(nodes, node);
-    if found.letter != BYTES {
+    if found.letter != grammar::BYTES_LETTER {
         return linetable::refuse(records, refusals::BAD_TABLE, node);
     }
     let start = found.place as usize;

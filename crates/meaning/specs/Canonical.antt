@@ -6,6 +6,7 @@ use lib.ListN.{getD}
 use Rattle.writing.specs.Canonical.{bytes32, bytes64, words, integerBytes, sized, codeString}
 use Rattle.writing.specs.Steps.{Manner, asValue, asNames, asLocals, asString, manners}
 use Rattle.meaning.specs.Value.{Value, Values, nil, more, single, integer, float, complex, bytes, text, sequence, slice, dict, code, countOf, contentsOf, membersOf}
+use Rattle.grammar.specs.LetterNames.{floatLetter, complexLetter, bytesLetter, unicodeLetter, tupleLetter, sliceLetter, dictLetter, codeLetter, nullLetter}
 
 -- "Code strings are `z` if ASCII and under 256 bytes, else `u`": a code's names, and its file, name and qualified name
 unfoldable pub codeStrings : Values → List ℕ
@@ -13,7 +14,7 @@ codeStrings nil = []
 codeStrings (more v vs) = codeString (contentsOf v) ++ codeStrings vs
 
 abbrev pub namesBytes : Values → List ℕ
-namesBytes vs = 0x28 ∷ bytes32 (countOf vs) ++ codeStrings vs
+namesBytes vs = tupleLetter ∷ bytes32 (countOf vs) ++ codeStrings vs
 
 -- a part of a code, given its bytes as any value
 abbrev pub partBytes : Manner → (plain : List ℕ) → Value → List ℕ
@@ -26,14 +27,14 @@ unfoldable mutual
   pub canonical : Value → List ℕ
   canonical (single letter) = letter ∷ []
   canonical (integer z) = integerBytes z
-  canonical (float bits) = 0x67 ∷ bytes64 bits
-  canonical (complex real imaginary) = 0x79 ∷ bytes64 real ++ bytes64 imaginary
-  canonical (bytes contents) = sized 0x73 contents
-  canonical (text contents) = sized 0x75 contents
+  canonical (float bits) = floatLetter ∷ bytes64 bits
+  canonical (complex real imaginary) = complexLetter ∷ bytes64 real ++ bytes64 imaginary
+  canonical (bytes contents) = sized bytesLetter contents
+  canonical (text contents) = sized unicodeLetter contents
   canonical (sequence letter vs) = letter ∷ bytes32 (countOf vs) ++ canonicalAll vs
-  canonical (slice vs) = 0x3A ∷ canonicalAll vs
-  canonical (dict vs) = 0x7B ∷ canonicalAll vs ++ 0x30 ∷ []
-  canonical (code numbers parts line tables) = 0x63 ∷ words numbers ++ canonicalParts 0 parts ++ bytes32 line ++ canonicalAll tables
+  canonical (slice vs) = sliceLetter ∷ canonicalAll vs
+  canonical (dict vs) = dictLetter ∷ canonicalAll vs ++ nullLetter ∷ []
+  canonical (code numbers parts line tables) = codeLetter ∷ words numbers ++ canonicalParts 0 parts ++ bytes32 line ++ canonicalAll tables
 
   pub canonicalAll : Values → List ℕ
   canonicalAll nil = []

@@ -7,6 +7,7 @@ use mathlib.Core.List.{List, [], _∷_}
 use lib.ListN.{length, getD}
 use Rattle.refusals.specs.Numbers.{accepted}
 use Rattle.wtf8.specs.Forms.{wellFormed}
+use Rattle.grammar.specs.LetterNames.{noneLetter, falseLetter, trueLetter, stopLetter, ellipsisLetter, tupleLetter, listLetter, setLetter, frozensetLetter}
 use Rattle.grammar.specs.Letters.{among}
 use Rattle.grammar.specs.Arguments.{argumentSum}
 use Rattle.grammar.specs.Fields.{codeFault}
@@ -16,11 +17,11 @@ use Rattle.meaning.specs.Value.{Value, Values, nil, more, single, intege
 
 -- N F T S .
 abbrev pub singles : List ℕ
-singles = 0x4E ∷ 0x46 ∷ 0x54 ∷ 0x53 ∷ 0x2E ∷ []
+singles = noneLetter ∷ falseLetter ∷ trueLetter ∷ stopLetter ∷ ellipsisLetter ∷ []
 
 -- ( [ < >
 abbrev pub sequences : List ℕ
-sequences = 0x28 ∷ 0x5B ∷ 0x3C ∷ 0x3E ∷ []
+sequences = tupleLetter ∷ listLetter ∷ setLetter ∷ frozensetLetter ∷ []
 
 unfoldable pub Below : (limit : ℕ) → List ℕ → Type 0
 Below limit [] = Unit
@@ -45,8 +46,8 @@ AllTexts (more v vs) = (contents : List ℕ) × (v ≡ text contents) × AllText
 abbrev pub Suits : Rule → Value → Type 0
 Suits whatever v = Unit
 Suits asBytes v = (contents : List ℕ) × (v ≡ bytes contents)
-Suits asTuple v = (vs : Values) × (v ≡ sequence 0x28 vs)
-Suits asNames v = (vs : Values) × (v ≡ sequence 0x28 vs) × AllTexts vs
+Suits asTuple v = (vs : Values) × (v ≡ sequence tupleLetter vs)
+Suits asNames v = (vs : Values) × (v ≡ sequence tupleLetter vs) × AllTexts vs
 Suits asString v = (contents : List ℕ) × (v ≡ text contents)
 
 -- the parts from the ith on

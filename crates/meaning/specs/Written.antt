@@ -7,6 +7,7 @@ use mathlib.Core.Bool.{cond}
 use mathlib.Core.List.{List, [], _∷_, _++_}
 use lib.ListN.{length, getD}
 use Rattle.localsplus.specs.Kind.{localBit, cellBit, freeBit, has}
+use Rattle.grammar.specs.LetterNames.{floatLetter, complexLetter, bytesLetter, unicodeLetter, tupleLetter, sliceLetter, dictLetter, codeLetter, nullLetter}
 use Rattle.grammar.specs.Steps.{kindsPart}
 use Rattle.writing.specs.Canonical.{bytes32, bytes64, words, integerBytes, sized, codeString}
 use Rattle.writing.specs.Steps.{Manner, asValue, asNames, asLocals, asString, manners}
@@ -33,7 +34,7 @@ nameStrings [] = []
 nameStrings (name ∷ names) = codeString name ++ nameStrings names
 
 abbrev pub groupBytes : (kinds : List ℕ) → (names : List (List ℕ)) → List ℕ
-groupBytes kinds names = 0x28 ∷ bytes32 (length (groups kinds names)) ++ nameStrings (groups kinds names)
+groupBytes kinds names = tupleLetter ∷ bytes32 (length (groups kinds names)) ++ nameStrings (groups kinds names)
 
 abbrev pub partWritten : Manner → (kinds plain : List ℕ) → Value → List ℕ
 partWritten asValue kinds plain v = plain
@@ -45,15 +46,15 @@ unfoldable mutual
   pub writtenAs : Value → List ℕ
   writtenAs (single letter) = letter ∷ []
   writtenAs (integer z) = integerBytes z
-  writtenAs (float bits) = 0x67 ∷ bytes64 bits
-  writtenAs (complex real imaginary) = 0x79 ∷ bytes64 real ++ bytes64 imaginary
-  writtenAs (bytes contents) = sized 0x73 contents
-  writtenAs (text contents) = sized 0x75 contents
+  writtenAs (float bits) = floatLetter ∷ bytes64 bits
+  writtenAs (complex real imaginary) = complexLetter ∷ bytes64 real ++ bytes64 imaginary
+  writtenAs (bytes contents) = sized bytesLetter contents
+  writtenAs (text contents) = sized unicodeLetter contents
   writtenAs (sequence letter vs) = letter ∷ bytes32 (countOf vs) ++ writtenAll vs
-  writtenAs (slice vs) = 0x3A ∷ writtenAll vs
-  writtenAs (dict vs) = 0x7B ∷ writtenAll vs ++ 0x30 ∷ []
+  writtenAs (slice vs) = sliceLetter ∷ writtenAll vs
+  writtenAs (dict vs) = dictLetter ∷ writtenAll vs ++ nullLetter ∷ []
   writtenAs (code numbers parts line tables) =
-      0x63 ∷ words numbers ++ writtenParts (contentsOf (valueAt parts kindsPart)) 0 parts ++ bytes32 line ++ writtenAll tables
+      codeLetter ∷ words numbers ++ writtenParts (contentsOf (valueAt parts kindsPart)) 0 parts ++ bytes32 line ++ writtenAll tables
 
   pub writtenAll : Values → List ℕ
   writtenAll nil = []

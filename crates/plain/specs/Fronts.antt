@@ -3,7 +3,7 @@
 -- Of what is left to others nothing is said.
 use Prim.Native.Nat.{ℕ, _<_}
 use mathlib.Core.List.{List}
-use Rattle.fields.specs.Classes.{classAt}
+use Rattle.fields.specs.Classes.{codeClass, classAt}
 use Rattle.fields.specs.Behind.{Reads}
 use Rattle.fields.specs.declared.Kids.the-variants as kind
 use Rattle.fields.specs.declared.Behind.{Behind}
@@ -26,7 +26,7 @@ pub record Refers (s slots : List ℕ) (at : ℕ) (r : Plain) : Type 0 where
 
 -- the fields of a class below the code's
 abbrev pub SpansOf : List ℕ → ℕ → ℕ → Behind → Type 0
-SpansOf s class at (behind.Span place size kids) = (class < 12) × Reads s (classAt class) at (behind.Span place size kids)
+SpansOf s class at (behind.Span place size kids) = (class < codeClass) × Reads s (classAt class) at (behind.Span place size kids)
 SpansOf s class at (behind.Refused n p) = Unit
 
 pub record Spans (s : List ℕ) (class at : ℕ) (r : Behind) : Type 0 where
@@ -35,7 +35,7 @@ pub record Spans (s : List ℕ) (class at : ℕ) (r : Behind) : Type 0 where
 -- a node without children, whatever allowance is left
 abbrev pub LeafOf : List ℕ → (letter flag class at : ℕ) → Plain → Type 0
 LeafOf s letter flag class at (plain.Known v a) = ⊥
-LeafOf s letter flag class at (plain.Leaf h) = (class < 12) × ((allowance : ℕ) → 0 < allowance → Opens s allowance letter flag class at (opened.Node h (kind.Items 0)))
+LeafOf s letter flag class at (plain.Leaf h) = (class < codeClass) × ((allowance : ℕ) → 0 < allowance → Opens s allowance letter flag class at (opened.Node h (kind.Items 0)))
 LeafOf s letter flag class at plain.Other = Unit
 
 pub record Leafs (s : List ℕ) (letter flag class at : ℕ) (r : Plain) : Type 0 where

@@ -17,9 +17,6 @@ refuse-agrees κs a asked r r′ ws ws′ p p′ = (one (p .0) (p′ .0), λ i. 
 pub linetable-to-records-agrees : Agree linetable.linetable_to_records.ended linetable.linetable_to_records.Reads.Asked linetable.linetable_to_records.Reads.Learnt
 linetable-to-records-agrees κs a asked r r′ ws ws′ p p′ = (one (p .0) (p′ .0), λ i. (tt, (tt, (tt, (one (p .1) (p′ .1) i, tt)))))
 
-pub linetable-in-agrees : Agree linetable.linetable_in.ended linetable.linetable_in.Reads.Asked linetable.linetable_in.Reads.Learnt
-linetable-in-agrees κs a asked r r′ ws ws′ p p′ = (one (p .0) (p′ .0), λ i. (tt, (tt, (tt, (tt, (tt, (one (p .1) (p′ .1) i, tt)))))))
-
 -- The layer over a slice of `Location`. Its clauses, as they stand in the source, say a plain fact in every model.
 abbrev placed : Tells linetable.linetable_to_locations.ended
 placed κs a r e =

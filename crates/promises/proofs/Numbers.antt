@@ -8,7 +8,7 @@ use mathlib.Core.List.{List, [], _∷_, _++_}
 use lib.ListN.{length, getD, take, drop, replicate}
 use lib.Dec.{leb, ltb, eqb}
 use borrow.Author.Tests.{eqb-true, leb-true, ltb-true, ltb-false}
-use Rattle.refusals.specs.Numbers.{accepted, tooDeep, numberRange}
+use Rattle.refusals.specs.Numbers.{accepted, tooDeep, lastNumber}
 use Rattle.refusals.specs.Limits.{mostBytes, mostNesting}
 use Rattle.lent.specs.Lent.{zeros}
 use Rattle.grammar.specs.Reading.{Kind, level, node, entry, slot, Answer, gives, stops}
@@ -62,7 +62,7 @@ if-tabled false x y h k = k
 -- The reading.
 abbrev inTable : List ℕ → Bool
 inTable [] = true
-inTable (n ∷ ns) = (ltb accepted n && leb n numberRange) && inTable ns
+inTable (n ∷ ns) = (ltb accepted n && leb n lastNumber) && inTable ns
 
 both : (a b : Bool) → a && b ≡ true → (a ≡ true) × (b ≡ true)
 both true true e = (refl, refl)
@@ -71,15 +71,15 @@ both false b e = let z : _≡_ {A = ℕ} 0 1 = cc in absurd (omega arith)
 
 among-in-table : (n : ℕ) (ns : List ℕ) → inTable ns ≡ true → among n ns ≡ true → InTable n
 among-in-table n [] h e = let z : _≡_ {A = ℕ} 0 1 = cc in absurd (omega arith)
-among-in-table n (m ∷ ms) h e = go (eqb n m) refl e (λ k. among-in-table n ms (both (ltb accepted m && leb m numberRange) (inTable ms) h .1) k)
+among-in-table n (m ∷ ms) h e = go (eqb n m) refl e (λ k. among-in-table n ms (both (ltb accepted m && leb m lastNumber) (inTable ms) h .1) k)
   where
-    own : (ltb accepted m ≡ true) × (leb m numberRange ≡ true)
-    own = both (ltb accepted m) (leb m numberRange) (both (ltb accepted m && leb m numberRange) (inTable ms) h .0)
+    own : (ltb accepted m ≡ true) × (leb m lastNumber ≡ true)
+    own = both (ltb accepted m) (leb m lastNumber) (both (ltb accepted m && leb m lastNumber) (inTable ms) h .0)
 
     go : (b : Bool) → eqb n m ≡ b → cond b true (among n ms) ≡ true → (among n ms ≡ true → InTable n) → InTable n
     go true q k more =
         let i = eqb-true n m q in
-        (omega (arith, i, ltb-true accepted m (own .0)), omega (arith, i, leb-true m numberRange (own .1)))
+        (omega (arith, i, ltb-true accepted m (own .0)), omega (arith, i, leb-true m lastNumber (own .1)))
     go false q k more = more k
 
 kind-in-table : (k : Kind) → InTable (numberOf k)

@@ -16,7 +16,7 @@ use contract.Lifetimes.{Lfts}
 use denote.Ref.{now}
 use denote.Triple.Entry.{Args, Res}
 use denote.Triple.Clauses.{Ended, Lasts, atExit}
-use Rattle.refusals.specs.Numbers.{accepted, numberRange}
+use Rattle.refusals.specs.Numbers.{accepted, lastNumber}
 use Rattle.lent.specs.Lent.{zeros}
 use Rattle.grammar.specs.Reading.{gives, stops}
 use Rattle.leaf.specs.declared.Answered.the-variants as leaf
@@ -38,7 +38,7 @@ use Rattle.promises.specs.Calls.{Call}
 
 -- the numbers of 01's table
 abbrev pub InTable : ℕ → Type 0
-InTable number = (accepted < number) × (number ≤ numberRange)
+InTable number = (accepted < number) × (number ≤ lastNumber)
 
 -- The end of a call, by the definition that gives 01's numbers and values for each case: an answer; or a number of the table with a place,
 -- and then the stores are zero.

@@ -5,6 +5,7 @@ ghost use mathlib.Core.List.{[], _∷_};
 ghost use Prim.Native.Nat.{_+_, _*_, _≤_, _<_};
 ghost use lib.ListN.{length};
 ghost use lib.Seq.{sets};
+ghost use Rattle.grammar.specs.LetterNames.{shortLetter};
 ghost use Rattle.refusals.specs.Limits.{mostBytes};
 ghost use Rattle.grammar.specs.Letters.{long};
 ghost use Rattle.grammar.specs.Fields.{contents, le64, fields, span, items};
@@ -210,7 +211,7 @@ fn is_short(s: &[u8], from: u32, size: u32) -> bool
 // A one-byte length, and so many bytes of the input.
 fn write_short(out: &mut [u8], at: u32, s: &[u8], from: u32, size: u32) -> Wrote
     requires { ⌜ Open at (now out) × (from + size ≤ length (now s)) × (size < 256) ⌝ }
-    ensures { λ r. ⌜ Puts (emit (0x7A ∷ length (contents (now (s .entry)) from size) ∷ contents (now (s .entry)) from size) ended) at (now (out .entry)) r (now (out .exit)) ⌝ }
+    ensures { λ r. ⌜ Puts (emit (shortLetter ∷ length (contents (now (s .entry)) from size) ∷ contents (now (s .entry)) from size) ended) at (now (out .entry)) r (now (out .exit)) ⌝ }
 {
     let room = out.len();
     let place = at as usize;
@@ -218,7 +219,7 @@ fn write_short(out: &mut [u8], at: u32, s: &[u8], from: u32, size: u32) -> Wrote
     if room - place < 2 + count {
         return Wrote::Refused(refusals::NO_ROOM, room as u32);
     }
-    out[place] = 0x7A;
+    out[place] = grammar::WRITTEN_SHORT;
     out[place + 1] = size as u8;
     store_slice(out, place + 2, s, from as usize, count);
     Wrote::Done(at + 2 + size)
@@ -232,7 +233,7 @@ pub fn write_marshal_str(out: &mut [u8], at: u32, s: &[u8], from: u32, size: u32
     if is_short(s, from, size) {
         return write_short(out, at, s, from, size);
     }
-    write_vec(out, at, 0x75, s, from, size)
+    write_vec(out, at, grammar::WRITTEN_UNICODE, s, from, size)
 }
 
 // How many digits of 15 bits a number outside signed 32 bits has.
@@ -287,7 +288,7 @@ fn write_digits(out: &mut [u8], at: u32, negative: bool, magnitude: u64) -> Wrot
     if room - place < 5 + 2 * count as usize {
         return Wrote::Refused(refusals::NO_ROOM, room as u32);
     }
-    out[place] = 0x6C;
+    out[place] = grammar::WRITTEN_LONG;
     store_u32(out, place + 1, signed_count(negative, count));
     store_digits(out, place + 5, magnitude);
     Wrote::Done(at + 5 + 2 * count)
@@ -300,10 +301,10 @@ pub fn write_int64(out: &mut [u8], at: u32, s: &[u8], place: u32) -> Wrote
 {
     let bits = fields::le64(s, place as usize);
     if bits < 0x8000_0000 {
-        return write_slice(out, at, 0x69, s, place, 4);
+        return write_slice(out, at, grammar::WRITTEN_INT, s, place, 4);
     }
     if 0xFFFF_FFFF_8000_0000 <= bits {
-        return write_slice(out, at, 0x69, s, place, 4);
+        return write_slice(out, at, grammar::WRITTEN_INT, s, place, 4);
     }
     if bits < 0x8000_0000_0000_0000 {
         return write_digits(out, at, false, bits);
@@ -336,17 +337,22 @@ pub fn write_pylong(out: &mut [u8], at: u32, s: &[u8], place: u32, size: u32) ->
     ensures { λ r. ⌜ Puts (emit (integerBytes (longAt (now (s .entry)) place)) ended) at (now (out .entry)) r (now (out .exit)) ⌝ }
 {
     if 10 < size {
-        return write_slice(out, at, 0x6C, s, place, size);
+        return write_slice(out, at, grammar::WRITTEN_LONG, s, place, size);
     }
     let value = few_digits(s, place as usize + 4, (size - 4) / 2);
     if fields::le32(s, place as usize) < 0x8000_0000 {
         if value < 0x8000_0000 {
-            return write_len(out, at, 0x69, value as u32);
+            return write_len(out, at, grammar::WRITTEN_INT, value as u32);
         }
-        return write_slice(out, at, 0x6C, s, place, size);
+        return write_slice(out, at, grammar::WRITTEN_LONG, s, place, size);
     }
     if value <= 0x8000_0000 {
-        return write_len(out, at, 0x69, 0xFFFF_FFFF - value as u32 + 1);
+        return write_len(
+            out,
+            at,
+            grammar::WRITTEN_INT,
+            0xFFFF_FFFF - value as u32 + 1,
+        );
     }
-    write_slice(out, at, 0x6C, s, place, size)
+    write_slice(out, at, grammar::WRITTEN_LONG, s, place, size)
 }

@@ -1,30 +1,12 @@
 // Reads document 01's sheets P1 to P12, a code object and some refusals of room, and prints of each the answer and the stores whole, a
 // dash standing for "no entry". The stores are lent full of sevens, so that what is not written shows as cleared.
+use printing::say;
+use printing::say_field;
+use printing::say_refused;
+use printing::say_store;
 use reader::Outcome;
 
-const OUT: i32 = 1;
-
-fn print_number(n: u32) {
-    if n == refusals::NOTHING {
-        io::write_all(OUT, b" -");
-        return;
-    }
-    io::write_all(OUT, b" ");
-    io::print_decimal(OUT, n as u64);
-}
-
-// A store on a line of its own.
-fn print_store(name: &[u8], store: &[u32]) {
-    io::write_all(OUT, name);
-    let mut i = 0;
-    while i < store.len() {
-        print_number(store[i]);
-        i += 1;
-    }
-    io::write_all(OUT, b"\n");
-}
-
-fn print_answer(answer: Outcome) {
+fn say_answer(answer: Outcome) {
     match answer {
         Outcome::Read {
             consumed,
@@ -32,22 +14,20 @@ fn print_answer(answer: Outcome) {
             entries,
             slots,
         } => {
-            io::write_all(OUT, b"  read: consumed");
-            print_number(consumed);
-            io::write_all(OUT, b", nodes");
-            print_number(nodes);
-            io::write_all(OUT, b", entries");
-            print_number(entries);
-            io::write_all(OUT, b", slots");
-            print_number(slots);
-            io::write_all(OUT, b"\n");
+            say(b"  read: consumed");
+            say_field(consumed);
+            say(b", nodes");
+            say_field(nodes);
+            say(b", entries");
+            say_field(entries);
+            say(b", slots");
+            say_field(slots);
+            say(b"\n");
         }
         Outcome::Refused(number, place) => {
-            io::write_all(OUT, b"  refused:");
-            print_number(number);
-            io::write_all(OUT, b" at");
-            print_number(place);
-            io::write_all(OUT, b"\n");
+            say(b"  ");
+            say_refused(number, place);
+            say(b"\n");
         }
     }
 }
@@ -61,11 +41,11 @@ fn show(
     slots: &mut [u32],
     nesting: u32,
 ) {
-    io::write_all(OUT, title);
-    print_answer(reader::deserialize_value(input, nodes, entries, slots, nesting));
-    print_store(b"  nodes  ", nodes);
-    print_store(b"  entries", entries);
-    print_store(b"  slots  ", slots);
+    say(title);
+    say_answer(reader::deserialize_value(input, nodes, entries, slots, nesting));
+    say_store(b"  nodes  ", nodes);
+    say_store(b"  entries", entries);
+    say_store(b"  slots  ", slots);
 }
 
 // One reading into stores of three nodes, two entries and one slot, with a number to spare in each but the last.
@@ -77,6 +57,34 @@ fn sheet(title: &[u8], input: &[u8], nesting: u32) {
         &mut [7; 5],
         &mut [7; 1],
         nesting,
+    );
+}
+
+// A code object, and why it is refused with less nesting and with less room.
+fn code_object(code: &[u8]) {
+    show(
+        b"a code object, its qualified name by reference\n",
+        code,
+        &mut [7; 58],
+        &mut [7; 23],
+        &mut [7; 3],
+        4,
+    );
+    show(
+        b"the same, nesting 3: a name is too deep\n",
+        code,
+        &mut [7; 58],
+        &mut [7; 23],
+        &mut [7; 3],
+        3,
+    );
+    show(
+        b"the same, ten entries: none for the exception table\n",
+        code,
+        &mut [7; 58],
+        &mut [7; 21],
+        &mut [7; 3],
+        4,
     );
 }
 
@@ -109,98 +117,7 @@ fn main() {
     sheet(b"P10 a child, nesting 1\n", &[0x29, 1, 0x4E], 1);
     sheet(b"P11 a key, nesting 1\n", &[0x7B, 0x4E, 0x4E, 0x30], 1);
     sheet(b"P12 a code, nesting 1\n", &[0x63], 1);
-    let code = [
-        0xE3u8,
-        1,
-        0,
-        0,
-        0,
-        0,
-        0,
-        0,
-        0,
-        0,
-        0,
-        0,
-        0,
-        2,
-        0,
-        0,
-        0,
-        3,
-        0,
-        0,
-        0,
-        0x73,
-        2,
-        0,
-        0,
-        0,
-        9,
-        0,
-        0x29,
-        0,
-        0x29,
-        0,
-        0x29,
-        1,
-        0x7A,
-        1,
-        0x78,
-        0x73,
-        1,
-        0,
-        0,
-        0,
-        0x20,
-        0x7A,
-        1,
-        0x66,
-        0xFA,
-        1,
-        0x67,
-        0x72,
-        1,
-        0,
-        0,
-        0,
-        5,
-        0,
-        0,
-        0,
-        0x73,
-        0,
-        0,
-        0,
-        0,
-        0x73,
-        0,
-        0,
-        0,
-        0,
-    ];
-    show(
-        b"a code object, its qualified name by reference\n",
-        &code,
-        &mut [7; 58],
-        &mut [7; 23],
-        &mut [7; 3],
-        4,
-    );
-    show(
-        b"the same, nesting 3: a name is too deep\n",
-        &code,
-        &mut [7; 58],
-        &mut [7; 23],
-        &mut [7; 3],
-        3,
-    );
-    show(
-        b"the same, ten entries: none for the exception table\n",
-        &code,
-        &mut [7; 58],
-        &mut [7; 21],
-        &mut [7; 3],
-        4,
+    code_object(
+        b"\xE3\x01\x00\x00\x00\x00\x00\x00\x00\x00\x00\x00\x00\x02\x00\x00\x00\x03\x00\x00\x00\x73\x02\x00\x00\x00\x09\x00\x29\x00\x29\x00\x29\x01\x7A\x01\x78\x73\x01\x00\x00\x00\x20\x7A\x01\x66\xFA\x01\x67\x72\x01\x00\x00\x00\x05\x00\x00\x00\x73\x00\x00\x00\x00\x73\x00\x00\x00\x00",
     );
 }

@@ -4,6 +4,7 @@ use Prim.Native.Nat.{ℕ}
 use mathlib.Core.Bool.{Bool, false, cond}
 use mathlib.Core.List.{[], _∷_}
 use lib.Dec.{leb}
+use Rattle.grammar.specs.LetterNames.{shortLetter, shortInternedLetter}
 use Rattle.grammar.specs.Letters.{among}
 use Rattle.grammar.specs.State as state
 use Rattle.records.specs.declared.Node.{Node}
@@ -13,4 +14,4 @@ nodeOf n = record { letter = n .letter; place = n .place; size = n .size; first 
 
 -- 01: "`z Z` at most 255"
 abbrev pub tooLong : (letter size : ℕ) → Bool
-tooLong letter size = cond (leb size 255) false (among letter (0x7A ∷ 0x5A ∷ []))
+tooLong letter size = cond (leb size 255) false (among letter (shortLetter ∷ shortInternedLetter ∷ []))

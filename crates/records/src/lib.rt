@@ -17,10 +17,6 @@ ghost use Rattle.records.specs.Nodes.{nodeOf, tooLong};
 // Five numbers to a node.
 pub const NODE_WIDTH: usize = 5;
 
-const CODE_NUMBERS: u32 = 20;
-
-const CODE_PARTS: u32 = 10;
-
 pub struct Node {
     pub letter: u32,
     pub place: u32,
@@ -69,7 +65,7 @@ fn counted(kids: fields::Kids, count: u32) -> bool
     match kids {
         fields::Kids::Items(items) => count == items,
         fields::Kids::Pairs => count % 2 == 0,
-        fields::Kids::Parts => count == CODE_PARTS,
+        fields::Kids::Parts => count == grammar::CODE_PARTS,
     }
 }
 
@@ -104,13 +100,13 @@ fn code_ruled(s: &[u8], node: Node) -> bool
     ensures { λ r. ⌜ r ≡ Record.ruled (now (s .entry)) (nodeOf node) codes ⌝ }
 {
     let place = node.place as usize;
-    if node.size < CODE_NUMBERS {
+    if node.size < grammar::CODE_NUMBERS {
         return false;
     }
     if s.len() < place + node.size as usize + 4 {
         return false;
     }
-    if node.count != CODE_PARTS {
+    if node.count != grammar::CODE_PARTS {
         return false;
     }
     fields::argument_sum(s, place) < 0x1_0000_0000
@@ -165,8 +161,8 @@ fn too_long(letter: u32, size: u32) -> bool
         return false;
     }
     match letter {
-        0x7A => true,
-        0x5A => true,
+        grammar::SHORT_LETTER => true,
+        grammar::SHORT_INTERNED_LETTER => true,
         _ => false,
     }
 }

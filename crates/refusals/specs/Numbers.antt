@@ -59,3 +59,7 @@ noRoom = 17
 
 abbrev pub numberRange : ℕ
 numberRange = 18
+
+-- the last of the table
+abbrev pub lastNumber : ℕ
+lastNumber = numberRange

@@ -8,6 +8,7 @@ use lib.ListN.{length, getD}
 use lib.Dec.{leb, ltb, eqb}
 use Rattle.refusals.specs.Numbers.{accepted, eofObject, dataTooShort, noEntry}
 use Rattle.refusals.specs.Limits.{nothing}
+use Rattle.grammar.specs.LetterNames.{nullLetter}
 use Rattle.grammar.specs.Letters.{isBytes, isTuple, isString}
 use Rattle.grammar.specs.Fields.{sumAt, codeFault}
 use Rattle.grammar.specs.State.{nodeAt, entryAt}
@@ -137,8 +138,8 @@ ItemNext count l (next.Refused n p) = ⊥
 -- a key stands where as many keys as values are read
 abbrev pub PairNext : List ℕ → Line → Next → Type 0
 PairNext s l (next.Child m rule) =
-    (m ≡ l) × (rule ≡ 0) × (l .count % 2 ≡ 0 → (l .walk .at < length s) × (getD s (l .walk .at) 0 % 128 ≡ 0x30 → ⊥))
-PairNext s l (next.Done m) = (m ≡ lineOn 1 l) × (l .count % 2 ≡ 0) × (l .walk .at < length s) × (getD s (l .walk .at) 0 % 128 ≡ 0x30)
+    (m ≡ l) × (rule ≡ 0) × (l .count % 2 ≡ 0 → (l .walk .at < length s) × (getD s (l .walk .at) 0 % 128 ≡ nullLetter → ⊥))
+PairNext s l (next.Done m) = (m ≡ lineOn 1 l) × (l .count % 2 ≡ 0) × (l .walk .at < length s) × (getD s (l .walk .at) 0 % 128 ≡ nullLetter)
 PairNext s l (next.Refused n p) = (n ≡ eofObject) × (p ≡ l .walk .at) × (l .count % 2 ≡ 0) × (length s ≤ l .walk .at)
 
 abbrev pub PartNext : (s ns : List ℕ) → ℕ → Line → Next → Type 0

@@ -10,7 +10,7 @@ ghost use Rattle.grammar.specs.Letters.{isBytes, isTuple, isString};
 ghost use Rattle.grammar.specs.Fields.{parts, codeNumbers};
 ghost use Rattle.grammar.specs.State.{entryWidth};
 ghost use Rattle.grammar.specs.Steps.{rules, whatever, codeParts, sizeOf};
-ghost use Rattle.fields.specs.Classes.{keptClasses};
+ghost use Rattle.fields.specs.Classes.{codeClass, keptClasses};
 ghost use Rattle.fields.specs.Behind.{childrenOf};
 ghost use Rattle.steps.specs.Opening.{References, Opens, Fronts};
 ghost use Rattle.steps.specs.Linking.{Attaches, ItemNext, PairNext, PartNext, Nexts, belowOf, ruleOf, ruleNumber, stringsIn, suitsIn, firstLined, faultIn};
@@ -95,7 +95,7 @@ pub fn resolve_ref(s: &[u8], slots: &[u32], at: u32) -> Opened
 
 // How many levels a node of this class needs: two for a code, its header's and its body's.
 fn levels(class: u32) -> u32
-    ensures { λ r. ⌜ r ≡ cond (eqb class 12) 2 1 ⌝ }
+    ensures { λ r. ⌜ r ≡ cond (eqb class codeClass) 2 1 ⌝ }
 {
     if class == fields::CODE { 2 } else { 1 }
 }
@@ -186,9 +186,9 @@ pub fn attach(
     if room <= e {
         return Linked::Refused(refusals::NO_ENTRY, place);
     }
-    let code = kept(0, line.count, child, line.code);
-    let locals = kept(3, line.count, child, line.locals);
-    let kinds = kept(4, line.count, child, line.kinds);
+    let code = kept(grammar::CODE_PART, line.count, child, line.code);
+    let locals = kept(grammar::LOCALS_PART, line.count, child, line.locals);
+    let kinds = kept(grammar::KINDS_PART, line.count, child, line.kinds);
     let walk = Walk {
         at: after.at,
         nodes: after.nodes,
@@ -225,8 +225,8 @@ pub fn is_tuple(letter: u32) -> bool
     ensures { λ r. ⌜ r ≡ isTuple letter ⌝ }
 {
     match letter {
-        0x28 => true,
-        0x29 => true,
+        grammar::TUPLE_LETTER => true,
+        grammar::SMALL_TUPLE_LETTER => true,
         _ => false,
     }
 }
@@ -235,12 +235,12 @@ pub fn is_string(letter: u32) -> bool
     ensures { λ r. ⌜ r ≡ isString letter ⌝ }
 {
     match letter {
-        0x75 => true,
-        0x74 => true,
-        0x61 => true,
-        0x41 => true,
-        0x7A => true,
-        0x5A => true,
+        grammar::UNICODE_LETTER => true,
+        grammar::INTERNED_LETTER => true,
+        grammar::ASCII_LETTER => true,
+        grammar::ASCII_INTERNED_LETTER => true,
+        grammar::SHORT_LETTER => true,
+        grammar::SHORT_INTERNED_LETTER => true,
         _ => false,
     }
 }
@@ -278,16 +278,16 @@ fn rule_at(i: u32) -> u32
     ensures { λ r. ⌜ r ≡ ruleNumber (getD rules i whatever) ⌝ }
 {
     match i {
-        0 => AS_BYTES,
-        1 => AS_TUPLE,
-        2 => AS_NAMES,
-        3 => AS_NAMES,
-        4 => AS_BYTES,
-        5 => AS_STRING,
-        6 => AS_STRING,
-        7 => AS_STRING,
-        8 => AS_BYTES,
-        9 => AS_BYTES,
+        grammar::CODE_PART => AS_BYTES,
+        grammar::CONSTANTS_PART => AS_TUPLE,
+        grammar::NAMES_PART => AS_NAMES,
+        grammar::LOCALS_PART => AS_NAMES,
+        grammar::KINDS_PART => AS_BYTES,
+        grammar::FILE_PART => AS_STRING,
+        grammar::NAME_PART => AS_STRING,
+        grammar::QUALIFIED_NAME_PART => AS_STRING,
+        grammar::LINES_PART => AS_BYTES,
+        grammar::EXCEPTIONS_PART => AS_BYTES,
         _ => WHATEVER,
     }
 }
@@ -301,7 +301,7 @@ pub fn suits(rule: u32, nodes: &[u32], entries: &[u32], v: u32) -> bool
     }
     let letter = stores::letter_of(nodes, v);
     if rule == AS_BYTES {
-        return letter == 0x73;
+        return letter == grammar::BYTES_LETTER;
     }
     if rule == AS_TUPLE {
         return is_tuple(letter);
@@ -322,7 +322,7 @@ fn first_line(s: &[u8], i: u32, line: Line) -> Linked
     requires { ⌜ (line .walk .at ≤ length (now s)) × (length (now s) ≤ mostBytes) ⌝ }
     ensures { λ r. ⌜ r ≡ firstLined (now (s .entry)) i line ⌝ }
 {
-    if i != 8 {
+    if i != grammar::LINE_PART {
         return Linked::Line(line);
     }
     let w = line.walk;
@@ -405,7 +405,7 @@ fn next_key(s: &[u8], line: Line) -> Next
     if s.len() <= w.at as usize {
         return Next::Refused(refusals::EOF_OBJECT, w.at);
     }
-    if byte_at(s, w.at) % 128 != 0x30 {
+    if byte_at(s, w.at) % 128 != grammar::NULL_LETTER {
         return Next::Child(line, WHATEVER);
     }
     let walk = Walk {
@@ -443,7 +443,7 @@ fn next_part(s: &[u8], nodes: &[u32], header: u32, line: Line) -> Next
     requires { ⌜ (line .walk .at ≤ length (now s)) × (header + 1 + codeNumbers ≤ length (now s)) × (length (now s) ≤ mostBytes) ⌝ }
     ensures { λ r. ⌜ PartNext (now (s .entry)) (now (nodes .entry)) header line r ⌝ }
 {
-    if 10 <= line.count {
+    if grammar::CODE_PARTS <= line.count {
         return code_end(s, nodes, header, line);
     }
     let g = first_line(s, line.count, line);

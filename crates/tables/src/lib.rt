@@ -4,10 +4,10 @@ ghost use mathlib.Core.Path.{_≡_};
 ghost use mathlib.Core.Bool.{true, _&&_};
 ghost use Prim.Native.Nat.{_+_, _*_, _≤_, _<_, min};
 ghost use lib.ListN.{length, getD};
-ghost use Rattle.refusals.specs.Limits.{mostBytes};
+ghost use Rattle.refusals.specs.Limits.{mostBytes, mostRecords};
 ghost use Rattle.grammar.specs.Letters;
 ghost use Rattle.grammar.specs.State.{nodeAt, entryAt};
-ghost use Rattle.grammar.specs.Steps.{rules, whatever, asTuple, asNames};
+ghost use Rattle.grammar.specs.Steps.{rules, whatever, asTuple, asNames, codeParts, codePart, localsPart, kindsPart};
 ghost use Rattle.grammar.specs.Record;
 ghost use Rattle.records.specs.Nodes.{nodeOf};
 ghost use Rattle.grammar.specs.Fields.{contents};
@@ -17,11 +17,11 @@ ghost use Rattle.tables.specs.Groups.{localsIn, inGroup, Listed};
 ghost use Rattle.tables.specs.Looking.{lent, links, isSome, isNone, bytesAt, stringAt, Straight, Names, NamesFit, Parts, after, partOf, evenly, Looks};
 
 // The bits of a kind.
-pub const LOCAL: u32 = 0x20;
+pub const LOCAL: u32 = localsplus::LOCAL as u32;
 
-pub const CELL: u32 = 0x40;
+pub const CELL: u32 = localsplus::CELL as u32;
 
-pub const FREE: u32 = 0x80;
+pub const FREE: u32 = localsplus::FREE as u32;
 
 // How many nodes and how many entries are said to be used.
 pub struct Used {
@@ -73,7 +73,7 @@ pub fn node_at(nodes: &[u32], node: u32) -> records::Node
 
 // How many entries of a store may be named, where so many are said to be used.
 fn entries_in(entries: &[u32], used: u32) -> u32
-    ensures { λ r. ⌜ (r ≡ Record.entriesIn (now (entries .entry)) used) × (r ≤ 1048576) ⌝ }
+    ensures { λ r. ⌜ (r ≡ Record.entriesIn (now (entries .entry)) used) × (r ≤ mostRecords) ⌝ }
 {
     let held = entries.len() / 2;
     let most = lesser(used, refusals::MOST_RECORDS);
@@ -86,7 +86,7 @@ fn entries_in(entries: &[u32], used: u32) -> u32
 // How many entries, from one on and up to so many, are each linked to the one behind it, as a reading leaves the leaves of a row.
 // None of these waits for the one before it.
 fn straight(entries: &[u32], room: u32, first: u32, steps: u32) -> u32
-    requires { ⌜ (room * 2 ≤ length (now entries)) × (room ≤ 1048576) ⌝ }
+    requires { ⌜ (room * 2 ≤ length (now entries)) × (room ≤ mostRecords) ⌝ }
     ensures { λ r. ⌜ Straight (now (entries .entry)) room first steps r ⌝ }
 {
     let mut e = first;
@@ -128,7 +128,7 @@ fn is_bytes(letter: u32) -> bool
     ensures { λ r. ⌜ r ≡ Letters.isBytes letter ⌝ }
 {
     match letter {
-        0x73 => true,
+        grammar::BYTES_LETTER => true,
         _ => false,
     }
 }
@@ -138,8 +138,8 @@ fn is_tuple(letter: u32) -> bool
     ensures { λ r. ⌜ r ≡ Letters.isTuple letter ⌝ }
 {
     match letter {
-        0x28 => true,
-        0x29 => true,
+        grammar::TUPLE_LETTER => true,
+        grammar::SMALL_TUPLE_LETTER => true,
         _ => false,
     }
 }
@@ -149,12 +149,12 @@ pub fn is_string(letter: u32) -> bool
     ensures { λ r. ⌜ r ≡ Letters.isString letter ⌝ }
 {
     match letter {
-        0x75 => true,
-        0x74 => true,
-        0x61 => true,
-        0x41 => true,
-        0x7A => true,
-        0x5A => true,
+        grammar::UNICODE_LETTER => true,
+        grammar::INTERNED_LETTER => true,
+        grammar::ASCII_LETTER => true,
+        grammar::ASCII_INTERNED_LETTER => true,
+        grammar::SHORT_LETTER => true,
+        grammar::SHORT_INTERNED_LETTER => true,
         _ => false,
     }
 }
@@ -261,16 +261,16 @@ fn whole_names_fit(s: &[u8], nodes: &[u32], entries: &[u32], used: Used, node: u
 
 // Whether a part of a code is what its rule asks.
 fn part_fits(s: &[u8], nodes: &[u32], entries: &[u32], used: Used, part: u32, node: u32) -> bool
-    requires { ⌜ (length (now s) ≤ mostBytes) × (part < 10) ⌝ }
+    requires { ⌜ (length (now s) ≤ mostBytes) × (part < codeParts) ⌝ }
     ensures { λ r. ⌜ r ≡ isNone (Record.suited (lent (now (s .entry)) (now (nodes .entry)) (now (entries .entry)) used) (getD rules part whatever) node (Record.whole (lent (now (s .entry)) (now (nodes .entry)) (now (entries .entry)) used) node)) ⌝ }
 {
     match part {
-        1 => tuple_fits(s, nodes, entries, used, node),
-        2 => whole_names_fit(s, nodes, entries, used, node),
-        3 => whole_names_fit(s, nodes, entries, used, node),
-        5 => string_at(s, nodes, used.nodes, node),
-        6 => string_at(s, nodes, used.nodes, node),
-        7 => string_at(s, nodes, used.nodes, node),
+        grammar::CONSTANTS_PART => tuple_fits(s, nodes, entries, used, node),
+        grammar::NAMES_PART => whole_names_fit(s, nodes, entries, used, node),
+        grammar::LOCALS_PART => whole_names_fit(s, nodes, entries, used, node),
+        grammar::FILE_PART => string_at(s, nodes, used.nodes, node),
+        grammar::NAME_PART => string_at(s, nodes, used.nodes, node),
+        grammar::QUALIFIED_NAME_PART => string_at(s, nodes, used.nodes, node),
         _ => bytes_at(s, nodes, used.nodes, node),
     }
 }
@@ -282,7 +282,7 @@ fn parts_fit(s: &[u8], nodes: &[u32], entries: &[u32], used: Used, first: u32) -
 {
     let mut e = first;
     let mut part = 0u32;
-    while part < 10 {
+    while part < grammar::CODE_PARTS {
         if !part_fits(s, nodes, entries, used, part, child(entries, e)) {
             return false;
         }
@@ -307,11 +307,11 @@ pub fn part_at(entries: &[u32], first: u32, part: u32) -> u32
 
 // As many kinds as local names, and an even number of code bytes.
 fn ends_fit(nodes: &[u32], entries: &[u32], first: u32) -> bool
-    ensures { λ r. ⌜ r ≡ evenly (now (nodes .entry)) (partOf (now (entries .entry)) first 0) (partOf (now (entries .entry)) first 3) (partOf (now (entries .entry)) first 4) ⌝ }
+    ensures { λ r. ⌜ r ≡ evenly (now (nodes .entry)) (partOf (now (entries .entry)) first codePart) (partOf (now (entries .entry)) first localsPart) (partOf (now (entries .entry)) first kindsPart) ⌝ }
 {
-    let code = node_at(nodes, part_at(entries, first, 0));
-    let locals = node_at(nodes, part_at(entries, first, 3));
-    let kinds = node_at(nodes, part_at(entries, first, 4));
+    let code = node_at(nodes, part_at(entries, first, grammar::CODE_PART));
+    let locals = node_at(nodes, part_at(entries, first, grammar::LOCALS_PART));
+    let kinds = node_at(nodes, part_at(entries, first, grammar::KINDS_PART));
     if locals.count != kinds.size {
         return false;
     }
@@ -327,7 +327,7 @@ pub fn look(s: &[u8], nodes: &[u32], entries: &[u32], used: Used, node: u32) -> 
         return false;
     }
     let n = node_at(nodes, node);
-    if n.letter != 0x63 {
+    if n.letter != grammar::CODE_LETTER {
         return true;
     }
     if !parts_fit(s, nodes, entries, used, n.first) {
@@ -380,7 +380,7 @@ fn has(bit: u32, kind: u8) -> bool
 // Whether a name of a kind is Local and the same as a part of the input.
 fn local_is(s: &[u8], nodes: &[u32], used: u32, kind: u8, name: u32, place: u32, size: u32) -> bool
     requires { ⌜ (place + size ≤ length (now s)) × (stringAt (now s) (now nodes) used name ≡ true) ⌝ }
-    ensures { λ r. ⌜ r ≡ (Kind.has 32 kind && sameBytes (contents (now (s .entry)) place size) (contents (now (s .entry)) (nodeAt (now (nodes .entry)) name .place) (nodeAt (now (nodes .entry)) name .size))) ⌝ }
+    ensures { λ r. ⌜ r ≡ (Kind.has Kind.localBit kind && sameBytes (contents (now (s .entry)) place size) (contents (now (s .entry)) (nodeAt (now (nodes .entry)) name .place) (nodeAt (now (nodes .entry)) name .size))) ⌝ }
 {
     if !has(LOCAL, kind) {
         return false;

@@ -1,29 +1,11 @@
 // 01's run sheet for varints: 64 in each form, read back, cut and without room, one answer to a line.
 // Each store is lent full of ones, so that a line also shows that the rest of it is cleared.
-use libc::STDOUT_FILENO;
+use printing::say;
+use printing::say_bytes;
+use printing::say_number;
+use printing::say_refused;
 use varint::Found;
 use varint::Written;
-
-fn say(text: &[u8]) {
-    io::write_all(STDOUT_FILENO, text);
-}
-
-fn say_number(number: u64) {
-    io::print_decimal(STDOUT_FILENO, number);
-}
-
-fn say_byte(byte: u8) {
-    say(b" ");
-    io::print_hex(STDOUT_FILENO, byte as u64, 2);
-}
-
-fn say_bytes(bytes: &[u8]) {
-    let mut i = 0;
-    while i < bytes.len() {
-        say_byte(bytes[i]);
-        i += 1;
-    }
-}
 
 fn say_written(answer: Written, out: &[u8]) {
     match answer {
@@ -32,10 +14,7 @@ fn say_written(answer: Written, out: &[u8]) {
             say_number(count as u64);
         }
         Written::Refused(number, place) => {
-            say(b"refused ");
-            say_number(number as u64);
-            say(b" at ");
-            say_number(place as u64);
+            say_refused(number, place);
         }
     }
     say(b", store");

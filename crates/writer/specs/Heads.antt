@@ -8,11 +8,12 @@ use mathlib.Core.Option.{none}
 use mathlib.Core.List.{List, [], _∷_}
 use lib.ListN.{length, take, getD, drop}
 use lib.Dec.{eqb}
+use Rattle.grammar.specs.LetterNames.{nullLetter}
 use Rattle.grammar.specs.Reading.{Answer, gives, stops}
 use Rattle.grammar.specs.Letters.{Class, codes, classOf}
 use Rattle.grammar.specs.Fields.{le32}
 use Rattle.grammar.specs.State.{Node}
-use Rattle.grammar.specs.Steps.{rules, codeParts, kindsPart, linePart, asNames, whatever}
+use Rattle.grammar.specs.Steps.{rules, codeParts, kindsPart, linePart, asNames, whatever, localsPart}
 use Rattle.grammar.specs.Record.{Tables, nodeOf, chain, whole, suited, badPart}
 use Rattle.writing.specs.Writing.{Writing, ended, emit, then, each, into}
 use Rattle.writing.specs.Canonical.{bytes32, shownLine}
@@ -34,7 +35,7 @@ kidsFrom t count first = orNone (chain t count first)
 
 -- what stands behind a row: of pairs, a dict's closing byte, which comes where it stands
 abbrev pub closed : (pairs : Bool) → Writing
-closed true = emit (0x30 ∷ []) ended
+closed true = emit (nullLetter ∷ []) ended
 closed false = ended
 
 -- local names and their kinds, as a code has tested them
@@ -110,10 +111,10 @@ partsFrom t a line kinds i [] = ended
 partsFrom t a line kinds i (v ∷ vs) = then (linedPart t a line kinds i v) (partsFrom t a line kinds (i + 1) vs)
 
 pub record PartIn (t : Tables) (kinds i v : ℕ) : Type 0 where
-  pub below : i < 10
+  pub below : i < codeParts
   pub fits : suited t (getD rules i whatever) v (whole t v) ≡ none
   pub within : nodeOf t kinds .place + nodeOf t kinds .size ≤ length (t .input)
-  pub even : i ≡ 3 → nodeOf t kinds .size ≡ nodeOf t v .count
+  pub even : i ≡ localsPart → nodeOf t kinds .size ≡ nodeOf t v .count
 
 -- whether levels are out, which neither the input nor the entries tell
 pub record Levels (nodes : List ℕ) (used allowance node : ℕ) (r : Bool) : Type 0 where

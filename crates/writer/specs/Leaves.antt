@@ -6,6 +6,7 @@ use Prim.Native.Nat.{ℕ, _+_, _-_, _≤_}
 use mathlib.Core.Bool.{Bool, true, false}
 use mathlib.Core.List.{List, _∷_}
 use lib.ListN.{length}
+use Rattle.grammar.specs.LetterNames.{intLetter, unicodeLetter}
 use Rattle.grammar.specs.Letters.{codes, classOf}
 use Rattle.grammar.specs.Fields.{contents}
 use Rattle.grammar.specs.State.{Node}
@@ -37,13 +38,13 @@ pub record Leafed (s : List ℕ) (n : Node) (w : Writing) : Type 0 where
 
 -- the bytes of each kind: an integer of four bytes; bytes or a string, by their letter
 abbrev pub fourAt : List ℕ → (place : ℕ) → Writing
-fourAt s place = emit (0x69 ∷ contents s place 4) ended
+fourAt s place = emit (intLetter ∷ contents s place 4) ended
 
 abbrev pub sizedAt : List ℕ → (letter place size : ℕ) → Writing
 sizedAt s letter place size = emit (sized letter (contents s place size)) ended
 
 abbrev pub textIf : Bool → (place size : ℕ) → Leaf
-textIf true place size = leaf.Sized 0x75 place size
+textIf true place size = leaf.Sized unicodeLetter place size
 textIf false place size = leaf.Other
 
 abbrev pub LeafIs : List ℕ → Node → Leaf → Type 0

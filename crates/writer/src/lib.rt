@@ -7,6 +7,7 @@ ghost use mathlib.Core.List.{_∷_};
 ghost use lib.Dec.{eqb};
 ghost use Prim.Native.Nat.{_+_, _-_, _≤_, _<_, min};
 ghost use lib.ListN.{length};
+ghost use Rattle.grammar.specs.LetterNames.{floatLetter};
 ghost use Rattle.refusals.specs.Limits.{mostBytes};
 ghost use Rattle.grammar.specs.Steps.{asBytes, asNames};
 ghost use Rattle.grammar.specs.Letters.{classOf};
@@ -74,7 +75,7 @@ fn write_bytes(
         return puts::Wrote::Refused(refusals::TOO_DEEP, node);
     }
     let n = tables::node_at(nodes, node);
-    puts::write_vec(out, at, 0x73, s, n.place, n.size)
+    puts::write_vec(out, at, grammar::WRITTEN_BYTES, s, n.place, n.size)
 }
 
 // The names of a chain, one after another.
@@ -129,7 +130,7 @@ fn write_marshal_name_tuple(
         return puts::Wrote::Refused(refusals::TOO_DEEP, node);
     }
     let n = tables::node_at(nodes, node);
-    match puts::write_len(out, at, 0x28, n.count) {
+    match puts::write_len(out, at, grammar::WRITTEN_TUPLE, n.count) {
         puts::Wrote::Refused(number, place) => puts::Wrote::Refused(number, place),
         puts::Wrote::Done(a) => write_names(
             s,
@@ -303,7 +304,7 @@ fn write_locals(
         count: n.count,
         kinds: k.place,
     };
-    match puts::write_len(out, at, 0x28, 0) {
+    match puts::write_len(out, at, grammar::WRITTEN_TUPLE, 0) {
         puts::Wrote::Refused(number, place) => puts::Wrote::Refused(number, place),
         puts::Wrote::Done(a) => {
             match write_groups(s, nodes, entries, out, used, allowance - 1, locals, a) {
@@ -347,10 +348,10 @@ fn with_parts(wrote: puts::Wrote) -> Opened
 // Eight bytes: a float, or a whole number.
 fn write_eight(s: &[u8], out: &mut [u8], letter: u32, place: u32, at: u32) -> puts::Wrote
     requires { ⌜ Open at (now out) × (place + 8 ≤ length (now s)) ⌝ }
-    ensures { λ r. ⌜ Puts (emit (cond (eqb letter 0x67) (0x67 ∷ bytes64 (le64 (now (s .entry)) place)) (integerBytes (ofBits 9223372036854775808 (le64 (now (s .entry)) place)))) ended) at (now (out .entry)) r (now (out .exit)) ⌝ }
+    ensures { λ r. ⌜ Puts (emit (cond (eqb letter floatLetter) (floatLetter ∷ bytes64 (le64 (now (s .entry)) place)) (integerBytes (ofBits 9223372036854775808 (le64 (now (s .entry)) place)))) ended) at (now (out .entry)) r (now (out .exit)) ⌝ }
 {
-    if letter == 0x67 {
-        return puts::write_slice(out, at, 0x67, s, place, 8);
+    if letter == grammar::FLOAT_LETTER {
+        return puts::write_slice(out, at, grammar::WRITTEN_FLOAT, s, place, 8);
     }
     puts::write_int64(out, at, s, place)
 }
@@ -362,18 +363,56 @@ fn write_front(s: &[u8], out: &mut [u8], n: records::Node, class: u32, at: u32) 
 {
     match class {
         fields::SINGLE => whole(puts::write_u8(out, at, n.letter as u8)),
-        fields::FIXED4 => whole(puts::write_slice(out, at, 0x69, s, n.place, 4)),
+        fields::FIXED4 => whole(puts::write_slice(out, at, grammar::WRITTEN_INT, s, n.place, 4)),
         fields::FIXED8 => whole(write_eight(s, out, n.letter, n.place, at)),
-        fields::DOUBLE => whole(puts::write_slice(out, at, 0x79, s, n.place, 16)),
+        fields::DOUBLE => whole(puts::write_slice(
+            out,
+            at,
+            grammar::WRITTEN_COMPLEX,
+            s,
+            n.place,
+            16,
+        )),
         fields::LONG => whole(puts::write_pylong(out, at, s, n.place, n.size)),
         fields::SEQUENCE => with_row(puts::write_len(out, at, n.letter as u8, n.count), false),
-        fields::FEW => with_row(puts::write_len(out, at, 0x28, n.count), false),
-        fields::SLICE => with_row(puts::write_u8(out, at, 0x3A), false),
-        fields::DICT => with_row(puts::write_u8(out, at, 0x7B), true),
-        fields::BYTES => whole(puts::write_vec(out, at, 0x73, s, n.place, n.size)),
-        fields::TEXT => whole(puts::write_vec(out, at, 0x75, s, n.place, n.size)),
-        fields::SHORT => whole(puts::write_vec(out, at, 0x75, s, n.place, n.size)),
-        _ => with_parts(puts::write_slice(out, at, 0x63, s, n.place, 20)),
+        fields::FEW => with_row(
+            puts::write_len(out, at, grammar::WRITTEN_TUPLE, n.count),
+            false,
+        ),
+        fields::SLICE => with_row(puts::write_u8(out, at, grammar::WRITTEN_SLICE), false),
+        fields::DICT => with_row(puts::write_u8(out, at, grammar::WRITTEN_DICT), true),
+        fields::BYTES => whole(puts::write_vec(
+            out,
+            at,
+            grammar::WRITTEN_BYTES,
+            s,
+            n.place,
+            n.size,
+        )),
+        fields::TEXT => whole(puts::write_vec(
+            out,
+            at,
+            grammar::WRITTEN_UNICODE,
+            s,
+            n.place,
+            n.size,
+        )),
+        fields::SHORT => whole(puts::write_vec(
+            out,
+            at,
+            grammar::WRITTEN_UNICODE,
+            s,
+            n.place,
+            n.size,
+        )),
+        _ => with_parts(puts::write_slice(
+            out,
+            at,
+            grammar::WRITTEN_CODE,
+            s,
+            n.place,
+            grammar::CODE_NUMBERS,
+        )),
     }
 }
 
@@ -391,7 +430,7 @@ fn too_deep(nodes: &[u32], used: u32, allowance: u32, node: u32) -> bool
         return false;
     }
     let n = tables::node_at(nodes, node);
-    n.letter == 0x63
+    n.letter == grammar::CODE_LETTER
 }
 
 // A node up to its children: its levels, its record, and its own bytes.
@@ -430,7 +469,7 @@ fn text_if(formed: bool, place: u32, size: u32) -> Leaf
     ensures { λ r. ⌜ r ≡ textIf formed place size ⌝ }
 {
     if formed {
-        Leaf::Sized(0x75, place, size)
+        Leaf::Sized(grammar::WRITTEN_UNICODE, place, size)
     } else {
         Leaf::Other
     }
@@ -458,13 +497,13 @@ fn leaf_of(s: &[u8], n: records::Node) -> Leaf
     }
     let letter = n.letter;
     match letter {
-        0x69 => {
+        grammar::INT_LETTER => {
             if n.size != 4 {
                 return Leaf::Other;
             }
             Leaf::Four(n.place)
         }
-        0x73 => Leaf::Sized(0x73, n.place, n.size),
+        grammar::BYTES_LETTER => Leaf::Sized(grammar::WRITTEN_BYTES, n.place, n.size),
         _ => text_of(s, n),
     }
 }
@@ -514,7 +553,7 @@ fn write_leaf(
 {
     match leaf_at(s, nodes, used, allowance, node) {
         Leaf::Other => Led::Left,
-        Leaf::Four(place) => led_by(puts::write_slice(out, at, 0x69, s, place, 4)),
+        Leaf::Four(place) => led_by(puts::write_slice(out, at, grammar::WRITTEN_INT, s, place, 4)),
         Leaf::Sized(letter, place, size) => led_by(puts::write_vec(
             out,
             at,
@@ -586,7 +625,7 @@ fn close_row(out: &mut [u8], at: u32, pairs: bool) -> puts::Wrote
     ensures { λ r. ⌜ Puts (closed pairs) at (now (out .entry)) r (now (out .exit)) ⌝ }
 {
     if pairs {
-        return puts::write_u8(out, at, 0x30);
+        return puts::write_u8(out, at, grammar::WRITTEN_NULL);
     }
     puts::Wrote::Done(at)
 }
@@ -688,18 +727,46 @@ fn write_part(
     ensures { λ r. ⌜ Puts (linedPart (lent (now (s .entry)) (now (nodes .entry)) (now (entries .entry)) used) allowance line (contentsOf (lent (now (s .entry)) (now (nodes .entry)) (now (entries .entry)) used) kinds) part node) at (now (out .entry)) r (now (out .exit)) ⌝ }
 {
     match part {
-        0 => write_bytes(s, nodes, entries, out, used, allowance, node, at),
-        2 => write_marshal_name_tuple(s, nodes, entries, out, used, allowance, node, at),
-        3 => write_locals(s, nodes, entries, out, used, allowance, kinds, node, at),
-        4 => write_bytes(s, nodes, entries, out, used, allowance, node, at),
-        5 => write_string(s, nodes, entries, out, used, allowance, node, at),
-        6 => write_string(s, nodes, entries, out, used, allowance, node, at),
-        7 => write_string(s, nodes, entries, out, used, allowance, node, at),
-        8 => match puts::write_u32(out, at, shown(line)) {
+        grammar::CODE_PART => write_bytes(s, nodes, entries, out, used, allowance, node, at),
+        grammar::NAMES_PART => write_marshal_name_tuple(
+            s,
+            nodes,
+            entries,
+            out,
+            used,
+            allowance,
+            node,
+            at,
+        ),
+        grammar::LOCALS_PART => write_locals(
+            s,
+            nodes,
+            entries,
+            out,
+            used,
+            allowance,
+            kinds,
+            node,
+            at,
+        ),
+        grammar::KINDS_PART => write_bytes(s, nodes, entries, out, used, allowance, node, at),
+        grammar::FILE_PART => write_string(s, nodes, entries, out, used, allowance, node, at),
+        grammar::NAME_PART => write_string(s, nodes, entries, out, used, allowance, node, at),
+        grammar::QUALIFIED_NAME_PART => write_string(
+            s,
+            nodes,
+            entries,
+            out,
+            used,
+            allowance,
+            node,
+            at,
+        ),
+        grammar::LINES_PART => match puts::write_u32(out, at, shown(line)) {
             puts::Wrote::Refused(number, place) => puts::Wrote::Refused(number, place),
             puts::Wrote::Done(a) => write_bytes(s, nodes, entries, out, used, allowance, node, a),
         },
-        9 => write_bytes(s, nodes, entries, out, used, allowance, node, at),
+        grammar::EXCEPTIONS_PART => write_bytes(s, nodes, entries, out, used, allowance, node, at),
         _ => write_value(s, nodes, entries, out, used, allowance, node, at),
     }
 }
@@ -720,11 +787,11 @@ fn write_parts(
 {
     let n = tables::node_at(nodes, node);
     let line = fields::le32(s, n.place as usize + n.size as usize);
-    let kinds = tables::part_at(entries, n.first, 4);
+    let kinds = tables::part_at(entries, n.first, grammar::KINDS_PART);
     let mut e = n.first;
     let mut part = 0u32;
     let mut p = at;
-    while part < 10 {
+    while part < grammar::CODE_PARTS {
         let child = tables::child(entries, e);
         match write_part(
             s,

@@ -5,6 +5,7 @@ use mathlib.Core.Bool.{Bool, true, false, cond, _&&_}
 use mathlib.Core.List.{List, [], _∷_, _++_}
 use lib.ListN.{length}
 use lib.Dec.{leb, ltb}
+use Rattle.grammar.specs.LetterNames.{intLetter, longLetter, unicodeLetter, shortLetter}
 
 -- Little-endian numbers of two, four and eight bytes.
 abbrev pub bytes16 : ℕ → List ℕ
@@ -53,12 +54,12 @@ digitBytes (d ∷ ds) = bytes16 d ++ digitBytes ds
 -- "its sign is the number's": the count of digits, signed
 abbrev pub longBytes : Integer → List ℕ
 longBytes z =
-    0x6C ∷ bytes32 (bitsOf 4294967296 (record { negative = z .negative; magnitude = length (digitsOf (z .magnitude)) }))
+    longLetter ∷ bytes32 (bitsOf 4294967296 (record { negative = z .negative; magnitude = length (digitsOf (z .magnitude)) }))
     ++ digitBytes (digitsOf (z .magnitude))
 
 unfoldable pub integerBytes : Integer → List ℕ
 unfolding digitsFrom digitBytes
-integerBytes z = cond (inSigned32 z) (0x69 ∷ bytes32 (bitsOf 4294967296 z)) (longBytes z)
+integerBytes z = cond (inSigned32 z) (intLetter ∷ bytes32 (bitsOf 4294967296 z)) (longBytes z)
 
 -- bytes and strings: letter, length, contents
 abbrev pub sized : (letter : ℕ) → List ℕ → List ℕ
@@ -71,7 +72,7 @@ ascii (b ∷ bs) = ltb b 128 && ascii bs
 unfoldable pub codeString : List ℕ → List ℕ
 unfolding ascii
 codeString contents =
-    cond (ltb (length contents) 256 && ascii contents) (0x7A ∷ length contents ∷ contents) (sized 0x75 contents)
+    cond (ltb (length contents) 256 && ascii contents) (shortLetter ∷ length contents ∷ contents) (sized unicodeLetter contents)
 
 -- "a first line of 0 or less as 0"
 abbrev pub shownLine : ℕ → ℕ

@@ -4,6 +4,7 @@ use Prim.Native.Nat.{ℕ, _+_}
 use mathlib.Core.Bool.{Bool, true, false, cond, not}
 use mathlib.Core.List.{List, [], _∷_}
 use lib.Dec.{eqb}
+use Rattle.grammar.specs.LetterNames.{floatLetter, tupleLetter}
 use Rattle.grammar.specs.Letters as letter
 use Rattle.grammar.specs.Letters.{Form, Sort, Class, classOf}
 use Rattle.grammar.specs.Fields.{le32, le64, contents, notNegative, digitCount}
@@ -37,7 +38,7 @@ longAt s at = record { negative = not (notNegative (le32 s at)); magnitude = mag
 
 -- `I` is a whole number of 64 bits and `g` a float; both are one field of eight bytes
 abbrev pub eight : (letter bits : ℕ) → Shape
-eight letter bits = cond (eqb letter 0x67) (float bits) (integer (ofBits 9223372036854775808 bits))
+eight letter bits = cond (eqb letter floatLetter) (float bits) (integer (ofBits 9223372036854775808 bits))
 
 abbrev pub field : (letter size : ℕ) → List ℕ → ℕ → Shape
 field letter size s at = cond (eqb size 4) (integer (ofBits 2147483648 (le32 s at))) (eight letter (le64 s at))
@@ -49,7 +50,7 @@ formed s n kids letter.double = complex (le64 s (n .place)) (le64 s (n .place + 
 formed s n kids letter.long = integer (longAt s (n .place))
 formed s n kids letter.sequence = sequence (n .letter) kids
 -- "tuples `(`"
-formed s n kids letter.few = sequence 0x28 kids
+formed s n kids letter.few = sequence tupleLetter kids
 formed s n kids letter.slice = slice kids
 formed s n kids letter.dict = dict kids
 

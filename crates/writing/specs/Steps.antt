@@ -1,11 +1,13 @@
 -- The writing of a node, step by step, for any stores. 01, 'Writing it back'.
-use Prim.Native.Nat.{ℕ, zero, suc, _-_}
+use Prim.Native.Nat.{ℕ, zero, suc, _+_, _-_}
 use mathlib.Core.Bool.{Bool, true, false, cond, _&&_}
 use mathlib.Core.List.{List, [], _∷_, _++_}
 use lib.ListN.{length, getD, take, drop}
 use lib.Dec.{ltb, eqb}
 use Rattle.refusals.specs.Numbers.{tooDeep, badTable}
-use Rattle.grammar.specs.Steps.{kindsPart, linePart}
+use Rattle.grammar.specs.LetterNames.{floatLetter, complexLetter, bytesLetter, unicodeLetter, tupleLetter, sliceLetter, dictLetter, codeLetter, nullLetter}
+use Rattle.grammar.specs.Steps as rule
+use Rattle.grammar.specs.Steps.{Rule, rules, localsPart, kindsPart, linePart}
 use Rattle.grammar.specs.Record.{Tables, Looked, holds, faulty, look, nodeOf, nodesIn, chain}
 use Rattle.writing.specs.Writing.{Writing, ended, refused, emit, then, each}
 use Rattle.writing.specs.Canonical.{bytes32, bytes64, words, integerBytes, sized, codeString, shownLine}
@@ -26,7 +28,7 @@ stringPart t a v = levelled a v (emit (codeString (contentsOf t v)) ended)
 
 -- a tuple of code strings, each with the allowance less one
 abbrev pub namesPart : Tables → (allowance node : ℕ) → (names : List ℕ) → Writing
-namesPart t a v names = levelled a v (emit (0x28 ∷ bytes32 (length names)) (each (stringPart t (a - 1)) names))
+namesPart t a v names = levelled a v (emit (tupleLetter ∷ bytes32 (length names)) (each (stringPart t (a - 1)) names))
 
 -- the children of a node whose chain is sound
 abbrev pub someOf : Tables → ℕ → Looked → List ℕ
@@ -40,10 +42,22 @@ kidsOf t v = someOf t v (look t v)
 pub data Manner : Type 0 where
   asValue asNames asLocals asString : Manner
 
+-- It follows from the rule that the part is held to when it is read.
+abbrev pub mannerOf : Rule → Manner
+mannerOf rule.whatever = asValue
+mannerOf rule.asBytes = asValue
+mannerOf rule.asTuple = asValue
+mannerOf rule.asNames = asNames
+mannerOf rule.asString = asString
+
+-- the parts from the ith on
+abbrev pub mannersFrom : (i : ℕ) → List Rule → List Manner
+mannersFrom i [] = []
+mannersFrom i (r ∷ rs) = cond (eqb i localsPart) asLocals (mannerOf r) ∷ mannersFrom (i + 1) rs
+
 unfoldable pub manners : List Manner
-manners =
-    asValue ∷ asValue ∷ asNames ∷ asLocals ∷ asValue
-    ∷ asString ∷ asString ∷ asString ∷ asValue ∷ asValue ∷ []
+unfolding rules
+manners = mannersFrom 0 rules
 
 -- f writes a value with the parts' allowance a; the kind bytes stand in the part after the local names
 abbrev pub part : Tables → (allowance : ℕ) → (f : ℕ → Writing) → (kinds : List ℕ) → Manner → ℕ → Writing
@@ -70,14 +84,14 @@ parted t a f line vs =
 abbrev pub shaped : (f : ℕ → Writing) → (g : ℕ → List ℕ → Writing) → Shape → Writing
 shaped f g (shape.single letter) = emit (letter ∷ []) ended
 shaped f g (shape.integer z) = emit (integerBytes z) ended
-shaped f g (shape.float bits) = emit (0x67 ∷ bytes64 bits) ended
-shaped f g (shape.complex real imaginary) = emit (0x79 ∷ bytes64 real ++ bytes64 imaginary) ended
-shaped f g (shape.bytes contents) = emit (sized 0x73 contents) ended
-shaped f g (shape.text contents) = emit (sized 0x75 contents) ended
+shaped f g (shape.float bits) = emit (floatLetter ∷ bytes64 bits) ended
+shaped f g (shape.complex real imaginary) = emit (complexLetter ∷ bytes64 real ++ bytes64 imaginary) ended
+shaped f g (shape.bytes contents) = emit (sized bytesLetter contents) ended
+shaped f g (shape.text contents) = emit (sized unicodeLetter contents) ended
 shaped f g (shape.sequence letter kids) = emit (letter ∷ bytes32 (length kids)) (each f kids)
-shaped f g (shape.slice kids) = emit (0x3A ∷ []) (each f kids)
-shaped f g (shape.dict kids) = emit (0x7B ∷ []) (then (each f kids) (emit (0x30 ∷ []) ended))
-shaped f g (shape.code numbers line parts) = emit (0x63 ∷ words numbers) (g line parts)
+shaped f g (shape.slice kids) = emit (sliceLetter ∷ []) (each f kids)
+shaped f g (shape.dict kids) = emit (dictLetter ∷ []) (then (each f kids) (emit (nullLetter ∷ []) ended))
+shaped f g (shape.code numbers line parts) = emit (codeLetter ∷ words numbers) (g line parts)
 
 abbrev pub looked : (f : ℕ → Writing) → (g : ℕ → List ℕ → Writing) → Tables → ℕ → Looked → Writing
 looked f g t n (holds kids) = shaped f g (shapeOf t n kids)
@@ -85,7 +99,7 @@ looked f g t n (faulty place) = refused badTable place
 
 -- "A code tests both its levels .. at itself": with one level left it is refused before its record is tested.
 abbrev pub isCode : Tables → ℕ → Bool
-isCode t n = ltb n (nodesIn (t .nodes) (t .usedNodes)) && eqb (nodeOf t n .letter) 0x63
+isCode t n = ltb n (nodesIn (t .nodes) (t .usedNodes)) && eqb (nodeOf t n .letter) codeLetter
 
 abbrev pub noParts : (node line : ℕ) → List ℕ → Writing
 noParts n line parts = refused tooDeep n

@@ -2,40 +2,19 @@
 // The bounds of the Unicode Standard's Table 3-7 are shown from both sides.
 ghost use Prim.Native.Nat.{_≤_, _<_};
 ghost use lib.ListN.{length};
-
-const OUT: i32 = 1;
-
-fn print_digit(digit: u8)
-    requires { ⌜ digit < 16 ⌝ }
-{
-    if digit < 10 {
-        io::write_all(OUT, &[0x30 + digit]);
-    } else {
-        io::write_all(OUT, &[0x37 + digit]);
-    }
-}
-
-// The bytes in hexadecimal.
-fn print_bytes(bytes: &[u8]) {
-    let mut at = 0;
-    while at < bytes.len() {
-        print_digit(bytes[at] / 16);
-        print_digit(bytes[at] % 16);
-        io::write_all(OUT, b" ");
-        at += 1;
-    }
-}
+use printing::say;
+use printing::say_bytes;
 
 fn show(bytes: &[u8], what: &[u8]) {
     if wtf8::is_wtf8(bytes) {
-        io::write_all(OUT, b"yes: ");
+        say(b"yes:");
     } else {
-        io::write_all(OUT, b"no:  ");
+        say(b"no: ");
     }
-    print_bytes(bytes);
-    io::write_all(OUT, b"(");
-    io::write_all(OUT, what);
-    io::write_all(OUT, b")\n");
+    say_bytes(bytes);
+    say(b" (");
+    say(what);
+    say(b")\n");
 }
 
 fn plain_text() {

@@ -1,25 +1,56 @@
-//! The refusal numbers and limits stand once in crates/refusals and once in the Rust declarations: here they are held to
-//! one another, by their text.
+//! The refusal numbers and limits stand once in crates/refusals, once in the list of the Rust declarations and, as far as they
+//! are refusals, once in the C header: here they are held to one another, the port's and the header's by their text.
 use crate::tally::Tally;
+use sillgarland_sys::refusals::{self, TABLE};
 use std::collections::BTreeMap;
 
 const PORT: &str = "crates/refusals/src/lib.rt";
-const RUST: &str = "rust/sillgarland-sys/src/lib.rs";
+const HEADER: &str = "include/sillgarland.h";
+
+type Constants = BTreeMap<String, String>;
 
 pub fn hold() -> bool {
     let mut tally = Tally::new("numbers");
-    let (port, rust) = (constants(PORT), constants(RUST));
-    for name in port.keys().chain(rust.keys().filter(|name| !port.contains_key(*name))) {
-        let held = port.get(name) == rust.get(name);
-        let difference = || format!("{name}: {PORT} has {:?}, {RUST} has {:?}", port.get(name), rust.get(name));
-        tally.count("constants alike", if held { Ok(()) } else { Err(difference()) });
-    }
+    compare(&mut tally, "constants of the port alike", &lines_of(PORT, "pub const ", ": u32 = ", ";"), &of_the_port());
+    compare(&mut tally, "names of the header alike", &lines_of(HEADER, "SILL_", " = ", ","), &of_the_table());
     tally.finish()
 }
 
-/// Every `pub const NAME: u32 = NUMBER;` of a file.
-fn constants(path: &str) -> BTreeMap<String, String> {
+fn compare(tally: &mut Tally, class: &'static str, text: &Constants, rust: &Constants) {
+    for name in text.keys().chain(rust.keys().filter(|name| !text.contains_key(*name))) {
+        let held = text.get(name) == rust.get(name);
+        let difference = || format!("{class}: {name} is {:?}, and {:?} in the Rust", text.get(name), rust.get(name));
+        tally.count(class, if held { Ok(()) } else { Err(difference()) });
+    }
+}
+
+/// The refusals by their constants.
+fn of_the_table() -> Constants {
+    TABLE.iter().map(|(constant, _, number)| (constant.to_string(), number.to_string())).collect()
+}
+
+/// The same with what else the port's crate names; its last number is said by the last name.
+fn of_the_port() -> Constants {
+    let last = TABLE.last().map_or("", |(constant, ..)| constant);
+    let others = [
+        ("ACCEPTED", refusals::ACCEPTED.to_string()),
+        ("LAST_NUMBER", last.to_string()),
+        ("MOST_BYTES", refusals::MOST_BYTES.to_string()),
+        ("MOST_RECORDS", refusals::MOST_RECORDS.to_string()),
+        ("MOST_NESTING", refusals::MOST_NESTING.to_string()),
+        ("NOTHING", refusals::NOTHING.to_string()),
+    ];
+    of_the_table().into_iter().chain(others.map(|(name, value)| (name.into(), value))).collect()
+}
+
+/// Every line of a file that gives a name its value.
+fn lines_of(path: &str, before: &str, between: &str, after: &str) -> Constants {
     let text = std::fs::read_to_string(path).unwrap_or_default();
-    let lines = text.lines().filter_map(|line| line.trim().strip_prefix("pub const ")?.strip_suffix(';'));
-    lines.filter_map(|line| line.split_once(": u32 = ")).map(|(name, value)| (name.into(), value.into())).collect()
+    let lines = text.lines().filter_map(|line| line.trim().strip_prefix(before)?.strip_suffix(after));
+    lines.filter_map(|line| line.split_once(between)).map(|(name, value)| (name.into(), plainly(value))).collect()
+}
+
+/// A number without the marks between its digits; a name as it is.
+fn plainly(value: &str) -> String {
+    if value.starts_with(|c: char| c.is_ascii_digit()) { value.replace('_', "") } else { value.into() }
 }

@@ -173,27 +173,48 @@ unsafe extern "C" {
     ) -> Written;
 }
 
+/// Hands document 01's refusals to a macro, each as `CONSTANT Name = number,`. Every table of refusals is made from this list.
+#[macro_export]
+macro_rules! each_refusal {
+    ($table:ident) => {
+        $table! {
+            EOF_OBJECT EofObject = 1,
+            DATA_TOO_SHORT DataTooShort = 2,
+            UNKNOWN_TYPE UnknownType = 3,
+            NULL_OBJECT NullObject = 4,
+            INVALID_REF InvalidRef = 5,
+            BAD_SIZE BadSize = 6,
+            BAD_TYPE BadType = 7,
+            INVALID_BYTECODE InvalidBytecode = 8,
+            INVALID_UTF8 InvalidUtf8 = 9,
+            TOO_DEEP TooDeep = 10,
+            NO_NODE NoNode = 11,
+            NO_ENTRY NoEntry = 12,
+            NO_SLOT NoSlot = 13,
+            INPUT_TOO_LONG InputTooLong = 14,
+            NOT_CARRIED NotCarried = 15,
+            BAD_TABLE BadTable = 16,
+            NO_ROOM NoRoom = 17,
+            NUMBER_RANGE NumberRange = 18,
+        }
+    };
+}
+
 /// The refusal numbers and limits of document 01, under the names of the crate `refusals`.
 pub mod refusals {
     pub const ACCEPTED: u32 = 0;
-    pub const EOF_OBJECT: u32 = 1;
-    pub const DATA_TOO_SHORT: u32 = 2;
-    pub const UNKNOWN_TYPE: u32 = 3;
-    pub const NULL_OBJECT: u32 = 4;
-    pub const INVALID_REF: u32 = 5;
-    pub const BAD_SIZE: u32 = 6;
-    pub const BAD_TYPE: u32 = 7;
-    pub const INVALID_BYTECODE: u32 = 8;
-    pub const INVALID_UTF8: u32 = 9;
-    pub const TOO_DEEP: u32 = 10;
-    pub const NO_NODE: u32 = 11;
-    pub const NO_ENTRY: u32 = 12;
-    pub const NO_SLOT: u32 = 13;
-    pub const INPUT_TOO_LONG: u32 = 14;
-    pub const NOT_CARRIED: u32 = 15;
-    pub const BAD_TABLE: u32 = 16;
-    pub const NO_ROOM: u32 = 17;
-    pub const NUMBER_RANGE: u32 = 18;
+
+    macro_rules! constants {
+        ($($constant:ident $name:ident = $number:literal,)*) => {
+            $(pub const $constant: u32 = $number;)*
+            /// Each refusal's constant, its name and its number, in the order of the numbers.
+            pub const TABLE: &[(&str, &str, u32)] = &[$((stringify!($constant), stringify!($name), $number),)*];
+        };
+    }
+    each_refusal!(constants);
+
+    /// The last number of the table.
+    pub const LAST_NUMBER: u32 = TABLE.len() as u32;
 
     pub const MOST_BYTES: u32 = 16_777_216;
     pub const MOST_RECORDS: u32 = 1_048_576;

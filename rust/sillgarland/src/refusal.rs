@@ -1,59 +1,21 @@
 //! Document 01's refusals: number, name and place, and what each means for the person whose file was refused.
+use sillgarland_sys::refusals::LAST_NUMBER;
 use std::fmt;
 
-/// Why nothing was read, written or located; the numbers and names are document 01's.
-#[allow(missing_docs)] // each is explained by its `meaning`
-#[derive(Clone, Copy, Debug, PartialEq, Eq, PartialOrd, Ord, Hash)]
-pub enum Refusal {
-    EofObject = 1,
-    DataTooShort,
-    UnknownType,
-    NullObject,
-    InvalidRef,
-    BadSize,
-    BadType,
-    InvalidBytecode,
-    InvalidUtf8,
-    TooDeep,
-    NoNode,
-    NoEntry,
-    NoSlot,
-    InputTooLong,
-    NotCarried,
-    BadTable,
-    NoRoom,
-    NumberRange,
-}
+macro_rules! refusals {
+    ($($constant:ident $name:ident = $number:literal,)*) => {
+        /// Why nothing was read, written or located; the numbers and names are document 01's.
+        #[allow(missing_docs)] // each is explained by its `meaning`
+        #[derive(Clone, Copy, Debug, PartialEq, Eq, PartialOrd, Ord, Hash)]
+        pub enum Refusal {
+            $($name = $number,)*
+        }
 
-/// Each refusal's meaning, said of the place where it stands, in the order of the numbers.
-const MEANINGS: [(Refusal, &str); 18] = [
-    (Refusal::EofObject, "a value is expected here, and the input ends"),
-    (Refusal::DataTooShort, "the field that starts here is cut: the input ends inside it"),
-    (Refusal::UnknownType, "a type letter is expected here, and this byte is none"),
-    (Refusal::NullObject, "a value is expected here, and a null stands here (it may only end a dict)"),
-    (Refusal::InvalidRef, "a reference to a value that is already complete is expected here, and this one names none"),
-    (Refusal::BadSize, "a length is expected here, and this one is negative"),
-    (Refusal::BadType, "this part of a code object is not of the type that belongs here (bytes, tuple, names, string)"),
-    (
-        Refusal::InvalidBytecode,
-        "a sound digit or code object is expected here: a digit is below 32,768 and the last one not 0; \
-         a code object has as many kinds as local names and an even number of code bytes",
-    ),
-    (Refusal::InvalidUtf8, "the text that starts here is not UTF-8 (surrogates would be allowed)"),
-    (Refusal::TooDeep, "the value here is nested more than 2,000 levels deep"),
-    (Refusal::NoNode, "the value that starts here is one too many: 1,048,576 fit in one reading"),
-    (Refusal::NoEntry, "the child that starts here is one too many: 1,048,576 fit in one reading"),
-    (Refusal::NoSlot, "the shared value that starts here is one too many: 1,048,576 fit in one reading"),
-    (Refusal::InputTooLong, "the input is longer than 16,777,216 bytes"),
-    (Refusal::NotCarried, "a float written as decimal digits (letter f or x) stands here; these are not read"),
-    (Refusal::BadTable, "the stores hold no sound record of this node"),
-    (Refusal::NoRoom, "what is written does not fit"),
-    (
-        Refusal::NumberRange,
-        "a number here leaves its range: a code object's argument counts add up to 2^32 or more, \
-         or a line table's entry steps out of 32 bits",
-    ),
-];
+        /// Every refusal, in the order of the numbers.
+        const ALL: [Refusal; LAST_NUMBER as usize] = [$(Refusal::$name,)*];
+    };
+}
+sillgarland_sys::each_refusal!(refusals);
 
 impl Refusal {
     /// The refusal that a number stands for; 0 means accepted and is none.
@@ -65,7 +27,7 @@ impl Refusal {
     /// ```
     pub fn of_number(number: u32) -> Option<Self> {
         let at = usize::try_from(number).ok()?.checked_sub(1)?;
-        MEANINGS.get(at).map(|(refusal, _)| *refusal)
+        ALL.get(at).copied()
     }
 
     /// Document 01's number.
@@ -75,7 +37,36 @@ impl Refusal {
 
     /// What is wrong at the place of the refusal, and what is expected there.
     pub fn meaning(self) -> &'static str {
-        MEANINGS[self as usize - 1].1
+        match self {
+            Refusal::EofObject => "a value is expected here, and the input ends",
+            Refusal::DataTooShort => "the field that starts here is cut: the input ends inside it",
+            Refusal::UnknownType => "a type letter is expected here, and this byte is none",
+            Refusal::NullObject => "a value is expected here, and a null stands here (it may only end a dict)",
+            Refusal::InvalidRef => {
+                "a reference to a value that is already complete is expected here, and this one names none"
+            }
+            Refusal::BadSize => "a length is expected here, and this one is negative",
+            Refusal::BadType => {
+                "this part of a code object is not of the type that belongs here (bytes, tuple, names, string)"
+            }
+            Refusal::InvalidBytecode => {
+                "a sound digit or code object is expected here: a digit is below 32,768 and the last one not 0; \
+                 a code object has as many kinds as local names and an even number of code bytes"
+            }
+            Refusal::InvalidUtf8 => "the text that starts here is not UTF-8 (surrogates would be allowed)",
+            Refusal::TooDeep => "the value here is nested more than 2,000 levels deep",
+            Refusal::NoNode => "the value that starts here is one too many: 1,048,576 fit in one reading",
+            Refusal::NoEntry => "the child that starts here is one too many: 1,048,576 fit in one reading",
+            Refusal::NoSlot => "the shared value that starts here is one too many: 1,048,576 fit in one reading",
+            Refusal::InputTooLong => "the input is longer than 16,777,216 bytes",
+            Refusal::NotCarried => "a float written as decimal digits (letter f or x) stands here; these are not read",
+            Refusal::BadTable => "the stores hold no sound record of this node",
+            Refusal::NoRoom => "what is written does not fit",
+            Refusal::NumberRange => {
+                "a number here leaves its range: a code object's argument counts add up to 2^32 or more, \
+                 or a line table's entry steps out of 32 bits"
+            }
+        }
     }
 }
 
@@ -151,21 +142,20 @@ mod tests {
 
     #[test]
     fn each_number_gives_the_refusal_of_that_number() {
-        for number in 1..=18 {
-            let refusal = Refusal::of_number(number).unwrap();
-            assert_eq!(refusal.number(), number);
-            assert_eq!(MEANINGS[number as usize - 1].0, refusal);
+        for number in 1..=LAST_NUMBER {
+            assert_eq!(Refusal::of_number(number).unwrap().number(), number);
         }
         assert_eq!(Refusal::of_number(refusals::ACCEPTED), None);
-        assert_eq!(Refusal::of_number(19), None);
+        assert_eq!(Refusal::of_number(LAST_NUMBER + 1), None);
         assert_eq!(Refusal::of_number(u32::MAX), None);
     }
 
     #[test]
     fn numbers_are_those_of_the_port() {
-        assert_eq!(Refusal::EofObject.number(), refusals::EOF_OBJECT);
-        assert_eq!(Refusal::InvalidUtf8.number(), refusals::INVALID_UTF8);
-        assert_eq!(Refusal::NoSlot.number(), refusals::NO_SLOT);
+        for (_, name, number) in refusals::TABLE {
+            assert_eq!(Refusal::of_number(*number).unwrap().to_string(), format!("{number} {name}"));
+        }
+        assert_eq!(Refusal::EofObject.number(), 1);
         assert_eq!(Refusal::NumberRange.number(), refusals::NUMBER_RANGE);
     }
 

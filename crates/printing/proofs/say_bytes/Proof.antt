@@ -1,10 +1,10 @@
--- `leaf_sheet::say_bytes` is safe and ends: each turn leaves one byte fewer to print.
+-- `printing::say_bytes` is safe and ends: each turn leaves one byte fewer to print.
 -- Assumes nothing.
 use borrow.Author.Needs.{needs}
 use Prim.Native.Nat.{_-_, _≤_}
 use lib.ListN.{length}
-use Rattle.leaf_sheet.proofs.say_bytes.Statement.{statement}
-use Rattle.leaf_sheet.proofs.say_bytes.Tie as tie
+use Rattle.printing.proofs.say_bytes.Statement.{statement}
+use Rattle.printing.proofs.say_bytes.Tie as tie
 
 abbrev Inv-loop : tie.InvT-loop
 Inv-loop bytes i₀ i = i ≤ length bytes
