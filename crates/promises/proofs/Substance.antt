@@ -107,7 +107,9 @@ children-are-read R W d d3 v p c is f =
     let top = max (depthOf v) (depthOf w) in
     let mine = d .read c (countsFor v) e .means top (omega arith) in
     let theirs = i .means top (omega arith) in
-    let tables = (λ j. valueOf top (tablesAfter (is j) (ends j) (countsFor v)) 0) in
+    let tables : valueOf top (tablesAfter (R .input c) (R .ends c) (countsFor v)) 0
+    ≡ valueOf top (tablesAfter (canonical v) (readOf (canonical v) (R .nodes c) (R .entries c) (R .slots c) (R .nesting c)) (countsFor v)) 0 =
+    λ j. valueOf top (tablesAfter (is j) (ends j) (countsFor v)) 0 in
     (countsFor v, e, same-some (sym mine ∙ tables ∙ theirs))
 
 -- (True, None) and (True, True): the same first child
