@@ -22,4 +22,5 @@ pub mod Reading
 pub mod Demand1
 pub mod Demand2
 pub mod Lines
+pub mod Leaves
 pub mod Demand3

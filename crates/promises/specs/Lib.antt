@@ -4,4 +4,5 @@ pub mod Calls
 pub mod Demand1
 pub mod Demand2
 pub mod Lines
+pub mod Leaves
 pub mod Demand3
