@@ -36,7 +36,7 @@ module _ (R : Reader) (exactly : Exactly R) where
     is = answered c (r .counts) (r .accepted)
 
     -- what is accepted is at most 16 MiB
-    small : length (R .input c) ≤ mostBytes
+    pub small : length (R .input c) ≤ mostBytes
     small = gives-within (R .input c) (R .nodes c) (R .entries c) (R .slots c) (R .nesting c) (is .read) (is .is) .0
 
     meant : Meant (R .input c) (R .nodes c) (R .entries c) (is .read) (r .node)

@@ -7,10 +7,11 @@ use mathlib.Core.Bool.{Bool, true, false, cond, not, _&&_}
 use mathlib.Core.Option.{Option, none, some}
 use mathlib.Core.List.{List, [], _∷_}
 use lib.ListN.{length, take, drop}
+use lib.IntN.{pos, negsuc}
 use lib.Dec.{T, leb, ltb, eqb}
 use lib.Ieee.{binary64, ofBits, isNan}
 use lib.Ieee.Bits.{toBits-ofBits}
-use borrow.Author.Tests.{lt-ltb, le-ltb, le-leb, leb-true, leb-false, ltb-true, ltb-false, eqb-true}
+use borrow.Author.Tests.{lt-ltb, le-ltb, le-leb, lt-leb, leb-true, leb-false, ltb-true, ltb-false, eqb-true}
 use mir.Syntax.{w64}
 use mir.Val.{toZ}
 use mir.ValLaws.{toZ-pos, toZ-neg}
@@ -18,7 +19,7 @@ use Rattle.refusals.specs.Numbers.{inputTooLong, badTable}
 use Rattle.refusals.specs.Limits.{mostBytes}
 use Rattle.grammar.specs.Reading.{Answer, gives, stops}
 use Rattle.grammar.specs.Letters as letter
-use Rattle.grammar.specs.Letters.{Form, Class, refers, keeps, contains, codes, refuses, classOf, among, isString}
+use Rattle.grammar.specs.Letters.{Form, Class, refers, keeps, contains, codes, refuses, letters, found, classOf, among}
 use Rattle.grammar.specs.Fields.{le32, le64, notNegative}
 use Rattle.grammar.specs.State.{Node, nodeAt}
 use Rattle.grammar.specs.Steps.{linePart}
@@ -29,36 +30,44 @@ use Rattle.grammar.specs.Leaf.{extended, longOf, leafAs, leafOf}
 use Rattle.grammar.proofs.Tests.{never, both-true}
 use Rattle.grammar.proofs.Lettered.{Each, among-each}
 use Rattle.grammar.proofs.Bounded.{Bytes}
-use Rattle.grammar.proofs.Passed.{sound-ruled, sound-at}
+use Rattle.grammar.proofs.Passed.{sound-ruled, sound-at, whole-some, looked-held}
 use Rattle.leaf.specs.Answers as answers
 use Rattle.leaf.specs.Answers.{answeredOf}
-use Rattle.leaf.specs.declared.Leaf.the-variants.{Whole, NotLeaf}
+use Rattle.leaf.specs.declared.Leaf.the-variants.{Whole, Wide, NotLeaf}
 use Rattle.leaf.specs.declared.Answered.the-variants.{Told, Refused}
 use Rattle.leaf.proofs.Floats.{one-float, two-floats}
 use Rattle.writing.specs.Canonical as canonical
 use Rattle.writing.specs.Canonical.{shownLine}
 use Rattle.writing.specs.Shape as shape
-use Rattle.writing.specs.Shape.{shapeOf, eight, field, formed, classed, numbersAt, longAt}
+use Rattle.writing.specs.Shape.{Shape, shapeOf, eight, field, formed, classed, numbersAt, longAt}
 use Rattle.writing.proofs.Numbers.{word-below}
-use Rattle.meaning.specs.Value.{Value, Values, integer, sequence, slice, dict}
-use Rattle.meaning.specs.Proper.{Signed, singles, sequences, Proper}
+use Rattle.meaning.specs.Value.{Value, Values, single, integer, float, complex, sequence, slice, dict}
+use Rattle.meaning.specs.Extent.{depthOf}
+use Rattle.meaning.specs.Proper.{singles, sequences, Proper}
 use Rattle.meaning.specs.Meaning.{allOf, holding, codeOf, shaped, lookedAs, nowhere, valueOf}
-use Rattle.meaning.proofs.Means.{tag}
+use Rattle.meaning.proofs.Means.{tag, means-seen}
+use Rattle.meaning.proofs.Emits.{InTables}
 use Rattle.meaning.proofs.Inversion.{lettered, class-lettered, field-low}
 use Rattle.meaning.proofs.Sense.{long-below}
 use Rattle.meaning.proofs.AnyStores.{leaf-none, found-is-known}
-use Rattle.sillgarland.specs.Leaves.{leafStruct}
-use Rattle.promises.specs.Leaves.{told, singleTold, toldOf, toldFor, Question, leafQuestion, sillQuestion, storesIn, isSound, LeafByValue, Stands, FloatsOf, FloatsIn, FloatPromise}
+use Rattle.promises.specs.Calls.{Reader, Writer, deserializeValue, sillRead, serializeValue, sillWrite}
+use Rattle.promises.specs.Demand2.{Demand2}
+use Rattle.promises.specs.Leaves.{told, singleTold, half64, toldOf, toldFor, Question, leafQuestion, sillQuestion, storesIn, nodeIn, Short, isSound, leafLetters, LeafByValue, LeafOfRead, Stands, FloatsIn, FloatPromise}
+use Rattle.promises.proofs.Reading.{Exactly, deserialize-exactly, sill-read-exactly}
+use Rattle.promises.proofs.Demand2.{small, demand-2}
 
 -- Whole numbers of 64 bits, by their sign.
 positive-told : (m : ℕ) → m < 9223372036854775808 → answers.toldOf (definition.whole m) ≡ toldOf (integer (record { negative = false; magnitude = m }))
-positive-told m h = rw (lt-ltb m 9223372036854775808 h) refl
+positive-told m h =
+    ap (λ z. told (Whole z) m 0) (toZ-pos w64 m h) ∙ sym (ap (λ b. cond b (told (Whole (pos m)) m 0) (told Wide 0 0)) (lt-ltb m half64 (omega arith)))
 
 negative-told : (m bits : ℕ) → 0 < m → m ≤ 9223372036854775808 → bits ≡ 18446744073709551616 - m
     → answers.toldOf (definition.whole bits) ≡ toldOf (integer (record { negative = true; magnitude = m }))
 negative-told zero bits p h e = absurd (omega arith)
 negative-told (suc k) bits p h e =
-    rw (le-leb (suc k) 9223372036854775808 h, e) (ap (λ z. told (Whole z) (18446744073709551616 - suc k) 0) (toZ-neg w64 k (omega arith)))
+    ap (λ b. told (Whole (toZ w64 b)) b 0) e
+    ∙ (ap (λ z. told (Whole z) (18446744073709551616 - suc k) 0) (toZ-neg w64 k (omega arith))
+    ∙ sym (ap (λ b. cond b (told (Whole (negsuc k)) (18446744073709551616 - suc k) 0) (told Wide 0 0)) (le-leb (suc k) half64 (omega arith))))
 
 -- i, I and l
 word-told : (w : ℕ) → w < 4294967296 → answers.toldOf (definition.whole (extended w)) ≡ toldOf (integer (canonical.ofBits 2147483648 w))
@@ -84,16 +93,16 @@ eight-told b h = go (ltb b 9223372036854775808) refl
 long-told : (x : Bool) (m : ℕ) → (not x ≡ true → 0 < m) → answers.toldOf (longOf x m) ≡ toldOf (integer (record { negative = not x; magnitude = m }))
 long-told true m p = go (ltb m 9223372036854775808) refl
   where
-    go : (b : Bool) → ltb m 9223372036854775808 ≡ b → answers.toldOf (longOf true m) ≡ toldOf (integer (record { negative = false; magnitude = m }))
-    go true e = ap (λ b. answers.toldOf (cond b (definition.whole m) definition.wide)) e ∙ positive-told m (ltb-true m 9223372036854775808 e)
-    go false e = rw e refl
+    go : (b : Bool) → ltb m 9223372036854775808 ≡ b
+        → answers.toldOf (cond b (definition.whole m) definition.wide) ≡ toldOf (integer (record { negative = false; magnitude = m }))
+    go true e = positive-told m (ltb-true m 9223372036854775808 e)
+    go false e = rw (le-ltb m half64 (omega (arith, ltb-false m 9223372036854775808 e))) refl
 long-told false m p = go (leb m 9223372036854775808) refl
   where
-    go : (b : Bool) → leb m 9223372036854775808 ≡ b → answers.toldOf (longOf false m) ≡ toldOf (integer (record { negative = true; magnitude = m }))
-    go true e =
-        ap (λ b. answers.toldOf (cond b (definition.whole (18446744073709551616 - m)) definition.wide)) e
-        ∙ negative-told m (18446744073709551616 - m) (p refl) (leb-true m 9223372036854775808 e) refl
-    go false e = rw e refl
+    go : (b : Bool) → leb m 9223372036854775808 ≡ b
+        → answers.toldOf (cond b (definition.whole (18446744073709551616 - m)) definition.wide) ≡ toldOf (integer (record { negative = true; magnitude = m }))
+    go true e = negative-told m (18446744073709551616 - m) (p refl) (leb-true m 9223372036854775808 e) refl
+    go false e = rw (lt-leb m half64 (omega (arith, leb-false m 9223372036854775808 e))) refl
 
 -- A node with children is no leaf, whatever they mean.
 holding-told : (make : Values → Value) → ((vs : Values) → toldOf (make vs) ≡ told NotLeaf 0 0) → (o : Option Values) → toldFor (holding make o) ≡ told NotLeaf 0 0
@@ -204,6 +213,81 @@ module _ (t : Tables) (bytes : Bytes (t .input)) (n : ℕ) (ok : soundAt (t .inp
   pub leaf-by-value : Answers
   leaf-by-value = by-letter (classOf (node .letter)) refl (sound-ruled s node (sound-at t n ok .1) .1)
 
+  -- A leaf's letter has a form without children, whose value is there.
+  shaped-some : (sh : Shape) → tag sh ≤ 3 → (v : Value) × (shaped f g sh ≡ some v)
+  shaped-some (shape.single letter) l = (single letter, refl)
+  shaped-some (shape.integer z) l = (integer z, refl)
+  shaped-some (shape.float bits) l = (float bits, refl)
+  shaped-some (shape.complex real imaginary) l = (complex real imaginary, refl)
+  shaped-some (shape.bytes contents) l = absurd (omega arith)
+  shaped-some (shape.text contents) l = absurd (omega arith)
+  shaped-some (shape.sequence letter kids) l = absurd (omega arith)
+  shaped-some (shape.slice kids) l = absurd (omega arith)
+  shaped-some (shape.dict kids) l = absurd (omega arith)
+  shaped-some (shape.code numbers line kids) l = absurd (omega arith)
+
+  abbrev Childless : ℕ → Type 0
+  Childless l = (form : Form) × (classOf l ≡ keeps form) × (tag (formed s node [] form) ≤ 3)
+
+  fixed-low : (size : ℕ) → tag (field (node .letter) size s (node .place)) ≤ 3
+  fixed-low size = omega (arith, field-low (node .letter) size s (node .place) .1)
+
+  leaf-forms : Each Childless leafLetters
+  unfolding classOf found letters
+  leaf-forms = (
+    (letter.single, refl, omega arith),
+    (
+      (letter.single, refl, omega arith),
+      (
+        (letter.single, refl, omega arith),
+        (
+          (letter.single, refl, omega arith),
+          (
+            (letter.single, refl, omega arith),
+            (
+              (letter.fixed 4, refl, fixed-low 4),
+              (
+                (letter.fixed 8, refl, fixed-low 8),
+                (
+                  (letter.fixed 8, refl, fixed-low 8),
+                  (
+                    (letter.double, refl, omega arith),
+                    ((letter.long, refl, omega arith), tt),
+                  ),
+                ),
+              ),
+            ),
+          ),
+        ),
+      ),
+    ),
+  )
+
+  pub leaf-found : among (node .letter) leafLetters ≡ true → (v : Value) × (lookedAs f g t n (look t n) ≡ some v)
+  leaf-found e =
+      let x = among-each Childless (node .letter) leafLetters leaf-forms e in
+      let v = shaped-some (formed s node [] (x .0)) (x .2) in
+      (v .0, childless (x .0) (x .1) (subst (λ c. ruled s node c ≡ true) (x .1) (sound-ruled s node (sound-at t n ok .1) .1)) (x .2) ∙ v .1)
+
+-- Every letter past the ten is no leaf.
+past : (b rest : Bool) (x y : definition.Leaf) → cond b true rest ≡ false → (rest ≡ false → y ≡ definition.notLeaf) → cond b x y ≡ definition.notLeaf
+past true rest x y e h = never (sym e)
+past false rest x y e h = h e
+
+no-other : (s : List ℕ) (l at : ℕ) → among l leafLetters ≡ false → leafAs s l at ≡ definition.notLeaf
+unfolding leafAs
+no-other s l at e =
+    past (eqb l 0x4E) _ _ _ e (λ e.
+    past (eqb l 0x46) _ _ _ e (λ e.
+    past (eqb l 0x54) _ _ _ e (λ e.
+    past (eqb l 0x2E) _ _ _ e (λ e.
+    past (eqb l 0x53) _ _ _ e (λ e.
+    past (eqb l 0x69) _ _ _ e (λ e.
+    past (eqb l 0x49) _ _ _ e (λ e.
+    past (eqb l 0x67) _ _ _ e (λ e.
+    past (eqb l 0x79) _ _ _ e (λ e.
+    past (eqb l 0x6C) _ _ _ e (λ e. refl))))))))))
+
 -- Any allowance.
 found-told : (t : Tables) → Bytes (t .input) → length (t .input) ≤ mostBytes → (n : ℕ) → soundAt (t .input) (t .nodes) (t .usedNodes) n ≡ true → (a : ℕ) → 0 < a
     → answers.toldOf (leafAs (t .input) (nodeOf t n .letter) (nodeOf t n .place)) ≡ toldFor (valueOf a t n)
@@ -213,38 +297,76 @@ found-told t bytes small n ok (suc zero) l = leaf-by-value t bytes n ok nowhere 
 found-told t bytes small n ok (suc (suc a)) l =
     leaf-by-value t bytes n ok (valueOf (suc a) t) (valueOf a t) (λ v e. found-is-known t bytes small (suc (suc a)) n v e .proper)
 
+leaf-valued : (t : Tables) → Bytes (t .input) → length (t .input) ≤ mostBytes → (n : ℕ) → soundAt (t .input) (t .nodes) (t .usedNodes) n ≡ true → among (nodeOf t n .letter) leafLetters ≡ true
+    → (a : ℕ) → 0 < a → (v : Value) × (valueOf a t n ≡ some v)
+unfolding valueOf
+leaf-valued t bytes small n ok h zero l = absurd (omega arith)
+leaf-valued t bytes small n ok h (suc zero) l = leaf-found t bytes n ok nowhere nowhere (λ v e. found-is-known t bytes small 1 n v e .proper) h
+leaf-valued t bytes small n ok h (suc (suc a)) l =
+    leaf-found t bytes n ok (valueOf (suc a) t) (valueOf a t) (λ v e. found-is-known t bytes small (suc (suc a)) n v e .proper) h
+
 -- A question whose every call ends as the definition says.
-module _ (Q : Question) (exact : (c : Q .Calls) → Q .end c ≡ Q .shown (answeredOf (leafOf (Q .input c) (Q .nodes c) (Q .used c) (Q .node c)))) (c : Q .Calls) where
-  so-answered : (a : Answer definition.Leaf) → leafOf (Q .input c) (Q .nodes c) (Q .used c) (Q .node c) ≡ a → Q .end c ≡ Q .shown (answeredOf a)
-  so-answered a e = exact c ∙ ap (λ x. Q .shown (answeredOf x)) e
+abbrev Exact : Question → Type 0
+Exact Q = (c : Q .Calls) → Q .end c ≡ Q .shown (answeredOf (leafOf (Q .input c) (Q .nodes c) (Q .used c) (Q .node c)))
 
-  sound-answered : length (Q .input c) ≤ mostBytes → isSound Q c ≡ true → (entries : List ℕ) (usedEntries a : ℕ) → 0 < a
-      → Q .end c ≡ Q .shown (Told (toldFor (valueOf a (storesIn Q c entries usedEntries) (Q .node c))))
+module _ (Q : Question) (exact : Exact Q) where
+  so-answered : (c : Q .Calls) (a : Answer definition.Leaf) → leafOf (Q .input c) (Q .nodes c) (Q .used c) (Q .node c) ≡ a → Q .end c ≡ Q .shown (answeredOf a)
+  so-answered c a e = exact c ∙ ap (λ x. Q .shown (answeredOf x)) e
+
+  sound-answered : (c : Q .Calls) → Short Q c → isSound Q c ≡ true → Q .end c ≡ Q .shown (Told (answers.toldOf (leafAs (Q .input c) (nodeIn Q c .letter) (nodeIn Q c .place))))
   unfolding leafOf
-  sound-answered short ok entries usedEntries a l =
-      let n = nodeAt (Q .nodes c) (Q .node c) in
-      so-answered (gives (leafAs (Q .input c) (n .letter) (n .place))) (rw (le-ltb mostBytes (length (Q .input c)) short, ok) refl)
-      ∙ ap (λ x. Q .shown (Told x)) (found-told (storesIn Q c entries usedEntries) (Q .bytes c) short (Q .node c) ok a l)
+  sound-answered c short ok =
+      so-answered c (gives (leafAs (Q .input c) (nodeIn Q c .letter) (nodeIn Q c .place))) (rw (le-ltb mostBytes (length (Q .input c)) short, ok) refl)
 
-  bad-answered : length (Q .input c) ≤ mostBytes → isSound Q c ≡ false → Q .end c ≡ Q .shown (Refused badTable (Q .node c))
+  bad-answered : (c : Q .Calls) → Short Q c → isSound Q c ≡ false → Q .end c ≡ Q .shown (Refused badTable (Q .node c))
   unfolding leafOf
-  bad-answered short bad = so-answered (stops badTable (Q .node c)) (rw (le-ltb mostBytes (length (Q .input c)) short, bad) refl)
+  bad-answered c short bad = so-answered c (stops badTable (Q .node c)) (rw (le-ltb mostBytes (length (Q .input c)) short, bad) refl)
 
-  long-answered : mostBytes < length (Q .input c) → Q .end c ≡ Q .shown (Refused inputTooLong 0)
+  long-answered : (c : Q .Calls) → mostBytes < length (Q .input c) → Q .end c ≡ Q .shown (Refused inputTooLong 0)
   unfolding leafOf
-  long-answered long = so-answered (stops inputTooLong 0) (rw (lt-ltb mostBytes (length (Q .input c)) long) refl)
+  long-answered c long = so-answered c (stops inputTooLong 0) (rw (lt-ltb mostBytes (length (Q .input c)) long) refl)
 
-leaf-exact : (c : leafQuestion .Calls) → c .call .result ≡ answeredOf (leafOf (leafQuestion .input c) (leafQuestion .nodes c) (leafQuestion .used c) (leafQuestion .node c))
+  by-value : LeafByValue Q
+  by-value =
+      record {
+        told-of-value =
+            λ c short ok entries usedEntries a l.
+            sound-answered c short ok ∙ ap (λ x. Q .shown (Told x)) (found-told (storesIn Q c entries usedEntries) (Q .bytes c) short (Q .node c) ok a l);
+        leaf-means = λ c short ok h entries usedEntries a l. leaf-valued (storesIn Q c entries usedEntries) (Q .bytes c) short (Q .node c) ok h a l;
+        other-letter = λ c short ok h. sound-answered c short ok ∙ ap (λ x. Q .shown (Told (answers.toldOf x))) (no-other (Q .input c) (nodeIn Q c .letter) (nodeIn Q c .place) h);
+        bad-record = bad-answered;
+        too-long = long-answered;
+      }
+
+  -- What was read: the node is sound, since it means a value.
+  module _ (R : Reader) (exactly : Exactly R) (W : Writer) (D : Demand2 R W) where
+    of-read : LeafOfRead R W D Q
+    of-read r q h =
+        let v = D .value r in
+        let t = storesIn Q q (R .ends (r .call) .entries) (r .counts .entries) in
+        let a = suc (depthOf v) in
+        let means : valueOf a t (Q .node q) ≡ some v =
+        (λ i. valueOf a (record { input = h .input i; nodes = h .nodes i; entries = R .ends (r .call) .entries; usedNodes = h .used i; usedEntries = r .counts .entries }) (h .node i))
+        ∙ D .read r .means a (omega arith) in
+        let short : Short Q q = subst (λ s. length s ≤ mostBytes) (sym (h .input)) (small R exactly r) in
+        let seen = means-seen (InTables t) (Q .node q) v (found-is-known t (Q .bytes q) short a (Q .node q) v means .means) in
+        let ok = whole-some t (Q .node q) (seen .kids) (looked-held t (Q .node q) (seen .kids) (seen .seen .held) .linked) .0 in
+        by-value .told-of-value q short ok (R .ends (r .call) .entries) (r .counts .entries) a (omega arith) ∙ ap (λ o. Q .shown (Told (toldFor o))) means
+
+leaf-exact : Exact leafQuestion
 leaf-exact c = c .call .meets
 
-sill-exact : (c : sillQuestion .Calls) → c .call .result ≡ leafStruct (answeredOf (leafOf (sillQuestion .input c) (sillQuestion .nodes c) (sillQuestion .used c) (sillQuestion .node c)))
+sill-exact : Exact sillQuestion
 sill-exact c = c .call .meets
 
 -- of the function that is carried, and of the export
 pub leaf-told : LeafByValue leafQuestion × LeafByValue sillQuestion
-leaf-told = (
-  record { told-of-value = sound-answered leafQuestion leaf-exact; bad-record = bad-answered leafQuestion leaf-exact; too-long = long-answered leafQuestion leaf-exact },
-  record { told-of-value = sound-answered sillQuestion sill-exact; bad-record = bad-answered sillQuestion sill-exact; too-long = long-answered sillQuestion sill-exact },
+leaf-told = (by-value leafQuestion leaf-exact, by-value sillQuestion sill-exact)
+
+pub leaf-of-read : LeafOfRead deserializeValue serializeValue (demand-2 .0) leafQuestion × LeafOfRead sillRead sillWrite (demand-2 .1) sillQuestion
+leaf-of-read = (
+  of-read leafQuestion leaf-exact deserializeValue deserialize-exactly serializeValue (demand-2 .0),
+  of-read sillQuestion sill-exact sillRead sill-read-exactly sillWrite (demand-2 .1),
 )
 
 -- The floats.

@@ -5,7 +5,7 @@ use mathlib.Core.Path.{_≡_}
 use Prim.Native.Nat.{ℕ, _+_, _≤_, _<_}
 use mathlib.Core.Bool.{Bool, true, false, cond}
 use mathlib.Core.Option.{Option, none, some}
-use mathlib.Core.List.{List}
+use mathlib.Core.List.{List, [], _∷_}
 use lib.ListN.{length}
 use lib.IntN.{ℤ, pos, negℤ}
 use lib.Dec.{leb, ltb, eqb}
@@ -13,6 +13,7 @@ use lib.Ieee.{Float as Number, binary64, ofBits, toBits, isNan}
 use denote.Ref.{now}
 use Rattle.refusals.specs.Numbers.{inputTooLong, badTable}
 use Rattle.refusals.specs.Limits.{mostBytes}
+use Rattle.grammar.specs.Letters.{among}
 use Rattle.grammar.specs.Fields.{le64}
 use Rattle.grammar.specs.State.{Node, nodeAt}
 use Rattle.grammar.specs.Record.{Tables, soundAt}
@@ -29,7 +30,8 @@ use Rattle.meaning.specs.Meaning.{valueOf}
 use Rattle.sillgarland.specs.Leaves.{leafStruct}
 use Rattle.sillgarland.specs.declared.leaves.SillLeaf.{SillLeaf}
 use Rattle.sillgarland.proofs as sillgarland
-use Rattle.promises.specs.Calls.{Call, OfBytes}
+use Rattle.promises.specs.Calls.{Call, OfBytes, Reader, Writer}
+use Rattle.promises.specs.Demand2.{NodeRead, Demand2}
 
 -- What is told of a value: its case, and the one or two numbers beside it.
 
@@ -50,8 +52,11 @@ abbrev pub numberOf : Integer → ℤ
 numberOf z = cond (z .negative) (negℤ (pos (z .magnitude))) (pos (z .magnitude))
 
 -- "signed 64 bits": from -2^63 up to, and without, 2^63
+abbrev pub half64 : ℕ
+half64 = 9223372036854775808
+
 abbrev pub inSigned64 : Integer → Bool
-inSigned64 z = cond (z .negative) (leb (z .magnitude) 9223372036854775808) (ltb (z .magnitude) 9223372036854775808)
+inSigned64 z = cond (z .negative) (leb (z .magnitude) half64) (ltb (z .magnitude) half64)
 
 -- "a 64-bit whole number", with its bits in two's complement; or "wide"
 abbrev pub wholeTold : Integer → LeafTold
@@ -129,6 +134,9 @@ abbrev pub storesIn : (Q : Question) → Q .Calls → (entries : List ℕ) → (
 storesIn Q c entries usedEntries =
     record { input = Q .input c; nodes = Q .nodes c; entries = entries; usedNodes = Q .used c; usedEntries = usedEntries }
 
+abbrev pub nodeIn : (Q : Question) → Q .Calls → Node
+nodeIn Q c = nodeAt (Q .nodes c) (Q .node c)
+
 -- "tested before all"; then the record of the node, as the question itself tests it
 abbrev pub Short : (Q : Question) → Q .Calls → Type 0
 Short Q c = length (Q .input c) ≤ mostBytes
@@ -136,13 +144,34 @@ Short Q c = length (Q .input c) ≤ mostBytes
 abbrev pub isSound : (Q : Question) → Q .Calls → Bool
 isSound Q c = soundAt (Q .input c) (Q .nodes c) (Q .used c) (Q .node c)
 
+-- N F T . S i I g y l
+abbrev pub leafLetters : List ℕ
+leafLetters = 0x4E ∷ 0x46 ∷ 0x54 ∷ 0x2E ∷ 0x53 ∷ 0x69 ∷ 0x49 ∷ 0x67 ∷ 0x79 ∷ 0x6C ∷ []
+
 -- Each call ends in what is told of the value that its node means, or in the refusal.
 pub record LeafByValue (Q : Question) : Type 0 where
   pub told-of-value : (c : Q .Calls) → Short Q c → isSound Q c ≡ true
       → (entries : List ℕ) (usedEntries allowance : ℕ) → 0 < allowance
       → Q .end c ≡ Q .shown (Told (toldFor (valueOf allowance (storesIn Q c entries usedEntries) (Q .node c))))
+  -- a leaf's letter means a value whatever stands beside it, and every other letter is no leaf
+  pub leaf-means : (c : Q .Calls) → Short Q c → isSound Q c ≡ true → among (nodeIn Q c .letter) leafLetters ≡ true
+      → (entries : List ℕ) (usedEntries allowance : ℕ) → 0 < allowance
+      → (v : Value) × (valueOf allowance (storesIn Q c entries usedEntries) (Q .node c) ≡ some v)
+  pub other-letter : (c : Q .Calls) → Short Q c → isSound Q c ≡ true → among (nodeIn Q c .letter) leafLetters ≡ false
+      → Q .end c ≡ Q .shown (Told (told NotLeaf 0 0))
   pub bad-record : (c : Q .Calls) → Short Q c → isSound Q c ≡ false → Q .end c ≡ Q .shown (Refused badTable (Q .node c))
   pub too-long : (c : Q .Calls) → mostBytes < length (Q .input c) → Q .end c ≡ Q .shown (Refused inputTooLong 0)
+
+-- The call is given what a call of the reader left, its input, its nodes and how many there are, and one of them.
+pub record Handed (R : Reader) (r : NodeRead R) (Q : Question) (q : Q .Calls) : Type 0 where
+  pub input : Q .input q ≡ R .input (r .call)
+  pub nodes : Q .nodes q ≡ R .ends (r .call) .nodes
+  pub used : Q .used q ≡ r .counts .nodes
+  pub node : Q .node q ≡ r .node
+
+-- Of a node that was read, the answer is what is told of the value that demand 2 writes back.
+abbrev pub LeafOfRead : (R : Reader) → (W : Writer) → Demand2 R W → Question → Type 0
+LeafOfRead R W D Q = (r : NodeRead R) (q : Q .Calls) → Handed R r Q q → Q .end q ≡ Q .shown (Told (toldOf (D .value r)))
 
 -- The floats of `leaf_of`. The language has one NaN, without a payload: each float is the one that the bits beside it stand for, and its own
 -- bits are these wherever it is no NaN.
@@ -165,20 +194,17 @@ abbrev pub FloatsIn : Answered → Type 0
 FloatsIn (Told t) = FloatsOf (t .leaf) (t .first) (t .second)
 FloatsIn (Refused number place) = Unit
 
--- the node of a call, and the bits of eight bytes each at its place
-abbrev pub nodeIn : leafQuestion .Calls → Node
-nodeIn c = nodeAt (leafQuestion .nodes c) (leafQuestion .node c)
-
+-- the bits of eight bytes each at the node's place
 abbrev pub firstStored : leafQuestion .Calls → ℕ
-firstStored c = le64 (leafQuestion .input c) (nodeIn c .place)
+firstStored c = le64 (leafQuestion .input c) (nodeIn leafQuestion c .place)
 
 abbrev pub secondStored : leafQuestion .Calls → ℕ
-secondStored c = le64 (leafQuestion .input c) (nodeIn c .place + 8)
+secondStored c = le64 (leafQuestion .input c) (nodeIn leafQuestion c .place + 8)
 
 pub record FloatPromise : Type 0 where
   pub each-float : (c : leafQuestion .Calls) → FloatsIn (c .call .result)
   -- the bits beside are the stored ones: of `g`, and of `y`
-  pub one-stored : (c : leafQuestion .Calls) → Short leafQuestion c → isSound leafQuestion c ≡ true → nodeIn c .letter ≡ 0x67
+  pub one-stored : (c : leafQuestion .Calls) → Short leafQuestion c → isSound leafQuestion c ≡ true → nodeIn leafQuestion c .letter ≡ 0x67
       → c .call .result ≡ Told (told (Float (ofBits binary64 (firstStored c))) (firstStored c) 0)
-  pub two-stored : (c : leafQuestion .Calls) → Short leafQuestion c → isSound leafQuestion c ≡ true → nodeIn c .letter ≡ 0x79
+  pub two-stored : (c : leafQuestion .Calls) → Short leafQuestion c → isSound leafQuestion c ≡ true → nodeIn leafQuestion c .letter ≡ 0x79
       → c .call .result ≡ Told (told (Complex (ofBits binary64 (firstStored c)) (ofBits binary64 (secondStored c))) (firstStored c) (secondStored c))
