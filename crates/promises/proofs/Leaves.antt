@@ -1,45 +1,37 @@
--- The leaf answer is what the value of a node says, and each float that is told is the one of its bits: one case a class of letters, and three
--- facts of whole numbers in two's complement. From meaning's AnyStores and the leaf question's definition. Assumes nothing but bytes for input.
+-- The leaf answer is what is told of the value that its node means: one case a class of letters, whole numbers by Wholes, and that a value
+-- found is proper by meaning's AnyStores. Assumes nothing but bytes for input.
 use mathlib.Core.Path.{_≡_, refl, sym, ap, subst, _∙_}
-use Prim.Native.Nat.{ℕ, zero, suc, _+_, _-_, _≤_, _<_}
+use Prim.Native.Nat.{ℕ, zero, suc, _+_, _≤_, _<_}
 use native.Mathlib.Omega.{arith}
-use mathlib.Core.Bool.{Bool, true, false, cond, not, _&&_}
+use mathlib.Core.Bool.{Bool, true, false, cond, _&&_}
 use mathlib.Core.Option.{Option, none, some}
 use mathlib.Core.List.{List, [], _∷_}
 use lib.ListN.{length, take, drop}
-use lib.IntN.{pos, negsuc}
-use lib.Dec.{T, leb, ltb, eqb}
-use lib.Ieee.{binary64, ofBits, isNan}
-use lib.Ieee.Bits.{toBits-ofBits}
-use borrow.Author.Tests.{lt-ltb, le-ltb, le-leb, lt-leb, leb-true, leb-false, ltb-true, ltb-false, eqb-true}
-use mir.Syntax.{w64}
-use mir.Val.{toZ}
-use mir.ValLaws.{toZ-pos, toZ-neg}
+use lib.Dec.{eqb}
+use borrow.Author.Tests.{lt-ltb, le-ltb, eqb-true}
 use Rattle.refusals.specs.Numbers.{inputTooLong, badTable}
 use Rattle.refusals.specs.Limits.{mostBytes}
 use Rattle.grammar.specs.Reading.{Answer, gives, stops}
 use Rattle.grammar.specs.Letters as letter
-use Rattle.grammar.specs.Letters.{Form, Class, refers, keeps, contains, codes, refuses, letters, found, classOf, among}
+use Rattle.grammar.specs.Letters.{Class, refers, keeps, contains, codes, refuses, letters, found, classOf, among}
 use Rattle.grammar.specs.Fields.{le32, le64, notNegative}
-use Rattle.grammar.specs.State.{Node, nodeAt}
+use Rattle.grammar.specs.State.{Node}
 use Rattle.grammar.specs.Steps.{linePart}
 use Rattle.grammar.specs.Record.{ruled, soundAt, Tables, chain, whole, nodeOf, Looked, holds, faulty, look}
 use Rattle.grammar.specs.Record as test
 use Rattle.grammar.specs.Leaf as definition
-use Rattle.grammar.specs.Leaf.{extended, longOf, leafAs, leafOf}
+use Rattle.grammar.specs.Leaf.{leafAs, leafOf}
 use Rattle.grammar.proofs.Tests.{never, both-true}
 use Rattle.grammar.proofs.Lettered.{Each, among-each}
 use Rattle.grammar.proofs.Bounded.{Bytes}
 use Rattle.grammar.proofs.Passed.{sound-ruled, sound-at, whole-some, looked-held}
 use Rattle.leaf.specs.Answers as answers
 use Rattle.leaf.specs.Answers.{answeredOf}
-use Rattle.leaf.specs.declared.Leaf.the-variants.{Whole, Wide, NotLeaf}
+use Rattle.leaf.specs.declared.Leaf.the-variants.{NotLeaf}
 use Rattle.leaf.specs.declared.Answered.the-variants.{Told, Refused}
-use Rattle.leaf.proofs.Floats.{one-float, two-floats}
-use Rattle.writing.specs.Canonical as canonical
-use Rattle.writing.specs.Canonical.{shownLine}
+use Rattle.writing.specs.Canonical.{ofBits, shownLine}
 use Rattle.writing.specs.Shape as shape
-use Rattle.writing.specs.Shape.{Shape, shapeOf, eight, field, formed, classed, numbersAt, longAt}
+use Rattle.writing.specs.Shape.{Shape, shapeOf, eight, field, classed, numbersAt, longAt}
 use Rattle.writing.proofs.Numbers.{word-below}
 use Rattle.meaning.specs.Value.{Value, Values, single, integer, float, complex, sequence, slice, dict}
 use Rattle.meaning.specs.Extent.{depthOf}
@@ -52,57 +44,10 @@ use Rattle.meaning.proofs.Sense.{long-below}
 use Rattle.meaning.proofs.AnyStores.{leaf-none, found-is-known}
 use Rattle.promises.specs.Calls.{Reader, Writer, deserializeValue, sillRead, serializeValue, sillWrite}
 use Rattle.promises.specs.Demand2.{Demand2}
-use Rattle.promises.specs.Leaves.{told, singleTold, half64, toldOf, toldFor, Question, leafQuestion, sillQuestion, storesIn, nodeIn, Short, isSound, leafLetters, LeafByValue, LeafOfRead, Stands, FloatsIn, FloatPromise}
+use Rattle.promises.specs.Leaves.{told, singleTold, toldOf, toldFor, Question, leafQuestion, sillQuestion, storesIn, nodeIn, Short, isSound, leafLetters, LeafByValue, LeafOfRead}
 use Rattle.promises.proofs.Reading.{Exactly, deserialize-exactly, sill-read-exactly}
 use Rattle.promises.proofs.Demand2.{small, demand-2}
-
--- Whole numbers of 64 bits, by their sign.
-positive-told : (m : ℕ) → m < 9223372036854775808 → answers.toldOf (definition.whole m) ≡ toldOf (integer (record { negative = false; magnitude = m }))
-positive-told m h =
-    ap (λ z. told (Whole z) m 0) (toZ-pos w64 m h) ∙ sym (ap (λ b. cond b (told (Whole (pos m)) m 0) (told Wide 0 0)) (lt-ltb m half64 (omega arith)))
-
-negative-told : (m bits : ℕ) → 0 < m → m ≤ 9223372036854775808 → bits ≡ 18446744073709551616 - m
-    → answers.toldOf (definition.whole bits) ≡ toldOf (integer (record { negative = true; magnitude = m }))
-negative-told zero bits p h e = absurd (omega arith)
-negative-told (suc k) bits p h e =
-    ap (λ b. told (Whole (toZ w64 b)) b 0) e
-    ∙ (ap (λ z. told (Whole z) (18446744073709551616 - suc k) 0) (toZ-neg w64 k (omega arith))
-    ∙ sym (ap (λ b. cond b (told (Whole (negsuc k)) (18446744073709551616 - suc k) 0) (told Wide 0 0)) (le-leb (suc k) half64 (omega arith))))
-
--- i, I and l
-word-told : (w : ℕ) → w < 4294967296 → answers.toldOf (definition.whole (extended w)) ≡ toldOf (integer (canonical.ofBits 2147483648 w))
-word-told w h = go (ltb w 2147483648) refl
-  where
-    go : (b : Bool) → ltb w 2147483648 ≡ b
-        → answers.toldOf (definition.whole (cond b w (18446744069414584320 + w)))
-        ≡ toldOf (integer (cond b (record { negative = false; magnitude = w }) (record { negative = true; magnitude = 2147483648 + 2147483648 - w })))
-    go true e = positive-told w (omega (arith, ltb-true w 2147483648 e))
-    go false e =
-        negative-told (2147483648 + 2147483648 - w) (18446744069414584320 + w) (omega arith) (omega (arith, ltb-false w 2147483648 e)) (omega (arith, ltb-false w 2147483648 e))
-
-eight-told : (b : ℕ) → b < 18446744073709551616 → answers.toldOf (definition.whole b) ≡ toldOf (integer (canonical.ofBits 9223372036854775808 b))
-eight-told b h = go (ltb b 9223372036854775808) refl
-  where
-    go : (x : Bool) → ltb b 9223372036854775808 ≡ x
-        → answers.toldOf (definition.whole b)
-        ≡ toldOf (integer (cond x (record { negative = false; magnitude = b }) (record { negative = true; magnitude = 9223372036854775808 + 9223372036854775808 - b })))
-    go true e = positive-told b (ltb-true b 9223372036854775808 e)
-    go false e =
-        negative-told (9223372036854775808 + 9223372036854775808 - b) b (omega arith) (omega (arith, ltb-false b 9223372036854775808 e)) (omega (arith, ltb-false b 9223372036854775808 e))
-
-long-told : (x : Bool) (m : ℕ) → (not x ≡ true → 0 < m) → answers.toldOf (longOf x m) ≡ toldOf (integer (record { negative = not x; magnitude = m }))
-long-told true m p = go (ltb m 9223372036854775808) refl
-  where
-    go : (b : Bool) → ltb m 9223372036854775808 ≡ b
-        → answers.toldOf (cond b (definition.whole m) definition.wide) ≡ toldOf (integer (record { negative = false; magnitude = m }))
-    go true e = positive-told m (ltb-true m 9223372036854775808 e)
-    go false e = rw (le-ltb m half64 (omega (arith, ltb-false m 9223372036854775808 e))) refl
-long-told false m p = go (leb m 9223372036854775808) refl
-  where
-    go : (b : Bool) → leb m 9223372036854775808 ≡ b
-        → answers.toldOf (cond b (definition.whole (18446744073709551616 - m)) definition.wide) ≡ toldOf (integer (record { negative = true; magnitude = m }))
-    go true e = negative-told m (18446744073709551616 - m) (p refl) (leb-true m 9223372036854775808 e) refl
-    go false e = rw (lt-leb m half64 (omega (arith, leb-false m 9223372036854775808 e))) refl
+use Rattle.promises.proofs.Wholes.{word-told, eight-told, long-told}
 
 -- A node with children is no leaf, whatever they mean.
 holding-told : (make : Values → Value) → ((vs : Values) → toldOf (make vs) ≡ told NotLeaf 0 0) → (o : Option Values) → toldFor (holding make o) ≡ told NotLeaf 0 0
@@ -140,12 +85,19 @@ module _ (t : Tables) (bytes : Bytes (t .input)) (n : ℕ) (ok : soundAt (t .inp
   unfolding whole chain
   whole-none e = ap (λ b. cond b (chain t (node .count) (node .first)) none) ok ∙ ap (λ k. chain t k (node .first)) e
 
-  childless : (form : Form) → classOf (node .letter) ≡ keeps form → ruled s node (keeps form) ≡ true → tag (formed s node [] form) ≤ 3
-      → lookedAs f g t n (look t n) ≡ shaped f g (formed s node [] form)
+  held-alone : (c : Class) → ruled s node c ≡ true → tag (classed s node [] c) ≤ 3 → test.lookedAs t n [] c ≡ holds []
+  held-alone refers e l = never e
+  held-alone (refuses number) e l = never e
+  held-alone (keeps form) e l = refl
+  held-alone (contains sort) e l = refl
+  held-alone codes e l = absurd (omega arith)
+
+  childless : (c : Class) → classOf (node .letter) ≡ c → ruled s node c ≡ true → tag (classed s node [] c) ≤ 3
+      → lookedAs f g t n (look t n) ≡ shaped f g (classed s node [] c)
   unfolding look
-  childless form q e l =
-      let held : look t n ≡ holds [] = ap (test.lookedOf t n) (whole-none (leaf-none s node [] (keeps form) (omega arith) e)) ∙ ap (test.lookedAs t n []) q in
-      by-class (keeps form) q (look t n) ∙ ap (byClass (keeps form)) held
+  childless c q e l =
+      let held : look t n ≡ holds [] = ap (test.lookedOf t n) (whole-none (leaf-none s node [] c (omega arith) e)) ∙ (ap (test.lookedAs t n []) q ∙ held-alone c e l) in
+      by-class c q (look t n) ∙ ap (byClass c) held
 
   -- N F T S .
   single-told : (l at : ℕ) → among l singles ≡ true → answers.toldOf (leafAs s l at) ≡ singleTold l
@@ -153,12 +105,15 @@ module _ (t : Tables) (bytes : Bytes (t .input)) (n : ℕ) (ok : soundAt (t .inp
   single-told l at = among-each (λ l. answers.toldOf (leafAs s l at) ≡ singleTold l) l singles (refl, (refl, (refl, (refl, (refl, tt)))))
 
   -- i, I and g
+  fixed-low : (size : ℕ) → tag (field (node .letter) size s (node .place)) ≤ 3
+  fixed-low size = omega (arith, field-low (node .letter) size s (node .place) .1)
+
   field-told : (l size at : ℕ) → lettered l (keeps (letter.fixed size)) ≡ true → answers.toldOf (leafAs s l at) ≡ toldFor (shaped f g (field l size s at))
   unfolding leafAs
   field-told l size at h = go (eqb size 4) h
     where
       go : (b : Bool) → cond b (eqb l 0x69) (eqb size 8 && among l (0x49 ∷ 0x67 ∷ [])) ≡ true
-          → answers.toldOf (leafAs s l at) ≡ toldFor (shaped f g (cond b (shape.integer (canonical.ofBits 2147483648 (le32 s at))) (eight l (le64 s at))))
+          → answers.toldOf (leafAs s l at) ≡ toldFor (shaped f g (cond b (shape.integer (ofBits 2147483648 (le32 s at))) (eight l (le64 s at))))
       go true h = rw (eqb-true l 0x69 h) (word-told (le32 s at) (word-below s bytes at))
       go false h =
           among-each (λ l. answers.toldOf (leafAs s l at) ≡ toldFor (shaped f g (eight l (le64 s at)))) l (0x49 ∷ 0x67 ∷ []) (eight-told (le64 s at) (long-below s bytes at), (refl, tt))
@@ -183,15 +138,15 @@ module _ (t : Tables) (bytes : Bytes (t .input)) (n : ℕ) (ok : soundAt (t .inp
   by-letter refers q e = never e
   by-letter (refuses number) q e = never e
   by-letter (keeps letter.single) q e =
-      single-told (node .letter) (node .place) (class-lettered (node .letter) (keeps letter.single) q) ∙ sym (ap toldFor (childless letter.single q e (omega arith)))
+      single-told (node .letter) (node .place) (class-lettered (node .letter) (keeps letter.single) q) ∙ sym (ap toldFor (childless (keeps letter.single) q e (omega arith)))
   by-letter (keeps (letter.fixed size)) q e =
       field-told (node .letter) size (node .place) (class-lettered (node .letter) (keeps (letter.fixed size)) q)
-      ∙ sym (ap toldFor (childless (letter.fixed size) q e (omega (arith, field-low (node .letter) size s (node .place) .1))))
+      ∙ sym (ap toldFor (childless (keeps (letter.fixed size)) q e (fixed-low size)))
   by-letter (keeps letter.double) q e =
       ap (λ l. answers.toldOf (leafAs s l (node .place))) (eqb-true (node .letter) 0x79 (class-lettered (node .letter) (keeps letter.double) q))
-      ∙ sym (ap toldFor (childless letter.double q e (omega arith)))
+      ∙ sym (ap toldFor (childless (keeps letter.double) q e (omega arith)))
   by-letter (keeps letter.long) q e =
-      let found = childless letter.long q e (omega arith) in
+      let found = childless (keeps letter.long) q e (omega arith) in
       ap (λ l. answers.toldOf (leafAs s l (node .place))) (eqb-true (node .letter) 0x6C (class-lettered (node .letter) (keeps letter.long) q))
       ∙ (long-told (notNegative (le32 s (node .place))) (longAt s (node .place) .magnitude) (proper (integer (longAt s (node .place))) found .0) ∙ sym (ap toldFor found))
   by-letter (keeps letter.sequence) q e =
@@ -226,48 +181,14 @@ module _ (t : Tables) (bytes : Bytes (t .input)) (n : ℕ) (ok : soundAt (t .inp
   shaped-some (shape.dict kids) l = absurd (omega arith)
   shaped-some (shape.code numbers line kids) l = absurd (omega arith)
 
-  abbrev Childless : ℕ → Type 0
-  Childless l = (form : Form) × (classOf l ≡ keeps form) × (tag (formed s node [] form) ≤ 3)
-
-  fixed-low : (size : ℕ) → tag (field (node .letter) size s (node .place)) ≤ 3
-  fixed-low size = omega (arith, field-low (node .letter) size s (node .place) .1)
-
-  leaf-forms : Each Childless leafLetters
-  unfolding classOf found letters
-  leaf-forms = (
-    (letter.single, refl, omega arith),
-    (
-      (letter.single, refl, omega arith),
-      (
-        (letter.single, refl, omega arith),
-        (
-          (letter.single, refl, omega arith),
-          (
-            (letter.single, refl, omega arith),
-            (
-              (letter.fixed 4, refl, fixed-low 4),
-              (
-                (letter.fixed 8, refl, fixed-low 8),
-                (
-                  (letter.fixed 8, refl, fixed-low 8),
-                  (
-                    (letter.double, refl, omega arith),
-                    ((letter.long, refl, omega arith), tt),
-                  ),
-                ),
-              ),
-            ),
-          ),
-        ),
-      ),
-    ),
-  )
-
   pub leaf-found : among (node .letter) leafLetters ≡ true → (v : Value) × (lookedAs f g t n (look t n) ≡ some v)
+  unfolding classOf found letters
   leaf-found e =
-      let x = among-each Childless (node .letter) leafLetters leaf-forms e in
-      let v = shaped-some (formed s node [] (x .0)) (x .2) in
-      (v .0, childless (x .0) (x .1) (subst (λ c. ruled s node c ≡ true) (x .1) (sound-ruled s node (sound-at t n ok .1) .1)) (x .2) ∙ v .1)
+      let low =
+      among-each (λ l. tag (classed s node [] (classOf l)) ≤ 3) (node .letter) leafLetters
+      (omega arith, (omega arith, (omega arith, (omega arith, (omega arith, (omega arith, (fixed-low 8, (fixed-low 8, (omega arith, (omega arith, tt)))))))))) e in
+      let v = shaped-some (classed s node [] (classOf (node .letter))) low in
+      (v .0, childless (classOf (node .letter)) refl (sound-ruled s node (sound-at t n ok .1) .1) low ∙ v .1)
 
 -- Every letter past the ten is no leaf.
 past : (b rest : Bool) (x y : definition.Leaf) → cond b true rest ≡ false → (rest ≡ false → y ≡ definition.notLeaf) → cond b x y ≡ definition.notLeaf
@@ -288,25 +209,33 @@ no-other s l at e =
     past (eqb l 0x79) _ _ _ e (λ e.
     past (eqb l 0x6C) _ _ _ e (λ e. refl))))))))))
 
--- Any allowance.
-found-told : (t : Tables) → Bytes (t .input) → length (t .input) ≤ mostBytes → (n : ℕ) → soundAt (t .input) (t .nodes) (t .usedNodes) n ≡ true → (a : ℕ) → 0 < a
-    → answers.toldOf (leafAs (t .input) (nodeOf t n .letter) (nodeOf t n .place)) ≡ toldFor (valueOf a t n)
-unfolding valueOf
-found-told t bytes small n ok zero l = absurd (omega arith)
-found-told t bytes small n ok (suc zero) l = leaf-by-value t bytes n ok nowhere nowhere (λ v e. found-is-known t bytes small 1 n v e .proper)
-found-told t bytes small n ok (suc (suc a)) l =
-    leaf-by-value t bytes n ok (valueOf (suc a) t) (valueOf a t) (λ v e. found-is-known t bytes small (suc (suc a)) n v e .proper)
+-- Any allowance: one level is looked at, and f and g find the values below it.
+record Below (t : Tables) (a n : ℕ) : Type 0 where
+  f : ℕ → Option Value
+  g : ℕ → Option Value
+  looks : valueOf a t n ≡ lookedAs f g t n (look t n)
 
-leaf-valued : (t : Tables) → Bytes (t .input) → length (t .input) ≤ mostBytes → (n : ℕ) → soundAt (t .input) (t .nodes) (t .usedNodes) n ≡ true → among (nodeOf t n .letter) leafLetters ≡ true
-    → (a : ℕ) → 0 < a → (v : Value) × (valueOf a t n ≡ some v)
+below : (t : Tables) (a n : ℕ) → 0 < a → Below t a n
 unfolding valueOf
-leaf-valued t bytes small n ok h zero l = absurd (omega arith)
-leaf-valued t bytes small n ok h (suc zero) l = leaf-found t bytes n ok nowhere nowhere (λ v e. found-is-known t bytes small 1 n v e .proper) h
-leaf-valued t bytes small n ok h (suc (suc a)) l =
-    leaf-found t bytes n ok (valueOf (suc a) t) (valueOf a t) (λ v e. found-is-known t bytes small (suc (suc a)) n v e .proper) h
+below t zero n l = absurd (omega arith)
+below t (suc zero) n l = record { f = nowhere; g = nowhere; looks = refl }
+below t (suc (suc a)) n l = record { f = valueOf (suc a) t; g = valueOf a t; looks = refl }
+
+module _ (t : Tables) (bytes : Bytes (t .input)) (small : length (t .input) ≤ mostBytes) (n : ℕ) (ok : soundAt (t .input) (t .nodes) (t .usedNodes) n ≡ true) (a : ℕ) (l : 0 < a) where
+  abbrev b : Below t a n
+  b = below t a n l
+
+  proper : (v : Value) → lookedAs (b .f) (b .g) t n (look t n) ≡ some v → Proper v
+  proper v e = found-is-known t bytes small a n v (b .looks ∙ e) .proper
+
+  found-told : answers.toldOf (leafAs (t .input) (nodeOf t n .letter) (nodeOf t n .place)) ≡ toldFor (valueOf a t n)
+  found-told = leaf-by-value t bytes n ok (b .f) (b .g) proper ∙ sym (ap toldFor (b .looks))
+
+  leaf-valued : among (nodeOf t n .letter) leafLetters ≡ true → (v : Value) × (valueOf a t n ≡ some v)
+  leaf-valued h = let v = leaf-found t bytes n ok (b .f) (b .g) proper h in (v .0, b .looks ∙ v .1)
 
 -- A question whose every call ends as the definition says.
-abbrev Exact : Question → Type 0
+abbrev pub Exact : Question → Type 0
 Exact Q = (c : Q .Calls) → Q .end c ≡ Q .shown (answeredOf (leafOf (Q .input c) (Q .nodes c) (Q .used c) (Q .node c)))
 
 module _ (Q : Question) (exact : Exact Q) where
@@ -332,7 +261,7 @@ module _ (Q : Question) (exact : Exact Q) where
         told-of-value =
             λ c short ok entries usedEntries a l.
             sound-answered c short ok ∙ ap (λ x. Q .shown (Told x)) (found-told (storesIn Q c entries usedEntries) (Q .bytes c) short (Q .node c) ok a l);
-        leaf-means = λ c short ok h entries usedEntries a l. leaf-valued (storesIn Q c entries usedEntries) (Q .bytes c) short (Q .node c) ok h a l;
+        leaf-means = λ c short ok h entries usedEntries a l. leaf-valued (storesIn Q c entries usedEntries) (Q .bytes c) short (Q .node c) ok a l h;
         other-letter = λ c short ok h. sound-answered c short ok ∙ ap (λ x. Q .shown (Told (answers.toldOf x))) (no-other (Q .input c) (nodeIn Q c .letter) (nodeIn Q c .place) h);
         bad-record = bad-answered;
         too-long = long-answered;
@@ -353,7 +282,7 @@ module _ (Q : Question) (exact : Exact Q) where
         let ok = whole-some t (Q .node q) (seen .kids) (looked-held t (Q .node q) (seen .kids) (seen .seen .held) .linked) .0 in
         by-value .told-of-value q short ok (R .ends (r .call) .entries) (r .counts .entries) a (omega arith) ∙ ap (λ o. Q .shown (Told (toldFor o))) means
 
-leaf-exact : Exact leafQuestion
+pub leaf-exact : Exact leafQuestion
 leaf-exact c = c .call .meets
 
 sill-exact : Exact sillQuestion
@@ -368,48 +297,3 @@ leaf-of-read = (
   of-read leafQuestion leaf-exact deserializeValue deserialize-exactly serializeValue (demand-2 .0),
   of-read sillQuestion sill-exact sillRead sill-read-exactly sillWrite (demand-2 .1),
 )
-
--- The floats.
-bits-stand : (bits : ℕ) → bits < 18446744073709551616 → Stands (ofBits binary64 bits) bits
-bits-stand bits h = record { stands-for = refl; own-bits = λ e. toBits-ofBits binary64 bits h (subst (λ (b : Bool). T (not b)) (sym e) tt) }
-
-abbrev Standing : definition.Leaf → Type 0
-Standing l = FloatsIn (Told (answers.toldOf l))
-
-either : {A : Type 0} (P : A → Type 0) (b : Bool) (x y : A) → P x → P y → P (cond b x y)
-either P true x y p q = p
-either P false x y p q = q
-
-long-stands : (x : Bool) (m : ℕ) → Standing (longOf x m)
-long-stands true m = either Standing (ltb m 9223372036854775808) _ _ tt tt
-long-stands false m = either Standing (leb m 9223372036854775808) _ _ tt tt
-
--- of ten letters and every other, the floats of g and y stand for eight bytes each
-leaf-stands : (s : List ℕ) → Bytes s → (l at : ℕ) → Standing (leafAs s l at)
-unfolding leafAs
-leaf-stands s bytes l at =
-    either Standing (eqb l 0x4E) _ _ tt
-    (either Standing (eqb l 0x46) _ _ tt
-    (either Standing (eqb l 0x54) _ _ tt
-    (either Standing (eqb l 0x2E) _ _ tt
-    (either Standing (eqb l 0x53) _ _ tt
-    (either Standing (eqb l 0x69) _ _ tt
-    (either Standing (eqb l 0x49) _ _ tt
-    (either Standing (eqb l 0x67) _ _ (bits-stand (le64 s at) (long-below s bytes at))
-    (either Standing (eqb l 0x79) _ _ (bits-stand (le64 s at) (long-below s bytes at), bits-stand (le64 s (at + 8)) (long-below s bytes (at + 8)))
-    (either Standing (eqb l 0x6C) _ _ (long-stands (notNegative (le32 s at)) _)
-    tt)))))))))
-
-answer-stands : (s nodes : List ℕ) → Bytes s → (used n : ℕ) → FloatsIn (answeredOf (leafOf s nodes used n))
-unfolding leafOf
-answer-stands s nodes bytes used n =
-    let P : Answer definition.Leaf → Type 0 = λ a. FloatsIn (answeredOf a) in
-    either P (ltb mostBytes (length s)) _ _ tt (either P (soundAt s nodes used n) _ _ (leaf-stands s bytes (nodeAt nodes n .letter) (nodeAt nodes n .place)) tt)
-
-pub float-promise : FloatPromise
-float-promise =
-    record {
-      each-float = λ c. subst FloatsIn (sym (leaf-exact c)) (answer-stands (leafQuestion .input c) (leafQuestion .nodes c) (c .bytes) (leafQuestion .used c) (leafQuestion .node c));
-      one-stored = λ c short ok is. leaf-exact c ∙ one-float (leafQuestion .input c) (leafQuestion .nodes c) (leafQuestion .used c) (leafQuestion .node c) short ok is;
-      two-stored = λ c short ok is. leaf-exact c ∙ two-floats (leafQuestion .input c) (leafQuestion .nodes c) (leafQuestion .used c) (leafQuestion .node c) short ok is;
-    }

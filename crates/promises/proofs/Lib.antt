@@ -22,5 +22,7 @@ pub mod Reading
 pub mod Demand1
 pub mod Demand2
 pub mod Lines
+pub mod Wholes
 pub mod Leaves
+pub mod Floats
 pub mod Demand3

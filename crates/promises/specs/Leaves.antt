@@ -2,19 +2,18 @@
 -- answers none, a truth value, ellipsis, stop, a 64-bit whole number, one float, two floats, "wide" (a long outside signed 64 bits), or for
 -- every other letter "not a leaf". Floats carry the stored bits." What a value is and what stores mean stands in `meaning`.
 use mathlib.Core.Path.{_≡_}
-use Prim.Native.Nat.{ℕ, _+_, _≤_, _<_}
+use Prim.Native.Nat.{ℕ, _≤_, _<_}
 use mathlib.Core.Bool.{Bool, true, false, cond}
 use mathlib.Core.Option.{Option, none, some}
 use mathlib.Core.List.{List, [], _∷_}
 use lib.ListN.{length}
 use lib.IntN.{ℤ, pos, negℤ}
 use lib.Dec.{leb, ltb, eqb}
-use lib.Ieee.{Float as Number, binary64, ofBits, toBits, isNan}
+use lib.Ieee.{binary64, ofBits}
 use denote.Ref.{now}
 use Rattle.refusals.specs.Numbers.{inputTooLong, badTable}
 use Rattle.refusals.specs.Limits.{mostBytes}
 use Rattle.grammar.specs.Letters.{among}
-use Rattle.grammar.specs.Fields.{le64}
 use Rattle.grammar.specs.State.{Node, nodeAt}
 use Rattle.grammar.specs.Record.{Tables, soundAt}
 use Rattle.grammar.proofs.Bounded.{Bytes}
@@ -172,39 +171,3 @@ pub record Handed (R : Reader) (r : NodeRead R) (Q : Question) (q : Q .Calls) : 
 -- Of a node that was read, the answer is what is told of the value that demand 2 writes back.
 abbrev pub LeafOfRead : (R : Reader) → (W : Writer) → Demand2 R W → Question → Type 0
 LeafOfRead R W D Q = (r : NodeRead R) (q : Q .Calls) → Handed R r Q q → Q .end q ≡ Q .shown (Told (toldOf (D .value r)))
-
--- The floats of `leaf_of`. The language has one NaN, without a payload: each float is the one that the bits beside it stand for, and its own
--- bits are these wherever it is no NaN.
-pub record Stands (x : Number) (bits : ℕ) : Type 0 where
-  pub stands-for : x ≡ ofBits binary64 bits
-  pub own-bits : isNan x ≡ false → toBits binary64 x ≡ bits
-
-abbrev pub FloatsOf : Leaf → (first second : ℕ) → Type 0
-FloatsOf NotLeaf first second = Unit
-FloatsOf None first second = Unit
-FloatsOf (Truth b) first second = Unit
-FloatsOf Ellipsis first second = Unit
-FloatsOf Stop first second = Unit
-FloatsOf (Whole number) first second = Unit
-FloatsOf (Float x) first second = Stands x first
-FloatsOf (Complex x y) first second = Stands x first × Stands y second
-FloatsOf Wide first second = Unit
-
-abbrev pub FloatsIn : Answered → Type 0
-FloatsIn (Told t) = FloatsOf (t .leaf) (t .first) (t .second)
-FloatsIn (Refused number place) = Unit
-
--- the bits of eight bytes each at the node's place
-abbrev pub firstStored : leafQuestion .Calls → ℕ
-firstStored c = le64 (leafQuestion .input c) (nodeIn leafQuestion c .place)
-
-abbrev pub secondStored : leafQuestion .Calls → ℕ
-secondStored c = le64 (leafQuestion .input c) (nodeIn leafQuestion c .place + 8)
-
-pub record FloatPromise : Type 0 where
-  pub each-float : (c : leafQuestion .Calls) → FloatsIn (c .call .result)
-  -- the bits beside are the stored ones: of `g`, and of `y`
-  pub one-stored : (c : leafQuestion .Calls) → Short leafQuestion c → isSound leafQuestion c ≡ true → nodeIn leafQuestion c .letter ≡ 0x67
-      → c .call .result ≡ Told (told (Float (ofBits binary64 (firstStored c))) (firstStored c) 0)
-  pub two-stored : (c : leafQuestion .Calls) → Short leafQuestion c → isSound leafQuestion c ≡ true → nodeIn leafQuestion c .letter ≡ 0x79
-      → c .call .result ≡ Told (told (Complex (ofBits binary64 (firstStored c)) (ofBits binary64 (secondStored c))) (firstStored c) (secondStored c))

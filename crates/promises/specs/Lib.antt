@@ -5,4 +5,5 @@ pub mod Demand1
 pub mod Demand2
 pub mod Lines
 pub mod Leaves
+pub mod Floats
 pub mod Demand3
