@@ -16,7 +16,6 @@ use Rattle.grammar.specs.Record.{Tables}
 use Rattle.grammar.proofs.Tests.{same-some}
 use Rattle.grammar.specs.Answer.{plain, reading, Counts, countsOf, readOf}
 use Rattle.grammar.proofs.Bounded.{Bytes}
-use Rattle.grammar.proofs.Contents.{gives-within}
 use Rattle.grammar.proofs.Following.{follows-gives}
 use Rattle.grammar.proofs.ReadBack.{tablesOf}
 use Rattle.writing.specs.Steps.{writing}

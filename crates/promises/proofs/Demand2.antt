@@ -1,7 +1,7 @@
 -- DEMAND 2: what either reader reads means a value at every node, either writer writes it back as its canonical bytes, and these read as the
 -- same value. From meaning's theorem A (every node), AnyStores (its writing) and RoundTrip (its reading). Assumes nothing but bytes for input.
 use mathlib.Core.Path.{_≡_, sym, ap, subst, _∙_}
-use Prim.Native.Nat.{ℕ, _≤_, _<_, _-_, min}
+use Prim.Native.Nat.{_≤_, _<_, _-_, min}
 use native.Mathlib.Omega.{arith}
 use lib.ListN.{length, take}
 use lib.Seq.{take-append-seam}

@@ -1,6 +1,6 @@
 -- The promise on floats, over the calls of `leaf_of`: each is the one that the bits beside it stand for, its own where it is no NaN, and these
 -- are the stored ones. From leaf's Patterns and Floats. Assumes nothing but bytes for input.
-use mathlib.Core.Path.{_≡_, refl, sym, subst, _∙_}
+use mathlib.Core.Path.{refl, sym, subst, _∙_}
 use Prim.Native.Nat.{ℕ, _+_, _<_}
 use mathlib.Core.Bool.{Bool, true, false, cond, not}
 use mathlib.Core.List.{List}
