@@ -54,7 +54,7 @@ last-reads s (suc k) at r n e = go (eqb (le16 s (at + 2 * k)) 0) e
 none-counted : (n : Node) (size : ℕ) → eqb (n .size) size && eqb (n .count) 0 ≡ true → n .count ≡ 0
 none-counted n size e = eqb-true (n .count) 0 (both-true (eqb (n .size) size) (eqb (n .count) 0) e .1)
 
-leaf-none : (s : List ℕ) (n : Node) (kids : List ℕ) (c : Class) → tag (classed s n kids c) ≤ 5 → ruled s n c ≡ true → n .count ≡ 0
+pub leaf-none : (s : List ℕ) (n : Node) (kids : List ℕ) (c : Class) → tag (classed s n kids c) ≤ 5 → ruled s n c ≡ true → n .count ≡ 0
 unfolding fields pylong
 leaf-none s n kids refers l e = let z : _≡_ {A = ℕ} 0 1 = cc in absurd (omega arith)
 leaf-none s n kids (refuses number) l e = let z : _≡_ {A = ℕ} 0 1 = cc in absurd (omega arith)

@@ -46,7 +46,7 @@ unfolding letters
 class-lettered l c e = ap (lettered l) (sym e) ∙ class-passes lettered (λ l. refl) refl l
 
 -- Shapes by class.
-field-low : (l size : ℕ) (s : List ℕ) (at : ℕ) → (1 ≤ tag (field l size s at)) × (tag (field l size s at) ≤ 2)
+pub field-low : (l size : ℕ) (s : List ℕ) (at : ℕ) → (1 ≤ tag (field l size s at)) × (tag (field l size s at) ≤ 2)
 field-low l size s at = go (eqb size 4) (eqb l 0x67) (ofBits 2147483648 (le32 s at)) (ofBits 9223372036854775808 (le64 s at)) (le64 s at)
   where
     go : (a b : Bool) (x y : Integer) (z : ℕ)

@@ -1,9 +1,10 @@
--- The round trip: any value read, if it fits once sharing is written out and its codes keep the name order, is written back, and what is
--- written reads as the same value; written once more it is the same bytes; and values with the same bytes are the same. From theorems A, B
--- and C. Assumes that the input is bytes.
+-- The two ways of the round trip, of whole answers: a value that fits once sharing is written out is written as its bytes, and these read
+-- as that value; read and written once more they are the same bytes; and values with the same bytes are the same. From theorems A, B and C.
+-- Assumes that the input is bytes.
 use mathlib.Core.Path.{_≡_, refl, sym, ap, subst, _∙_}
 use Prim.Native.Nat.{ℕ, _≤_, _<_, min, max}
 use native.Mathlib.Omega.{arith}
+use mathlib.Core.Option.{some}
 use mathlib.Core.List.{List, [], _++_, append-nil}
 use lib.ListN.{length}
 use borrow.Author.Tests.{le-ltb}
@@ -15,19 +16,17 @@ use Rattle.grammar.specs.Record.{Tables}
 use Rattle.grammar.proofs.Tests.{same-some}
 use Rattle.grammar.specs.Answer.{plain, reading, Counts, countsOf, readOf}
 use Rattle.grammar.specs.Input.{Bytes}
-use Rattle.grammar.proofs.Contents.{gives-within}
 use Rattle.grammar.proofs.Following.{follows-gives}
 use Rattle.grammar.proofs.ReadBack.{tablesOf}
 use Rattle.writing.specs.Steps.{writing}
 use Rattle.writing.specs.Answer.{mostOutput, written}
 use Rattle.meaning.specs.Value.{Value}
 use Rattle.meaning.specs.Canonical.{canonical}
-use Rattle.meaning.specs.Extent.{depthOf, nodesOf, entriesOf}
+use Rattle.meaning.specs.Extent.{depthOf, nodesOf, entriesOf, countsFor}
 use Rattle.meaning.specs.Order.{InOrder}
 use Rattle.meaning.specs.Proper.{Below, Proper}
 use Rattle.meaning.specs.Meaning.{valueOf, tablesAfter}
 use Rattle.meaning.specs.Written.{writtenAs}
-use Rattle.meaning.specs.Round.{IsRead, Fits, countsFor}
 use Rattle.meaning.proofs.Means.{Means}
 use Rattle.meaning.proofs.Standing.{InState}
 use Rattle.meaning.proofs.Goes.{Never, Anywhere, Wrote}
@@ -73,71 +72,46 @@ after-tables : (s : List ℕ) (nodes entries slots nesting : ℕ) (r : ℕ × St
 unfolding readOf
 after-tables s nodes entries slots nesting r e = rw e refl
 
-pub reads-as : (v : Value) (rest : List ℕ) → Proper v → Below 256 rest → length (canonical v ++ rest) ≤ mostBytes → (nodes entries slots nesting : ℕ)
-    → depthOf v ≤ min nesting mostNesting → nodesOf v ≤ nodeCapacity nodes → entriesOf v ≤ entryCapacity entries → IsRead (canonical v ++ rest) nodes entries slots nesting (countsFor v) v
-unfolding readOf
-reads-as v rest p hr small nodes entries slots nesting hd hn he =
-    let s = canonical v ++ rest in
-    let bytes = bytes-of v rest p hr in
-    let l = read-back v rest p bytes small nodes entries slots nesting hd hn he in
-    let r : ℕ × State = (0, l .state) in
-    let c : countsOf (l .state) ≡ countsFor v = counts-are _ _ _ _ _ _ _ _ (l .consumed) (l .nodes-used) (l .entries-used) (l .slots-used) in
-    let m = in-tables s bytes nodes entries slots nesting r (l .answer) v 0 (l .means) p in
-    let T = tablesOf s nodes entries r in
-    let same : tablesAfter s (readOf s nodes entries slots nesting) (countsFor v) ≡ T =
-    ap (tablesAfter s (readOf s nodes entries slots nesting)) (sym c) ∙ after-tables s nodes entries slots nesting r (l .answer) in
-    record {
-      answer = rw (l .answer) (ap gives c);
-      means = λ a h. ap (λ x. valueOf a x 0) same ∙ means-value (InTables T) (λ a n. valueOf a T n) (by-tables T) v 0 a m h;
-    }
+-- so read, the root means the value whatever the allowance, once it is enough
+module _ (v : Value) (nodes entries slots nesting : ℕ) (depth : depthOf v ≤ min nesting mostNesting) (nodes-fit : nodesOf v ≤ nodeCapacity nodes) (entries-fit : entriesOf v ≤ entryCapacity entries) where
+  pub reads-as : (rest : List ℕ) → Proper v → Below 256 rest → length (canonical v ++ rest) ≤ mostBytes
+      → (readOf (canonical v ++ rest) nodes entries slots nesting .answer ≡ gives (countsFor v))
+      × ((a : ℕ) → depthOf v ≤ a → valueOf a (tablesAfter (canonical v ++ rest) (readOf (canonical v ++ rest) nodes entries slots nesting) (countsFor v)) 0 ≡ some v)
+  unfolding readOf
+  reads-as rest p hr small =
+      let s = canonical v ++ rest in
+      let bytes = bytes-of v rest p hr in
+      let l = read-back v rest p bytes small nodes entries slots nesting depth nodes-fit entries-fit in
+      let r : ℕ × State = (0, l .state) in
+      let c : countsOf (l .state) ≡ countsFor v = counts-are _ _ _ _ _ _ _ _ (l .consumed) (l .nodes-used) (l .entries-used) (l .slots-used) in
+      let m = in-tables s bytes nodes entries slots nesting r (l .answer) v 0 (l .means) p in
+      let T = tablesOf s nodes entries r in
+      let same : tablesAfter s (readOf s nodes entries slots nesting) (countsFor v) ≡ T =
+      ap (tablesAfter s (readOf s nodes entries slots nesting)) (sym c) ∙ after-tables s nodes entries slots nesting r (l .answer) in
+      (rw (l .answer) (ap gives c), λ a h. ap (λ x. valueOf a x 0) same ∙ means-value (InTables T) (λ a n. valueOf a T n) (by-tables T) v 0 a m h)
 
-pub reads-whole : (v : Value) → Proper v → length (canonical v) ≤ mostBytes → (nodes entries slots nesting : ℕ) → depthOf v ≤ min nesting mostNesting → nodesOf v ≤ nodeCapacity nodes → entriesOf v ≤ entryCapacity entries
-    → IsRead (canonical v) nodes entries slots nesting (countsFor v) v
-unfolding Below
-reads-whole v p small nodes entries slots nesting hd hn he =
-    let e = append-nil (canonical v) in
-    subst (λ s. IsRead s nodes entries slots nesting (countsFor v) v) e (reads-as v [] p tt (subst (λ s. length s ≤ mostBytes) (sym e) small) nodes entries slots nesting hd hn he)
+  pub reads-whole : Proper v → length (canonical v) ≤ mostBytes
+      → (readOf (canonical v) nodes entries slots nesting .answer ≡ gives (countsFor v))
+      × ((a : ℕ) → depthOf v ≤ a → valueOf a (tablesAfter (canonical v) (readOf (canonical v) nodes entries slots nesting) (countsFor v)) 0 ≡ some v)
+  unfolding Below
+  reads-whole p small =
+      let e = append-nil (canonical v) in
+      subst (λ s. (readOf s nodes entries slots nesting .answer ≡ gives (countsFor v)) × ((a : ℕ) → depthOf v ≤ a → valueOf a (tablesAfter s (readOf s nodes entries slots nesting) (countsFor v)) 0 ≡ some v)) e
+      (reads-as [] p tt (subst (λ s. length s ≤ mostBytes) (sym e) small))
 
--- The round trip. What was read means a proper value; and wherever that value fits, it is written back as bytes that read as it.
-pub record RoundTrip (s : List ℕ) (nodes entries slots nesting : ℕ) (c : Counts) : Type 0 where
-  pub value : Value
-  pub proper : Proper value
-  pub read : IsRead s nodes entries slots nesting c value
-  pub back : (nodes′ entries′ slots′ nesting′ room : ℕ) → Fits value nodes′ entries′ nesting′ room
-      → (bytes : List ℕ) × (written (tablesAfter s (readOf s nodes entries slots nesting) c) 0 nesting′ room ≡ gives bytes) × (bytes ≡ canonical value) × IsRead bytes nodes′ entries′ slots′ nesting′ (countsFor value) value
-
-pub round-trip : (s : List ℕ) → Bytes s → (nodes entries slots nesting : ℕ) (c : Counts) → readOf s nodes entries slots nesting .answer ≡ gives c → RoundTrip s nodes entries slots nesting c
-round-trip s bytes nodes entries slots nesting c e =
-    let a = answer-gives s nodes entries slots nesting c e in
-    let m = root-means s bytes nodes entries slots nesting (a .read) (a .is) in
-    let v = m .value in
-    let small = gives-within s nodes entries slots nesting (a .read) (a .is) .0 in
-    record {
-      value = v;
-      proper = m .proper;
-      read = record { answer = e; means = λ x h. ap (λ t. valueOf x t 0) (a .tables) ∙ m .found x h };
-      back =
-          λ nodes′ entries′ slots′ nesting′ room f. (
-            canonical v,
-            ap (λ t. written t 0 nesting′ room) (a .tables) ∙ written-is (tablesOf s nodes entries (a .read)) 0 v small (m .means) (m .proper) nesting′ (f .depth-fits) (f .in-order) room (f .output-fits),
-            refl,
-            reads-whole v (m .proper) (f .input-fits) nodes′ entries′ slots′ nesting′ (f .depth-fits) (f .nodes-fit) (f .entries-fit),
-          );
-    }
-
--- Written bytes, read and written again, are the same bytes.
-pub written-again : (v : Value) → Proper v → (nodes entries slots nesting room : ℕ) → Fits v nodes entries nesting room
-    → written (tablesAfter (canonical v) (readOf (canonical v) nodes entries slots nesting) (countsFor v)) 0 nesting room ≡ gives (canonical v)
-written-again v p nodes entries slots nesting room f =
-    let s = canonical v in
-    let i = reads-whole v p (f .input-fits) nodes entries slots nesting (f .depth-fits) (f .nodes-fit) (f .entries-fit) in
-    let bytes = below-at s (octets v p) in
-    let a = answer-gives s nodes entries slots nesting (countsFor v) (i .answer) in
-    let m = root-means s bytes nodes entries slots nesting (a .read) (a .is) in
-    let top = max (depthOf v) (depthOf (m .value)) in
-    let same : m .value ≡ v = same-some (sym (m .found top (omega arith)) ∙ ap (λ t. valueOf top t 0) (sym (a .tables)) ∙ i .means top (omega arith)) in
-    ap (λ t. written t 0 nesting room) (a .tables)
-    ∙ written-is (tablesOf s nodes entries (a .read)) 0 v (f .input-fits) (subst (Means (InTables (tablesOf s nodes entries (a .read))) 0) same (m .means)) p nesting (f .depth-fits) (f .in-order) room (f .output-fits)
+  -- Written bytes, read and written again, are the same bytes.
+  pub written-again : Proper v → InOrder v → length (canonical v) ≤ mostBytes → (room : ℕ) → length (canonical v) ≤ min room mostOutput
+      → written (tablesAfter (canonical v) (readOf (canonical v) nodes entries slots nesting) (countsFor v)) 0 nesting room ≡ gives (canonical v)
+  written-again p o small room fits =
+      let s = canonical v in
+      let i = reads-whole p small in
+      let bytes = below-at s (octets v p) in
+      let a = answer-gives s nodes entries slots nesting (countsFor v) (i .0) in
+      let m = root-means s bytes nodes entries slots nesting (a .read) (a .is) in
+      let top = max (depthOf v) (depthOf (m .value)) in
+      let same : m .value ≡ v = same-some (sym (m .found top (omega arith)) ∙ ap (λ t. valueOf top t 0) (sym (a .tables)) ∙ i .1 top (omega arith)) in
+      ap (λ t. written t 0 nesting room) (a .tables)
+      ∙ written-is (tablesOf s nodes entries (a .read)) 0 v small (subst (Means (InTables (tablesOf s nodes entries (a .read))) 0) same (m .means)) p nesting depth o room fits
 
 -- Equal bytes mean the same value: both are what the bytes are read as.
 pub canonical-injective : (v w : Value) → Proper v → Proper w → length (canonical v) ≤ mostBytes → canonical v ≡ canonical w → v ≡ w

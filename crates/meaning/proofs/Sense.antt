@@ -33,7 +33,7 @@ use Rattle.meaning.proofs.Inversion.{class-lettered}
 
 -- Numbers of bytes.
 module _ (s : List ℕ) (bytes : Bytes s) where
-  long-below : (at : ℕ) → le64 s at < 18446744073709551616
+  pub long-below : (at : ℕ) → le64 s at < 18446744073709551616
   long-below at = omega (arith, bytes at, bytes (at + 1), bytes (at + 2), bytes (at + 3), bytes (at + 4), bytes (at + 5), bytes (at + 6), bytes (at + 7))
 
 below-list : (s : List ℕ) → ((i : ℕ) → getD s i 0 < 256) → Below 256 s

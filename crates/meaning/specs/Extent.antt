@@ -1,6 +1,9 @@
--- What a value takes once sharing is written out: its nesting, its nodes and its entries. Its bytes are the length of Canonical's.
+-- What a value takes once sharing is written out: its nesting, its nodes and its entries; its bytes are the length of Canonical's.
 -- 01, 'Reading a value': "Children get the allowance less one. Each claims an entry (12) after it is complete"; "Code spends two levels".
 use Prim.Native.Nat.{ℕ, suc, _+_, max}
+use lib.ListN.{length}
+use Rattle.grammar.specs.Answer.{Counts}
+use Rattle.meaning.specs.Canonical.{canonical}
 use Rattle.meaning.specs.Value.{Value, Values, nil, more, single, integer, float, complex, bytes, text, sequence, slice, dict, code}
 
 unfoldable mutual
@@ -53,3 +56,7 @@ unfoldable mutual
   pub entriesAll : Values → ℕ
   entriesAll nil = 0
   entriesAll (more v vs) = suc (entriesOf v + entriesAll vs)
+
+-- What the reading of a value's canonical bytes counts: all of them, each node and each entry, and no slot.
+abbrev pub countsFor : Value → Counts
+countsFor v = record { consumed = length (canonical v); nodes = nodesOf v; entries = entriesOf v; slots = 0 }

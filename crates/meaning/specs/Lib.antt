@@ -5,4 +5,3 @@ pub mod Order
 pub mod Written
 pub mod Proper
 pub mod Meaning
-pub mod Round

@@ -1,75 +1,95 @@
--- DEMAND 2: what either reader reads means a value, either writer writes it back as its canonical bytes, and these read as the same value.
--- From meaning's RoundTrip. Assumes nothing but bytes for input, where the reader's calls are restricted to them.
+-- DEMAND 2: what either reader reads means a value at every node, either writer writes it back as its canonical bytes, and these read as the
+-- same value. From meaning's theorem A (every node), AnyStores (its writing) and RoundTrip (its reading). Assumes nothing but bytes for input.
 use mathlib.Core.Path.{_≡_, sym, ap, subst, _∙_}
-use Prim.Native.Nat.{_≤_, _-_, min}
+use Prim.Native.Nat.{_≤_, _<_, _-_, min}
+use native.Mathlib.Omega.{arith}
 use lib.ListN.{length, take}
 use lib.Seq.{take-append-seam}
 use Rattle.refusals.specs.Limits.{mostBytes, mostNesting}
 use Rattle.lent.specs.Lent.{zeros, padded}
 use Rattle.grammar.specs.Input.{Bytes}
 use Rattle.grammar.specs.Reading.{gives}
-use Rattle.grammar.specs.Answer.{Counts}
+use Rattle.grammar.specs.Answer.{Counts, readOf}
 use Rattle.writing.specs.Answer.{written, outputHeld}
 use Rattle.meaning.specs.Value.{Value}
 use Rattle.meaning.specs.Canonical.{canonical}
+use Rattle.meaning.specs.Extent.{countsFor}
 use Rattle.meaning.specs.Order.{InOrder}
 use Rattle.meaning.specs.Meaning.{valueOf, tablesAfter}
-use Rattle.meaning.specs.Round.{IsRead, countsFor}
 use Rattle.grammar.proofs.Contents.{gives-within}
-use Rattle.meaning.proofs.TheoremA.{answer-gives}
+use Rattle.grammar.proofs.ReadBack.{accepted}
+use Rattle.meaning.proofs.TheoremA.{Meant, every-node-means, Answered, answer-gives}
 use Rattle.meaning.proofs.AnyStores.{found-in-order-is-written}
-use Rattle.meaning.proofs.RoundTrip.{RoundTrip, round-trip, reads-whole}
+use Rattle.meaning.proofs.RoundTrip.{reads-whole}
 use Rattle.promises.specs.Calls.{Reader, Writer, onBytes, deserializeValue, sillRead, serializeValue, sillWrite}
-use Rattle.promises.specs.Demand2.{ReadAs, Hands, WriteFits, WrittenBack, Demand2}
+use Rattle.promises.specs.Demand2.{ReadAs, NodeRead, Hands, WriteFits, ReadFits, WrittenBack, Demand2}
 use Rattle.promises.proofs.Reading.{Exactly, Exact, writtenBy, lengthIn, deserialize-exactly, sill-read-exactly, serialize-exact, sill-write-exact}
 
 module _ (R : Reader) (of-bytes : (c : R .Calls) → Bytes (R .input c)) (exactly : Exactly R) where
-  trip : (c : R .Calls) (counts : Counts) → R .ends c .answer ≡ gives counts → RoundTrip (R .input c) (R .nodes c) (R .entries c) (R .slots c) (R .nesting c) counts
-  trip c counts e =
-      round-trip (R .input c) (of-bytes c) (R .nodes c) (R .entries c) (R .slots c) (R .nesting c) counts (sym (ap (λ o. o .answer) (exactly c)) ∙ e)
+  answered : (c : R .Calls) (counts : Counts) → R .ends c .answer ≡ gives counts → Answered (R .input c) (R .nodes c) (R .entries c) (R .slots c) (R .nesting c) counts
+  answered c counts e = answer-gives (R .input c) (R .nodes c) (R .entries c) (R .slots c) (R .nesting c) counts (sym (ap (λ o. o .answer) (exactly c)) ∙ e)
 
-  -- a call that the definition reads as a value reads it
-  read-as : (c : R .Calls) (counts : Counts) (v : Value) → IsRead (R .input c) (R .nodes c) (R .entries c) (R .slots c) (R .nesting c) counts v → ReadAs R c counts v
-  read-as c counts v h =
-      record {
-        accepts = ap (λ o. o .answer) (exactly c) ∙ h .answer;
-        means = λ a l. ap (λ o. valueOf a (tablesAfter (R .input c) o counts) 0) (exactly c) ∙ h .means a l;
-      }
+  module _ (r : NodeRead R) where
+    abbrev c : R .Calls
+    c = r .call
 
-  -- what is accepted is at most 16 MiB
-  small : (c : R .Calls) (counts : Counts) → R .ends c .answer ≡ gives counts → length (R .input c) ≤ mostBytes
-  small c counts e =
-      let a = answer-gives (R .input c) (R .nodes c) (R .entries c) (R .slots c) (R .nesting c) counts (sym (ap (λ o. o .answer) (exactly c)) ∙ e) in
-      gives-within (R .input c) (R .nodes c) (R .entries c) (R .slots c) (R .nesting c) (a .read) (a .is) .0
+    is : Answered (R .input c) (R .nodes c) (R .entries c) (R .slots c) (R .nesting c) (r .counts)
+    is = answered c (r .counts) (r .accepted)
 
-  module _ (W : Writer) (exact : (w : W .Calls) → Exact W w) where
-    written-back : (c : R .Calls) (counts : Counts) (e : R .ends c .answer ≡ gives counts) (w : W .Calls) → Hands R c counts W w
-        → InOrder (trip c counts e .value) → WriteFits (trip c counts e .value) W w → WrittenBack (trip c counts e .value) W w
-    written-back c counts e w h o f =
-        let t = tablesAfter (R .input c) (R .ends c) counts in
-        let v = trip c counts e .value in
-        let means = read-as c counts v (trip c counts e .read) .means (min (W .nesting w) mostNesting) (f .nesting) in
-        let is : writtenBy W w ≡ gives (canonical v) =
-        (λ i. written (h .tables i) (h .root i) (W .nesting w) (W .room w))
-        ∙ found-in-order-is-written t (of-bytes c) (small c counts e) 0 (W .nesting w) (W .room w) v means o (f .bytes) in
-        record { answer = exact w .answer ∙ ap lengthIn is; output = exact w .output ∙ ap (outputHeld (W .room w)) is }
+    -- what is accepted is at most 16 MiB
+    pub small : length (R .input c) ≤ mostBytes
+    small = gives-within (R .input c) (R .nodes c) (R .entries c) (R .slots c) (R .nesting c) (is .read) (is .is) .0
 
-    demanded : Demand2 R W
-    unfolding padded
-    demanded =
+    meant : Meant (R .input c) (R .nodes c) (R .entries c) (is .read) (r .node)
+    meant =
+        every-node-means (R .input c) (of-bytes c) (R .nodes c) (R .entries c) (R .slots c) (R .nesting c) (is .read) (is .is) (r .node)
+        (subst (λ k. r .node < k .nodes) (is .counts) (r .used))
+
+    read-as : ReadAs R c (r .counts) (r .node) (meant .value)
+    read-as =
         record {
-          value = λ c counts e. trip c counts e .value;
-          read = λ c counts e. read-as c counts (trip c counts e .value) (trip c counts e .read);
-          back = written-back;
-          again =
-              λ c counts e w h o f c′ same g.
-              let v = trip c counts e .value in
-              let s : R .input c′ ≡ canonical v =
-              same ∙ (ap (take (length (canonical v))) (written-back c counts e w h o f .output) ∙ take-append-seam (canonical v) (zeros (W .room w - length (canonical v)))) in
-              read-as c′ (countsFor v) v
-              (subst (λ x. IsRead x (R .nodes c′) (R .entries c′) (R .slots c′) (R .nesting c′) (countsFor v) v) (sym s)
-              (reads-whole v (trip c counts e .proper) (g .bytes) (R .nodes c′) (R .entries c′) (R .slots c′) (R .nesting c′) (g .nesting) (g .nodes) (g .entries)));
+          accepts = r .accepted;
+          means =
+              λ a l.
+              ap (λ o. valueOf a (tablesAfter (R .input c) o (r .counts)) (r .node)) (exactly c) ∙ (ap (λ t. valueOf a t (r .node)) (is .tables) ∙ meant .found a l);
         }
+
+    module _ (W : Writer) (exact : (w : W .Calls) → Exact W w) (w : W .Calls) (h : Hands R r W w) (o : InOrder (meant .value)) (f : WriteFits (meant .value) W w) where
+      abbrev v : Value
+      v = meant .value
+
+      written-back : WrittenBack v W w
+      written-back =
+          let t = tablesAfter (R .input c) (R .ends c) (r .counts) in
+          let e : writtenBy W w ≡ gives (canonical v) =
+          (λ i. written (h .tables i) (h .node i) (W .nesting w) (W .room w))
+          ∙ found-in-order-is-written t (of-bytes c) small (r .node) (W .nesting w) (W .room w) v (read-as .means (min (W .nesting w) mostNesting) (f .nesting)) o (f .bytes) in
+          record { answer = exact w .answer ∙ ap lengthIn e; output = exact w .output ∙ ap (outputHeld (W .room w)) e }
+
+      read-again : (c′ : R .Calls) → R .input c′ ≡ take (length (canonical v)) (W .output w) → ReadFits v R c′ → ReadAs R c′ (countsFor v) 0 v
+      unfolding padded
+      read-again c′ same g =
+          let s : R .input c′ ≡ canonical v =
+          same ∙ (ap (take (length (canonical v))) (written-back .output) ∙ take-append-seam (canonical v) (zeros (W .room w - length (canonical v)))) in
+          let i = reads-whole v (R .nodes c′) (R .entries c′) (R .slots c′) (R .nesting c′) (g .nesting) (g .nodes) (g .entries) (meant .proper) (g .bytes) in
+          let ends = exactly c′ ∙ ap (λ x. readOf x (R .nodes c′) (R .entries c′) (R .slots c′) (R .nesting c′)) s in
+          record { accepts = ap (λ x. x .answer) ends ∙ i .0; means = λ a l. (λ j. valueOf a (tablesAfter (s j) (ends j) (countsFor v)) 0) ∙ i .1 a l }
+
+  root-used : (c : R .Calls) (counts : Counts) → R .ends c .answer ≡ gives counts → 0 < counts .nodes
+  root-used c counts e =
+      let a = answered c counts e in
+      let k = accepted (R .input c) (of-bytes c) (R .nodes c) (R .entries c) (R .slots c) (R .nesting c) (a .read) (a .is) .root in
+      omega (arith, ap (λ x. x .nodes) (a .counts), k)
+
+  demanded : (W : Writer) → ((w : W .Calls) → Exact W w) → Demand2 R W
+  demanded W exact =
+      record {
+        value = λ r. meant r .value;
+        read = read-as;
+        back = λ r. written-back r W exact;
+        again = λ r. read-again r W exact;
+        root = root-used;
+      }
 
 -- of the functions that are carried, and of the exports
 pub demand-2 : Demand2 (onBytes deserializeValue) serializeValue × Demand2 (onBytes sillRead) sillWrite

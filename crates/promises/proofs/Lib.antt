@@ -24,5 +24,8 @@ pub mod Demand2
 pub mod Asked
 pub mod Lines
 pub mod LittleEndian
+pub mod Wholes
+pub mod Leaves
+pub mod Floats
 pub mod Demand3
 pub mod Substance

@@ -17,17 +17,16 @@ use Rattle.grammar.proofs.Sheets.{p1, p4, sheets}
 use Rattle.grammar.proofs.Substance.{same-counts-in-any-room}
 use Rattle.meaning.specs.Value.{Value, nil, more, single, countOf}
 use Rattle.meaning.specs.Canonical.{canonical}
-use Rattle.meaning.specs.Extent.{depthOf, nodesOf, entriesOf}
+use Rattle.meaning.specs.Extent.{depthOf, nodesOf, entriesOf, countsFor}
 use Rattle.meaning.specs.Proper.{singles, Proper}
 use Rattle.meaning.specs.Meaning.{valueOf, tablesAfter}
-use Rattle.meaning.specs.Round.{IsRead, countsFor}
 use Rattle.meaning.proofs.Octets.{octets, below-at}
 use Rattle.meaning.proofs.TheoremA.{answer-gives}
 use Rattle.meaning.proofs.RoundTrip.{reads-whole}
 use Rattle.reader.specs.Delivered.{answerOf}
 use Rattle.sillgarland.specs.Values.{readStruct}
 use Rattle.promises.specs.Calls.{Reader, Writer, deserializeValue, sillRead}
-use Rattle.promises.specs.Demand2.{ReadFits, Demand2}
+use Rattle.promises.specs.Demand2.{ReadFits, Demand2, rootRead}
 use Rattle.promises.specs.Demand3.{Demand3}
 use Rattle.promises.specs.Substance.{CallWith, Callable, RefusesAll, Constant, MadeUp, tuple, Invents, ReadsChildren, ShutOut}
 use Rattle.promises.proofs.Reader.{outcomeFrom}
@@ -99,14 +98,14 @@ made-up-counts-are-out R d m =
 children-are-read : (R : Reader) (W : Writer) (d : Demand2 R W) → Demand3 R → ReadsChildren R W d
 children-are-read R W d d3 v p c is f =
     let exactly = exactly-so R d3 in
-    let i : IsRead (canonical v) (R .nodes c) (R .entries c) (R .slots c) (R .nesting c) (countsFor v) v =
-    reads-whole v p (f .bytes) (R .nodes c) (R .entries c) (R .slots c) (R .nesting c) (f .nesting) (f .nodes) (f .entries) in
+    let i = reads-whole v (R .nodes c) (R .entries c) (R .slots c) (R .nesting c) (f .nesting) (f .nodes) (f .entries) p (f .bytes) in
     let ends = exactly c ∙ ap (λ s. readOf s (R .nodes c) (R .entries c) (R .slots c) (R .nesting c)) is in
-    let e = ap (λ o. o .answer) ends ∙ i .answer in
-    let w = d .value c (countsFor v) e in
+    let e = ap (λ o. o .answer) ends ∙ i .0 in
+    let r = rootRead d c (countsFor v) e in
+    let w = d .value r in
     let top = max (depthOf v) (depthOf w) in
-    let mine = d .read c (countsFor v) e .means top (omega arith) in
-    let theirs = i .means top (omega arith) in
+    let mine = d .read r .means top (omega arith) in
+    let theirs = i .1 top (omega arith) in
     let tables : valueOf top (tablesAfter (R .input c) (R .ends c) (countsFor v)) 0
     ≡ valueOf top (tablesAfter (canonical v) (readOf (canonical v) (R .nodes c) (R .entries c) (R .slots c) (R .nesting c)) (countsFor v)) 0 =
     λ j. valueOf top (tablesAfter (is j) (ends j) (countsFor v)) 0 in

@@ -1,8 +1,8 @@
 -- Demand 2 of the request, over the calls of a reader and a writer: "Any value read is written back and reads as the same value, if nesting,
--- bytes, nodes and entries fit once sharing is written out, and its code objects keep 01's name order." What a value is, what it takes and
--- what stores mean stands in `meaning`; "the same value" is equality there.
+-- bytes, nodes and entries fit once sharing is written out, and its code objects keep 01's name order." So of every node that was read; the
+-- root is node 0. What a value is, what it takes and what stores mean stands in `meaning`; "the same value" is equality there.
 use mathlib.Core.Path.{_≡_}
-use Prim.Native.Nat.{ℕ, _≤_, min}
+use Prim.Native.Nat.{ℕ, _≤_, _<_, min}
 use mathlib.Core.Option.{some}
 use lib.ListN.{length, take}
 use Rattle.refusals.specs.Limits.{mostBytes, mostNesting}
@@ -13,21 +13,28 @@ use Rattle.grammar.specs.Answer.{Counts}
 use Rattle.writing.specs.Answer.{mostOutput}
 use Rattle.meaning.specs.Value.{Value}
 use Rattle.meaning.specs.Canonical.{canonical}
-use Rattle.meaning.specs.Extent.{depthOf, nodesOf, entriesOf}
+use Rattle.meaning.specs.Extent.{depthOf, nodesOf, entriesOf, countsFor}
 use Rattle.meaning.specs.Order.{InOrder}
 use Rattle.meaning.specs.Meaning.{valueOf, tablesAfter}
-use Rattle.meaning.specs.Round.{countsFor}
 use Rattle.promises.specs.Calls.{Reader, Writer}
 
--- The call accepts with these counts, and the root of the stores that it leaves means the value.
-pub record ReadAs (R : Reader) (c : R .Calls) (counts : Counts) (v : Value) : Type 0 where
+-- The call accepts with these counts, and a node of the stores that it leaves means the value.
+pub record ReadAs (R : Reader) (c : R .Calls) (counts : Counts) (n : ℕ) (v : Value) : Type 0 where
   pub accepts : R .ends c .answer ≡ gives counts
-  pub means : (allowance : ℕ) → depthOf v ≤ allowance → valueOf allowance (tablesAfter (R .input c) (R .ends c) counts) 0 ≡ some v
+  pub means : (allowance : ℕ) → depthOf v ≤ allowance → valueOf allowance (tablesAfter (R .input c) (R .ends c) counts) n ≡ some v
 
--- The call is given what a call of the reader left: its input, its stores, its counts and its root.
-pub record Hands (R : Reader) (c : R .Calls) (counts : Counts) (W : Writer) (w : W .Calls) : Type 0 where
-  pub tables : W .tables w ≡ tablesAfter (R .input c) (R .ends c) counts
-  pub root : W .root w ≡ 0
+-- A node that a call of the reader left: any one of those that it counted.
+pub record NodeRead (R : Reader) : Type 0 where
+  pub call : R .Calls
+  pub counts : Counts
+  pub accepted : R .ends call .answer ≡ gives counts
+  pub node : ℕ
+  pub used : node < counts .nodes
+
+-- The call is given what that call of the reader left, its input, its stores and its counts, and the node.
+pub record Hands (R : Reader) (r : NodeRead R) (W : Writer) (w : W .Calls) : Type 0 where
+  pub tables : W .tables w ≡ tablesAfter (R .input (r .call)) (R .ends (r .call)) (r .counts)
+  pub node : W .root w ≡ r .node
 
 -- what fits in a call of the writer, and in one of the reader
 pub record WriteFits (v : Value) (W : Writer) (w : W .Calls) : Type 0 where
@@ -46,11 +53,15 @@ pub record WrittenBack (v : Value) (W : Writer) (w : W .Calls) : Type 0 where
   pub output : W .output w ≡ padded (W .room w) (canonical v)
 
 pub record Demand2 (R : Reader) (W : Writer) : Type 0 where
-  pub value : (c : R .Calls) (counts : Counts) → R .ends c .answer ≡ gives counts → Value
-  pub read : (c : R .Calls) (counts : Counts) (e : R .ends c .answer ≡ gives counts) → ReadAs R c counts (value c counts e)
-  pub back : (c : R .Calls) (counts : Counts) (e : R .ends c .answer ≡ gives counts) (w : W .Calls) → Hands R c counts W w
-      → InOrder (value c counts e) → WriteFits (value c counts e) W w → WrittenBack (value c counts e) W w
-  pub again : (c : R .Calls) (counts : Counts) (e : R .ends c .answer ≡ gives counts) (w : W .Calls) → Hands R c counts W w
-      → InOrder (value c counts e) → WriteFits (value c counts e) W w
-      → (c′ : R .Calls) → R .input c′ ≡ take (length (canonical (value c counts e))) (W .output w) → ReadFits (value c counts e) R c′
-      → ReadAs R c′ (countsFor (value c counts e)) (value c counts e)
+  pub value : NodeRead R → Value
+  pub read : (r : NodeRead R) → ReadAs R (r .call) (r .counts) (r .node) (value r)
+  pub back : (r : NodeRead R) (w : W .Calls) → Hands R r W w → InOrder (value r) → WriteFits (value r) W w → WrittenBack (value r) W w
+  -- what is written of the node reads, as a whole, as what the node means
+  pub again : (r : NodeRead R) (w : W .Calls) → Hands R r W w → InOrder (value r) → WriteFits (value r) W w
+      → (c : R .Calls) → R .input c ≡ take (length (canonical (value r))) (W .output w) → ReadFits (value r) R c → ReadAs R c (countsFor (value r)) 0 (value r)
+  -- the root is always there
+  pub root : (c : R .Calls) (counts : Counts) → R .ends c .answer ≡ gives counts → 0 < counts .nodes
+
+-- the root of what a call read
+abbrev pub rootRead : {R : Reader} {W : Writer} → Demand2 R W → (c : R .Calls) (counts : Counts) → R .ends c .answer ≡ gives counts → NodeRead R
+rootRead d c counts e = record { call = c; counts = counts; accepted = e; node = 0; used = d .root c counts e }

@@ -6,5 +6,7 @@ pub mod Demand2
 pub mod Asked
 pub mod Lines
 pub mod LittleEndian
+pub mod Leaves
+pub mod Floats
 pub mod Demand3
 pub mod Substance

@@ -13,7 +13,7 @@ use Rattle.meaning.specs.Value.{Value, Values, nil, more, sequence}
 use Rattle.meaning.specs.Canonical.{canonical}
 use Rattle.meaning.specs.Proper.{Proper}
 use Rattle.promises.specs.Calls.{Reader, Writer}
-use Rattle.promises.specs.Demand2.{ReadFits, Demand2}
+use Rattle.promises.specs.Demand2.{ReadFits, Demand2, rootRead}
 use Rattle.promises.specs.Demand3.{Demand3}
 
 -- A call with this input, stores of these lengths and this nesting; and that a reader can be called with any bytes up to 16 MiB, and any
@@ -58,13 +58,13 @@ abbrev pub Invents : (R : Reader) (W : Writer) → Demand2 R W → Type 0
 Invents R W d =
     (rest : Value → Values)
     × ((c : R .Calls) (counts : Counts) (e : R .ends c .answer ≡ gives counts) (first second : Value) → R .input c ≡ canonical (tuple first (more second nil))
-    → d .value c counts e ≡ tuple first (rest first))
+    → d .value (rootRead d c counts e) ≡ tuple first (rest first))
 
 -- Demand 2's child sequence: from the bytes of a value, whatever its children are, that value is read, with these children in this order.
 abbrev pub ReadsChildren : (R : Reader) (W : Writer) → Demand2 R W → Type 0
 ReadsChildren R W d =
     (v : Value) → Proper v → (c : R .Calls) → R .input c ≡ canonical v → ReadFits v R c
-    → (counts : Counts) × (e : R .ends c .answer ≡ gives counts) × (d .value c counts e ≡ v)
+    → (counts : Counts) × (e : R .ends c .answer ≡ gives counts) × (d .value (rootRead d c counts e) ≡ v)
 
 pub record ShutOut : Type 1 where
   pub refusing-everything : (R : Reader) → Demand3 R → Callable R → RefusesAll R → ⊥
