@@ -16,6 +16,7 @@ use Rattle.writing.proofs.Into.{then-ended, into-then, into-stops}
 use Rattle.puts.specs.declared.Wrote.{Wrote}
 use Rattle.puts.specs.declared.Wrote.the-variants as wrote
 use Rattle.puts.specs.Puts.{Open, Agrees, Puts}
+use Rattle.stores.specs.Written.{EntryIn}
 use Rattle.tables.specs.Looking.{isSome}
 use Rattle.tables.proofs.Groups.{some-of}
 use Rattle.tables.proofs.Chains.{onto, headed, entry-in, chain-none}
@@ -120,7 +121,7 @@ module _ {t : Tables} {f : ℕ → Writing} {Fine : List ℕ → Type 0} {count 
       record { rest = d .rest; chained = d .more; fine = subst Fine are (w .fine); way = left-as (w .way) (ap (each f) are) }
 
   -- whose entry is in the store
-  pub row-entry : {o : List ℕ} {i e p : ℕ} → Rowing t f Fine count o₀ at w₀ o i e p → i < count → e * 2 + 2 ≤ length (t .entries)
+  pub row-entry : {o : List ℕ} {i e p : ℕ} → Rowing t f Fine count o₀ at w₀ o i e p → i < count → EntryIn (t .entries) e
   row-entry {i = i} {e = e} w l =
       let n : count - i ≡ suc (count - (i + 1)) = omega arith in
       entry-in t (count - (i + 1)) e (w .rest) (sym (ap (λ c. chain t c e) n) ∙ w .chained)

@@ -12,7 +12,7 @@ ghost use Rattle.grammar.specs.Steps.{asBytes, asNames};
 ghost use Rattle.grammar.specs.Letters.{classOf};
 ghost use Rattle.grammar.specs.Fields.{le64};
 ghost use Rattle.fields.specs.Classes.{classAt};
-ghost use Rattle.records.specs.Nodes.{nodeOf};
+ghost use Rattle.stores.specs.Written.{nodeOf};
 ghost use Rattle.grammar.specs.Record;
 ghost use Rattle.writing.specs.Writing.{ended, emit, each};
 ghost use Rattle.writing.specs.Canonical.{bytes64, ofBits, integerBytes, shownLine};
@@ -22,7 +22,7 @@ ghost use Rattle.puts.specs.Puts.{Open, Puts};
 ghost use Rattle.tables.specs.Looking.{lent, isSome, stringAt, Held};
 ghost use Rattle.tables.specs.Groups.{groupIn, kindsIn, namesIn, Listed};
 ghost use Rattle.writing.specs.Answer.{mostOutput, written};
-ghost use Rattle.writer.specs.Entry.{tablesOf, Serialized};
+ghost use Rattle.writer.specs.Entry.{Serialized};
 ghost use Rattle.writer.specs.Leaves.{textIf, ledOf, LeafIs, Leaves, Leads, Rows};
 ghost use Rattle.writer.specs.Groups.{Groups};
 ghost use Rattle.writer.specs.Heads.{kidsFrom, Localed, closed, wholeOf, rowOf, partsOf, Fronts, Heads, Levels, PartIn, linedPart, Coded, rowOfNode, lineOf};
@@ -52,7 +52,7 @@ fn write_string(
     if allowance == 0 {
         return puts::Wrote::Refused(refusals::TOO_DEEP, node);
     }
-    let n = tables::node_at(nodes, node);
+    let n = stores::node_of(nodes, node);
     puts::write_marshal_str(out, at, s, n.place, n.size)
 }
 
@@ -73,7 +73,7 @@ fn write_bytes(
     if allowance == 0 {
         return puts::Wrote::Refused(refusals::TOO_DEEP, node);
     }
-    let n = tables::node_at(nodes, node);
+    let n = stores::node_of(nodes, node);
     puts::write_vec(out, at, 0x73, s, n.place, n.size)
 }
 
@@ -96,7 +96,7 @@ fn write_names(
     let mut i = 0u32;
     let mut p = at;
     while i < count {
-        let name = tables::child(entries, e);
+        let name = stores::child_of(entries, e);
         match write_string(s, nodes, entries, out, used, allowance, name, p) {
             puts::Wrote::Refused(number, place) => {
                 return puts::Wrote::Refused(number, place);
@@ -105,7 +105,7 @@ fn write_names(
                 p = a;
             }
         }
-        e = tables::next(entries, e);
+        e = stores::next_of(entries, e);
         i += 1;
     }
     puts::Wrote::Done(p)
@@ -128,7 +128,7 @@ fn write_marshal_name_tuple(
     if allowance == 0 {
         return puts::Wrote::Refused(refusals::TOO_DEEP, node);
     }
-    let n = tables::node_at(nodes, node);
+    let n = stores::node_of(nodes, node);
     match puts::write_len(out, at, 0x28, n.count) {
         puts::Wrote::Refused(number, place) => puts::Wrote::Refused(number, place),
         puts::Wrote::Done(a) => write_names(
@@ -205,7 +205,7 @@ fn write_group(
     let mut n = counted;
     while i < count {
         let kind = s[kinds + i as usize];
-        let name = tables::child(entries, e);
+        let name = stores::child_of(entries, e);
         let member = tables::belongs(s, nodes, entries, used, locals, bit, kind, name);
         match write_member(s, nodes, entries, out, used, allowance, member, name, p) {
             puts::Wrote::Refused(number, place) => {
@@ -216,7 +216,7 @@ fn write_group(
             }
         }
         n += one_if(member);
-        e = tables::next(entries, e);
+        e = stores::next_of(entries, e);
         i += 1;
     }
     Grouped::Done(p, n)
@@ -296,8 +296,8 @@ fn write_locals(
     if allowance == 0 {
         return puts::Wrote::Refused(refusals::TOO_DEEP, node);
     }
-    let n = tables::node_at(nodes, node);
-    let k = tables::node_at(nodes, kinds);
+    let n = stores::node_of(nodes, node);
+    let k = stores::node_of(nodes, kinds);
     let locals = tables::Locals {
         first: n.first,
         count: n.count,
@@ -356,7 +356,7 @@ fn write_eight(s: &[u8], out: &mut [u8], letter: u32, place: u32, at: u32) -> pu
 }
 
 // A node's own bytes, in front of its children.
-fn write_front(s: &[u8], out: &mut [u8], n: records::Node, class: u32, at: u32) -> Opened
+fn write_front(s: &[u8], out: &mut [u8], n: stores::Node, class: u32, at: u32) -> Opened
     requires { ⌜ Open at (now out) × (length (now s) ≤ mostBytes) × (Record.sound (now s) (nodeOf n) ≡ true) × (classAt class ≡ classOf (n .letter)) ⌝ }
     ensures { λ r. ⌜ Fronts (now (s .entry)) (nodeOf n) (classOf (n .letter)) at (now (out .entry)) r (now (out .exit)) ⌝ }
 {
@@ -387,10 +387,10 @@ fn too_deep(nodes: &[u32], used: u32, allowance: u32, node: u32) -> bool
     if allowance != 1 {
         return false;
     }
-    if records::nodes_in(nodes, used) <= node {
+    if stores::nodes_in(nodes, used) <= node {
         return false;
     }
-    let n = tables::node_at(nodes, node);
+    let n = stores::node_of(nodes, node);
     n.letter == 0x63
 }
 
@@ -414,7 +414,7 @@ fn open_node(
     if !tables::look(s, nodes, entries, used, node) {
         return Opened::Refused(refusals::BAD_TABLE, node);
     }
-    let n = tables::node_at(nodes, node);
+    let n = stores::node_of(nodes, node);
     write_front(s, out, n, fields::class_of(n.letter), at)
 }
 
@@ -436,7 +436,7 @@ fn text_if(formed: bool, place: u32, size: u32) -> Leaf
     }
 }
 
-fn text_of(s: &[u8], n: records::Node) -> Leaf
+fn text_of(s: &[u8], n: stores::Node) -> Leaf
     requires { ⌜ length (now s) ≤ mostBytes ⌝ }
     ensures { λ r. ⌜ LeafIs (now (s .entry)) (nodeOf n) r ⌝ }
 {
@@ -446,7 +446,7 @@ fn text_of(s: &[u8], n: records::Node) -> Leaf
     text_if(records::text_sound(s, n), n.place, n.size)
 }
 
-fn leaf_of(s: &[u8], n: records::Node) -> Leaf
+fn leaf_of(s: &[u8], n: stores::Node) -> Leaf
     requires { ⌜ length (now s) ≤ mostBytes ⌝ }
     ensures { λ r. ⌜ LeafIs (now (s .entry)) (nodeOf n) r ⌝ }
 {
@@ -477,10 +477,10 @@ fn leaf_at(s: &[u8], nodes: &[u32], used: tables::Used, allowance: u32, node: u3
     if allowance == 0 {
         return Leaf::Other;
     }
-    if records::nodes_in(nodes, used.nodes) <= node {
+    if stores::nodes_in(nodes, used.nodes) <= node {
         return Leaf::Other;
     }
-    leaf_of(s, records::node_at(nodes, node))
+    leaf_of(s, stores::node_at(nodes, node))
 }
 
 // Where a leaf ends, or why it is refused; or it is no such leaf, and nothing is written.
@@ -552,7 +552,7 @@ fn write_leaves(
     let mut i = done;
     let mut p = at;
     while i < count {
-        let child = entries[e as usize * 2];
+        let child = stores::child_at(entries, e);
         match write_leaf(s, nodes, out, used, allowance, child, p) {
             Led::Left => {
                 return Rowed::On(e, i, p);
@@ -564,7 +564,7 @@ fn write_leaves(
                 p = a;
             }
         }
-        e = entries[e as usize * 2 + 1];
+        e = stores::next_at(entries, e);
         i += 1;
     }
     Rowed::On(e, i, p)
@@ -639,7 +639,7 @@ fn write_children(
     requires { ⌜ Open at (now out) × (length (now s) ≤ mostBytes) × Held (lent (now s) (now nodes) (now entries) used) node ⌝ }
     ensures { λ r. ⌜ Puts (each (writing allowance (lent (now (s .entry)) (now (nodes .entry)) (now (entries .entry)) used)) (rowOfNode (lent (now (s .entry)) (now (nodes .entry)) (now (entries .entry)) used) node)) at (now (out .entry)) r (now (out .exit)) ⌝ }
 {
-    let n = tables::node_at(nodes, node);
+    let n = stores::node_of(nodes, node);
     let count = n.count;
     let mut e = n.first;
     let mut i = 0u32;
@@ -653,7 +653,7 @@ fn write_children(
                 if count <= done {
                     return puts::Wrote::Done(a);
                 }
-                let child = tables::child(entries, here);
+                let child = stores::child_of(entries, here);
                 match write_value(s, nodes, entries, out, used, allowance, child, a) {
                     puts::Wrote::Refused(number, place) => {
                         return puts::Wrote::Refused(number, place);
@@ -662,7 +662,7 @@ fn write_children(
                         p = b;
                     }
                 }
-                e = tables::next(entries, here);
+                e = stores::next_of(entries, here);
                 i = done + 1;
             }
         }
@@ -718,14 +718,14 @@ fn write_parts(
     requires { ⌜ Open at (now out) × (length (now s) ≤ mostBytes) × Coded (lent (now s) (now nodes) (now entries) used) node ⌝ }
     ensures { λ r. ⌜ Puts (parted (lent (now (s .entry)) (now (nodes .entry)) (now (entries .entry)) used) allowance (writing allowance (lent (now (s .entry)) (now (nodes .entry)) (now (entries .entry)) used)) (lineOf (lent (now (s .entry)) (now (nodes .entry)) (now (entries .entry)) used) node) (rowOfNode (lent (now (s .entry)) (now (nodes .entry)) (now (entries .entry)) used) node)) at (now (out .entry)) r (now (out .exit)) ⌝ }
 {
-    let n = tables::node_at(nodes, node);
+    let n = stores::node_of(nodes, node);
     let line = fields::le32(s, n.place as usize + n.size as usize);
     let kinds = tables::part_at(entries, n.first, 4);
     let mut e = n.first;
     let mut part = 0u32;
     let mut p = at;
     while part < 10 {
-        let child = tables::child(entries, e);
+        let child = stores::child_of(entries, e);
         match write_part(
             s,
             nodes,
@@ -746,16 +746,10 @@ fn write_parts(
                 p = a;
             }
         }
-        e = tables::next(entries, e);
+        e = stores::next_of(entries, e);
         part += 1;
     }
     puts::Wrote::Done(p)
-}
-
-fn lesser(a: u32, b: u32) -> u32
-    ensures { λ r. ⌜ r ≡ min a b ⌝ }
-{
-    if a < b { a } else { b }
 }
 
 // How many bytes of an output count.
@@ -780,7 +774,7 @@ pub fn serialize_value(
     nesting: u32,
     out: &mut [u8],
 ) -> puts::Wrote
-    ensures { λ r. ⌜ Serialized (written (tablesOf (now (input .entry)) (now (nodes .entry)) (now (entries .entry)) «used_nodes» «used_entries») root nesting (length (now (out .entry)))) (length (now (out .entry))) r (now (out .exit)) ⌝ }
+    ensures { λ r. ⌜ Serialized (written (Record.tablesOf (now (input .entry)) (now (nodes .entry)) (now (entries .entry)) «used_nodes» «used_entries») root nesting (length (now (out .entry)))) (length (now (out .entry))) r (now (out .exit)) ⌝ }
 {
     if (refusals::MOST_BYTES as usize) < input.len() {
         lent::clear_bytes(out);
@@ -790,7 +784,7 @@ pub fn serialize_value(
         nodes: used_nodes,
         entries: used_entries,
     };
-    let allowance = lesser(nesting, refusals::MOST_NESTING);
+    let allowance = stores::at_most(nesting as usize, refusals::MOST_NESTING);
     let room = counted(out.len());
     match write_value(
         input,

@@ -6,8 +6,8 @@ use Rattle.writer.proofs.leaf_at.Statement.{statement}
 use Rattle.writer.proofs.leaf_at.Tie as tie
 use Rattle.writer.proofs.leaf_at.Reads as reads
 use Rattle.writer.proofs.leaf_at.Lts as lts
-use Rattle.records.proofs.node_at.Reads as node-at-reads
-use Rattle.records.proofs.nodes_in.Reads as nodes-in-reads
+use Rattle.stores.proofs.node_at.Reads as node-at-reads
+use Rattle.stores.proofs.nodes_in.Reads as nodes-in-reads
 use Rattle.writer.proofs.leaf_of.Reads as leaf-of-reads
 
 -- src/lib.rt:455:9

@@ -1,7 +1,7 @@
 -- By the letter: the tests are those of a sound record. Assumes nothing.
 use Rattle.writer.proofs.Leafing.{leaf-four, leaf-bytes}
 use Rattle.grammar.specs.Letters.{classOf, letters, found}
-use Rattle.records.specs.Nodes.{nodeOf}
+use Rattle.stores.specs.Written.{nodeOf}
 use native.Mathlib.Omega.{arith}
 use mathlib.Core.Path.{ap}
 use borrow.Author.Needs.{needs}

@@ -1,7 +1,7 @@
 -- A string by its letter and its record test. Assumes nothing.
 use Rattle.writer.specs.Leaves.{LeafIs}
 use Rattle.writer.proofs.Leafing.{leaf-string}
-use Rattle.records.specs.Nodes.{nodeOf}
+use Rattle.stores.specs.Written.{nodeOf}
 use borrow.Author.Tests.{not-false}
 use native.Mathlib.Omega.{arith}
 use mathlib.Core.Path.{sym, subst, _∙_}

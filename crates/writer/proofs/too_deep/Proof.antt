@@ -19,12 +19,12 @@ nodes-in-requires c κs = search needs
 returns-3 : tie.Need-returns-3
 returns-3 c = levels-past (c .before .before .before .before .before .args .nodes .now) (c .before .before .before .before .before .args .used) (c .before .before .before .before .before .args .allowance) (c .before .before .before .before .before .args .node) (omega arith) (c .before .nodes-in .ensures) (omega arith)
 
-node-at-requires : tie.Need-node-at-requires
-node-at-requires c κs = search needs
+node-of-requires : tie.Need-node-of-requires
+node-of-requires c κs = search needs
 
 returns-4 : tie.Need-returns-4
-returns-4 c = levels-code (c .before .before .before .before .before .before .before .args .nodes .now) (c .before .before .before .before .before .before .before .args .used) (c .before .before .before .before .before .before .before .args .allowance) (c .before .before .before .before .before .before .before .args .node) (omega arith) (c .before .before .before .nodes-in .ensures) (omega arith) (ap (λ (m : Node). m .letter) (c .before .node-at .ensures))
+returns-4 c = levels-code (c .before .before .before .before .before .before .before .args .nodes .now) (c .before .before .before .before .before .before .before .args .used) (c .before .before .before .before .before .before .before .args .allowance) (c .before .before .before .before .before .before .before .args .node) (omega arith) (c .before .before .before .nodes-in .ensures) (omega arith) (ap (λ (m : Node). m .letter) (c .before .node-of .ensures))
 
 pub too-deep-spec : {M : Type 1} → statement M
 too-deep-spec =
-    tie.close (tie.spec returns returns-2 nodes-in-requires returns-3 node-at-requires returns-4)
+    tie.close (tie.spec returns returns-2 nodes-in-requires returns-3 node-of-requires returns-4)

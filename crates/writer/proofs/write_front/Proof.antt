@@ -1,7 +1,7 @@
 -- By the class of the letter. Assumes nothing.
 use Rattle.writer.proofs.Fronting.{front-whole, front-row, front-pairs, front-parts, letter-small, sound-within, long-read, code-numbers, code-else, as-single, as-four, as-eight, as-double, as-long, as-bytes, as-text, as-short, as-sequence, as-few, as-slice, as-dict, as-code}
 use Rattle.records.proofs.Soundness.{fixed-held, double-held}
-use Rattle.records.specs.Nodes.{nodeOf}
+use Rattle.stores.specs.Written.{nodeOf}
 use Rattle.fields.proofs.Laws.{avoids}
 use Rattle.fields.specs.Classes.{classes, classAt}
 use Rattle.grammar.specs.Letters as letter

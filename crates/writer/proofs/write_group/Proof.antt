@@ -35,15 +35,15 @@ add-kind c = omega (arith, c .before .before .before .before .before .before .be
 shared-slice-read-kind : tie.Need-shared-slice-read-kind Inv-loop μ-loop
 shared-slice-read-kind c = omega (arith, c .before .before .before .before .before .before .before .before .pre .1 .kinds)
 
-child-requires : tie.Need-child-requires Inv-loop μ-loop
-child-requires c κs = search needs
+child-of-requires : tie.Need-child-of-requires Inv-loop μ-loop
+child-of-requires c κs = search needs
 
 belongs-requires : tie.Need-belongs-requires Inv-loop μ-loop
 belongs-requires c κs =
     let a = c .before .before .before .before .before .before .before .before .before .args in
     let t = lent (a .s .now) (a .nodes .now) (a .entries .now) (a .used) in
     let f = stringPart t (a .allowance) in
-    (c .before .before .before .before .before .before .before .before .before .pre .1, (member-next t (a .locals) (a .bit) f (a .counted) (a .out .now) (a .at) _ (c .before .before .before .before .before .before .before .before .before .pre .1) (c .before .before .before .loop .inv) (c .before .before .loop-test .taken) (c .child .ensures)) .text, c .before .before .before .before .before .before .before .before .before .pre .2)
+    (c .before .before .before .before .before .before .before .before .before .pre .1, (member-next t (a .locals) (a .bit) f (a .counted) (a .out .now) (a .at) _ (c .before .before .before .before .before .before .before .before .before .pre .1) (c .before .before .before .loop .inv) (c .before .before .loop-test .taken) (c .child-of .ensures)) .text, c .before .before .before .before .before .before .before .before .before .pre .2)
 
 write-member-requires : tie.Need-write-member-requires Inv-loop μ-loop
 write-member-requires c κs =
@@ -52,7 +52,7 @@ write-member-requires c κs =
     let f = stringPart t (a .allowance) in
     let g = c .before .before .before .before .before .loop .inv in (
       record { inside = omega (arith, g .inside, g .same); counts = omega (arith, g .same, c .before .before .before .before .before .before .before .before .before .before .before .pre .0 .counts) },
-      (member-next t (a .locals) (a .bit) f (a .counted) (a .out .now) (a .at) _ (c .before .before .before .before .before .before .before .before .before .before .before .pre .1) (c .before .before .before .before .before .loop .inv) (c .before .before .before .before .loop-test .taken) (c .before .before .child .ensures)) .text,
+      (member-next t (a .locals) (a .bit) f (a .counted) (a .out .now) (a .at) _ (c .before .before .before .before .before .before .before .before .before .before .before .pre .1) (c .before .before .before .before .before .loop .inv) (c .before .before .before .before .loop-test .taken) (c .before .before .child-of .ensures)) .text,
     )
 
 enum-known-number : tie.Need-enum-known-number Inv-loop μ-loop
@@ -66,7 +66,7 @@ returns c =
     let a = c .before .before .before .before .before .before .before .before .before .before .before .before .before .before .before .before .before .args in
     let t = lent (a .s .now) (a .nodes .now) (a .entries .now) (a .used) in
     let f = stringPart t (a .allowance) in
-    member-refused t (a .locals) (a .bit) f (a .counted) (a .out .now) (a .at) (c .before .before .before .before .before .before .before .before .before .before .before .loop .inv) (member-next t (a .locals) (a .bit) f (a .counted) (a .out .now) (a .at) _ (c .before .before .before .before .before .before .before .before .before .before .before .before .before .before .before .before .before .pre .1) (c .before .before .before .before .before .before .before .before .before .before .before .loop .inv) (c .before .before .before .before .before .before .before .before .before .before .loop-test .taken) (c .before .before .before .before .before .before .before .before .child .ensures)) (c .before .before .before .before .before .before .before .belongs .ensures) (c .before .before .before .before .before .write-member .ensures) (c .before .number .given .1)
+    member-refused t (a .locals) (a .bit) f (a .counted) (a .out .now) (a .at) (c .before .before .before .before .before .before .before .before .before .before .before .loop .inv) (member-next t (a .locals) (a .bit) f (a .counted) (a .out .now) (a .at) _ (c .before .before .before .before .before .before .before .before .before .before .before .before .before .before .before .before .before .pre .1) (c .before .before .before .before .before .before .before .before .before .before .before .loop .inv) (c .before .before .before .before .before .before .before .before .before .before .loop-test .taken) (c .before .before .before .before .before .before .before .before .child-of .ensures)) (c .before .before .before .before .before .before .before .belongs .ensures) (c .before .before .before .before .before .write-member .ensures) (c .before .number .given .1)
 
 enum-known-a : tie.Need-enum-known-a Inv-loop μ-loop
 enum-known-a c = search needs
@@ -77,8 +77,8 @@ one-if-requires c κs = search needs
 add-n : tie.Need-add-n Inv-loop μ-loop
 add-n c = omega (arith, c .before .before .before .before .before .before .before .before .before .before .before .before .loop .inv .most, c .before .before .before .before .before .before .before .before .before .before .before .loop-test .taken, c .one-if .ensures .1, c .before .before .before .before .before .before .before .before .before .before .before .before .before .before .before .before .before .before .pre .3)
 
-next-requires : tie.Need-next-requires Inv-loop μ-loop
-next-requires c κs = search needs
+next-of-requires : tie.Need-next-of-requires Inv-loop μ-loop
+next-of-requires c κs = search needs
 
 add-i : tie.Need-add-i Inv-loop μ-loop
 add-i c = search needs
@@ -91,7 +91,7 @@ loop-again c =
     let a = c .before .before .before .before .before .before .before .before .before .before .before .before .before .before .before .before .before .before .before .args in
     let t = lent (a .s .now) (a .nodes .now) (a .entries .now) (a .used) in
     let f = stringPart t (a .allowance) in
-    member-more t (a .locals) (a .bit) f (a .counted) (a .out .now) (a .at) (c .before .before .before .before .before .before .before .before .before .before .before .before .before .loop .inv) (member-next t (a .locals) (a .bit) f (a .counted) (a .out .now) (a .at) _ (c .before .before .before .before .before .before .before .before .before .before .before .before .before .before .before .before .before .before .before .pre .1) (c .before .before .before .before .before .before .before .before .before .before .before .before .before .loop .inv) (c .before .before .before .before .before .before .before .before .before .before .before .before .loop-test .taken) (c .before .before .before .before .before .before .before .before .before .before .child .ensures)) (c .before .before .before .before .before .before .before .before .before .belongs .ensures) (c .before .before .before .before .before .before .before .write-member .ensures) (c .before .before .before .a .given .1) (c .before .one-if .ensures) (c .before .before .before .before .before .before .before .before .before .before .before .before .loop-test .taken) (c .next .ensures)
+    member-more t (a .locals) (a .bit) f (a .counted) (a .out .now) (a .at) (c .before .before .before .before .before .before .before .before .before .before .before .before .before .loop .inv) (member-next t (a .locals) (a .bit) f (a .counted) (a .out .now) (a .at) _ (c .before .before .before .before .before .before .before .before .before .before .before .before .before .before .before .before .before .before .before .pre .1) (c .before .before .before .before .before .before .before .before .before .before .before .before .before .loop .inv) (c .before .before .before .before .before .before .before .before .before .before .before .before .loop-test .taken) (c .before .before .before .before .before .before .before .before .before .before .child-of .ensures)) (c .before .before .before .before .before .before .before .before .before .belongs .ensures) (c .before .before .before .before .before .before .before .write-member .ensures) (c .before .before .before .a .given .1) (c .before .one-if .ensures) (c .before .before .before .before .before .before .before .before .before .before .before .before .loop-test .taken) (c .next-of .ensures)
 
 same-length-2 : tie.Need-same-length-2 Inv-loop μ-loop
 same-length-2 c = c .before .loop .inv .same
@@ -114,7 +114,7 @@ write-group-spec =
     cast-kind
     add-kind
     shared-slice-read-kind
-    child-requires
+    child-of-requires
     belongs-requires
     write-member-requires
     enum-known-number
@@ -123,7 +123,7 @@ write-group-spec =
     enum-known-a
     one-if-requires
     add-n
-    next-requires
+    next-of-requires
     add-i
     loop-less
     loop-again

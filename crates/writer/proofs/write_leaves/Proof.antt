@@ -25,17 +25,8 @@ loop-holds c =
     let t = lent (a .s .now) (a .nodes .now) (a .entries .now) (a .used) in
     (row-from t (a .allowance) (a .count) (c .before .before .before .before .pre .2) (c .before .before .before .before .pre .3) (c .before .before .before .before .pre .0 .inside), omega arith)
 
-cast-child : tie.Need-cast-child Inv-loop μ-loop
-cast-child c = search (row-entry (c .before .loop .inv .0) (c .loop-test .taken), needs)
-
-mul-child : tie.Need-mul-child Inv-loop μ-loop
-mul-child c = search (row-entry (c .before .loop .inv .0) (c .loop-test .taken), needs)
-
-mul-child-2 : tie.Need-mul-child-2 Inv-loop μ-loop
-mul-child-2 c = search (row-entry (c .before .loop .inv .0) (c .loop-test .taken), needs)
-
-shared-slice-read-child : tie.Need-shared-slice-read-child Inv-loop μ-loop
-shared-slice-read-child c = omega (arith, row-entry (c .before .before .loop .inv .0) (c .before .loop-test .taken))
+child-at-requires : tie.Need-child-at-requires Inv-loop μ-loop
+child-at-requires c κs = row-entry (c .before .loop .inv .0) (c .loop-test .taken)
 
 write-leaf-requires : tie.Need-write-leaf-requires Inv-loop μ-loop
 write-leaf-requires c κs = (opens (c .before .before .before .loop .inv .0 .way) (c .before .before .before .before .before .before .before .before .pre .0 .counts), c .before .before .before .before .before .before .before .before .pre .1)
@@ -63,25 +54,13 @@ returns-2 c =
     let a = c .before .before .before .before .before .before .before .before .before .before .before .before .before .before .args in
     let t = lent (a .s .now) (a .nodes .now) (a .entries .now) (a .used) in
     rows-refused t (a .allowance) (a .count)
-    (row-refused (row-turn (c .before .before .before .before .before .before .before .before .before .loop .inv .0) (c .before .before .before .before .before .before .before .before .loop-test .taken) refl) (led-refused (a .entries .now) (c .before .before .before .before .before .write-leaf .ensures) (c .before .number .given .1)) refl)
+    (row-refused (row-turn (c .before .before .before .before .before .before .before .before .before .loop .inv .0) (c .before .before .before .before .before .before .before .before .loop-test .taken) (c .before .before .before .before .before .before .before .child-at .ensures)) (led-refused (a .entries .now) (c .before .before .before .before .before .write-leaf .ensures) (c .before .number .given .1)) refl)
 
 enum-known-a : tie.Need-enum-known-a Inv-loop μ-loop
 enum-known-a c = search needs
 
-cast-e : tie.Need-cast-e Inv-loop μ-loop
-cast-e c = search (row-entry (c .before .before .before .before .before .before .before .before .before .loop .inv .0) (c .before .before .before .before .before .before .before .before .loop-test .taken), needs)
-
-mul-e : tie.Need-mul-e Inv-loop μ-loop
-mul-e c = search (row-entry (c .before .before .before .before .before .before .before .before .before .loop .inv .0) (c .before .before .before .before .before .before .before .before .loop-test .taken), needs)
-
-add-e : tie.Need-add-e Inv-loop μ-loop
-add-e c = search (row-entry (c .before .before .before .before .before .before .before .before .before .loop .inv .0) (c .before .before .before .before .before .before .before .before .loop-test .taken), needs)
-
-mul-e-2 : tie.Need-mul-e-2 Inv-loop μ-loop
-mul-e-2 c = search (row-entry (c .before .before .before .before .before .before .before .before .before .loop .inv .0) (c .before .before .before .before .before .before .before .before .loop-test .taken), needs)
-
-shared-slice-read-e : tie.Need-shared-slice-read-e Inv-loop μ-loop
-shared-slice-read-e c = omega (arith, row-entry (c .before .before .before .before .before .before .before .before .before .before .loop .inv .0) (c .before .before .before .before .before .before .before .before .before .loop-test .taken))
+next-at-requires : tie.Need-next-at-requires Inv-loop μ-loop
+next-at-requires c κs = row-entry (c .before .before .before .before .before .before .before .before .before .loop .inv .0) (c .before .before .before .before .before .before .before .before .loop-test .taken)
 
 add-i : tie.Need-add-i Inv-loop μ-loop
 add-i c = search needs
@@ -92,7 +71,7 @@ loop-less c = search needs
 loop-again : tie.Need-loop-again Inv-loop μ-loop
 loop-again c =
     let a = c .before .before .before .before .before .before .before .before .before .before .before .before .before .before .before .args in (
-      row-more (row-turn (c .before .before .before .before .before .before .before .before .before .before .loop .inv .0) (c .before .before .before .before .before .before .before .before .before .loop-test .taken) refl) (λ vs h. tt) (c .before .before .before .before .before .before .before .before .before .loop-test .taken) refl
+      row-more (row-turn (c .before .before .before .before .before .before .before .before .before .before .loop .inv .0) (c .before .before .before .before .before .before .before .before .before .loop-test .taken) (c .before .before .before .before .before .before .before .before .child-at .ensures)) (λ vs h. tt) (c .before .before .before .before .before .before .before .before .before .loop-test .taken) (c .next-at .ensures)
           (led-on (a .entries .now) (c .before .before .before .before .before .before .write-leaf .ensures) (c .before .before .a .given .1)) refl,
       omega (arith, c .before .before .before .before .before .before .before .before .before .before .loop .inv .1),
     )
@@ -113,10 +92,7 @@ write-leaves-spec =
     Inv-loop
     μ-loop
     loop-holds
-    cast-child
-    mul-child
-    mul-child-2
-    shared-slice-read-child
+    child-at-requires
     write-leaf-requires
     enum-told
     same-length
@@ -125,11 +101,7 @@ write-leaves-spec =
     same-length-2
     returns-2
     enum-known-a
-    cast-e
-    mul-e
-    add-e
-    mul-e-2
-    shared-slice-read-e
+    next-at-requires
     add-i
     loop-less
     loop-again

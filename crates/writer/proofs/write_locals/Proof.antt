@@ -24,11 +24,11 @@ returns c =
     let names = inGroups t (contentsOf t (a .kinds)) (kidsOf t (a .node)) in
     no-level (a .allowance) (a .node) (emit (0x28 ∷ bytes32 (length names)) (each (stringPart t (a .allowance - 1)) names)) (omega arith)
 
-node-at-requires : tie.Need-node-at-requires
-node-at-requires c κs = search needs
+node-of-requires : tie.Need-node-of-requires
+node-of-requires c κs = search needs
 
-node-at-requires-2 : tie.Need-node-at-requires-2
-node-at-requires-2 c κs = search needs
+node-of-requires-2 : tie.Need-node-of-requires-2
+node-of-requires-2 c κs = search needs
 
 write-len-requires : tie.Need-write-len-requires
 write-len-requires c κs = search needs
@@ -47,7 +47,7 @@ write-groups-requires c κs =
     let a = c .before .before .before .before .before .before .before .before .before .before .before .before .before .before .before .args in
     let t = lent (a .s .now) (a .nodes .now) (a .entries .now) (a .used) in (
       puts-open (c .before .before .before .before .before .before .before .before .before .before .before .before .before .before .before .pre .0) (c .before .before .before .before .before .before .write-len .ensures) (c .before .before .a .given .1),
-      listed t (a .kinds) (a .node) (c .before .before .before .before .before .before .before .before .before .before .before .before .before .before .before .pre .1) (ap (λ (m : Node). m .count) (c .before .before .before .before .before .before .before .before .before .node-at .ensures)) (ap (λ (m : Node). m .first) (c .before .before .before .before .before .before .before .before .before .node-at .ensures)) (ap (λ (m : Node). m .place) (c .before .before .before .before .before .before .before .before .node-at2 .ensures)),
+      listed t (a .kinds) (a .node) (c .before .before .before .before .before .before .before .before .before .before .before .before .before .before .before .pre .1) (ap (λ (m : Node). m .count) (c .before .before .before .before .before .before .before .before .before .node-of .ensures)) (ap (λ (m : Node). m .first) (c .before .before .before .before .before .before .before .before .before .node-of .ensures)) (ap (λ (m : Node). m .place) (c .before .before .before .before .before .before .before .before .node-of2 .ensures)),
       c .before .before .before .before .before .before .before .before .before .before .before .before .before .before .before .pre .2,
     )
 
@@ -64,7 +64,7 @@ store-u32-requires : tie.Need-store-u32-requires
 store-u32-requires c κs =
     let a = c .before .before .before .before .before .before .before .before .before .before .before .before .before .before .before .before .before .before .before .before .before .before .args in
     let t = lent (a .s .now) (a .nodes .now) (a .entries .now) (a .used) in
-    omega (arith, locals-room t (a .allowance) (a .kinds) (a .node) (omega arith) (c .before .before .before .before .before .before .before .before .before .before .before .before .before .before .before .before .before .before .before .before .before .before .pre .1) (ap (λ (m : Node). m .count) (c .before .before .before .before .before .before .before .before .before .before .before .before .before .before .before .before .node-at .ensures)) (ap (λ (m : Node). m .first) (c .before .before .before .before .before .before .before .before .before .before .before .before .before .before .before .before .node-at .ensures)) (ap (λ (m : Node). m .place) (c .before .before .before .before .before .before .before .before .before .before .before .before .before .before .before .node-at2 .ensures)) (c .before .before .before .before .before .before .before .before .before .before .before .before .before .write-len .ensures) (c .before .before .before .before .before .before .before .before .before .a .given .1) (c .before .before .before .before .before .before .before .before .before .before .before .before .before .before .before .before .before .before .before .before .before .before .pre .0 .inside) (c .before .before .before .before .before .before .write-groups .ensures))
+    omega (arith, locals-room t (a .allowance) (a .kinds) (a .node) (omega arith) (c .before .before .before .before .before .before .before .before .before .before .before .before .before .before .before .before .before .before .before .before .before .before .pre .1) (ap (λ (m : Node). m .count) (c .before .before .before .before .before .before .before .before .before .before .before .before .before .before .before .before .node-of .ensures)) (ap (λ (m : Node). m .first) (c .before .before .before .before .before .before .before .before .before .before .before .before .before .before .before .before .node-of .ensures)) (ap (λ (m : Node). m .place) (c .before .before .before .before .before .before .before .before .before .before .before .before .before .before .before .node-of2 .ensures)) (c .before .before .before .before .before .before .before .before .before .before .before .before .before .write-len .ensures) (c .before .before .before .before .before .before .before .before .before .a .given .1) (c .before .before .before .before .before .before .before .before .before .before .before .before .before .before .before .before .before .before .before .before .before .before .pre .0 .inside) (c .before .before .before .before .before .before .write-groups .ensures))
 
 same-length : tie.Need-same-length
 same-length c = c .before .before .before .before .before .write-len .ensures .same
@@ -73,7 +73,7 @@ returns-2 : tie.Need-returns-2
 returns-2 c =
     let a = c .before .before .before .before .before .before .before .before .before .before .before .before .before .before .args in
     let t = lent (a .s .now) (a .nodes .now) (a .entries .now) (a .used) in
-    locals-refused t (a .allowance) (a .kinds) (a .node) (omega arith) (c .before .before .before .before .before .before .before .before .before .before .before .before .before .before .pre .1) (ap (λ (m : Node). m .count) (c .before .before .before .before .before .before .before .before .node-at .ensures)) (ap (λ (m : Node). m .first) (c .before .before .before .before .before .before .before .before .node-at .ensures)) (ap (λ (m : Node). m .place) (c .before .before .before .before .before .before .before .node-at2 .ensures)) (c .before .before .before .before .before .write-len .ensures) (c .before .number .given .1)
+    locals-refused t (a .allowance) (a .kinds) (a .node) (omega arith) (c .before .before .before .before .before .before .before .before .before .before .before .before .before .before .pre .1) (ap (λ (m : Node). m .count) (c .before .before .before .before .before .before .before .before .node-of .ensures)) (ap (λ (m : Node). m .first) (c .before .before .before .before .before .before .before .before .node-of .ensures)) (ap (λ (m : Node). m .place) (c .before .before .before .before .before .before .before .node-of2 .ensures)) (c .before .before .before .before .before .write-len .ensures) (c .before .number .given .1)
 
 same-length-2 : tie.Need-same-length-2
 same-length-2 c = c .before .before .before .before .before .write-groups .ensures .puts .same ∙ c .before .before .before .before .before .before .before .before .before .before .before .before .write-len .ensures .same
@@ -82,7 +82,7 @@ returns-3 : tie.Need-returns-3
 returns-3 c =
     let a = c .before .before .before .before .before .before .before .before .before .before .before .before .before .before .before .before .before .before .before .before .before .args in
     let t = lent (a .s .now) (a .nodes .now) (a .entries .now) (a .used) in
-    locals-stopped t (a .allowance) (a .kinds) (a .node) (omega arith) (c .before .before .before .before .before .before .before .before .before .before .before .before .before .before .before .before .before .before .before .before .before .pre .1) (ap (λ (m : Node). m .count) (c .before .before .before .before .before .before .before .before .before .before .before .before .before .before .before .node-at .ensures)) (ap (λ (m : Node). m .first) (c .before .before .before .before .before .before .before .before .before .before .before .before .before .before .before .node-at .ensures)) (ap (λ (m : Node). m .place) (c .before .before .before .before .before .before .before .before .before .before .before .before .before .before .node-at2 .ensures)) (c .before .before .before .before .before .before .before .before .before .before .before .before .write-len .ensures) (c .before .before .before .before .before .before .before .before .a .given .1) (c .before .before .before .before .before .before .before .before .before .before .before .before .before .before .before .before .before .before .before .before .before .pre .0 .inside) (c .before .before .before .before .before .write-groups .ensures) (c .before .number2 .given .1)
+    locals-stopped t (a .allowance) (a .kinds) (a .node) (omega arith) (c .before .before .before .before .before .before .before .before .before .before .before .before .before .before .before .before .before .before .before .before .before .pre .1) (ap (λ (m : Node). m .count) (c .before .before .before .before .before .before .before .before .before .before .before .before .before .before .before .node-of .ensures)) (ap (λ (m : Node). m .first) (c .before .before .before .before .before .before .before .before .before .before .before .before .before .before .before .node-of .ensures)) (ap (λ (m : Node). m .place) (c .before .before .before .before .before .before .before .before .before .before .before .before .before .before .node-of2 .ensures)) (c .before .before .before .before .before .before .before .before .before .before .before .before .write-len .ensures) (c .before .before .before .before .before .before .before .before .a .given .1) (c .before .before .before .before .before .before .before .before .before .before .before .before .before .before .before .before .before .before .before .before .before .pre .0 .inside) (c .before .before .before .before .before .write-groups .ensures) (c .before .number2 .given .1)
 
 same-length-3 : tie.Need-same-length-3
 same-length-3 c = c .before .before .store-u32 .kept .0 ∙ c .before .before .before .before .before .before .before .before .before .write-groups .ensures .puts .same ∙ c .before .before .before .before .before .before .before .before .before .before .before .before .before .before .before .before .write-len .ensures .same
@@ -91,15 +91,15 @@ returns-4 : tie.Need-returns-4
 returns-4 c =
     let a = c .before .before .before .before .before .before .before .before .before .before .before .before .before .before .before .before .before .before .before .before .before .before .before .before .before .args in
     let t = lent (a .s .now) (a .nodes .now) (a .entries .now) (a .used) in
-    locals-done t (a .allowance) (a .kinds) (a .node) (omega arith) (c .before .before .before .before .before .before .before .before .before .before .before .before .before .before .before .before .before .before .before .before .before .before .before .before .before .pre .1) (ap (λ (m : Node). m .count) (c .before .before .before .before .before .before .before .before .before .before .before .before .before .before .before .before .before .before .before .node-at .ensures)) (ap (λ (m : Node). m .first) (c .before .before .before .before .before .before .before .before .before .before .before .before .before .before .before .before .before .before .before .node-at .ensures)) (ap (λ (m : Node). m .place) (c .before .before .before .before .before .before .before .before .before .before .before .before .before .before .before .before .before .before .node-at2 .ensures)) (c .before .before .before .before .before .before .before .before .before .before .before .before .before .before .before .before .write-len .ensures) (c .before .before .before .before .before .before .before .before .before .before .before .before .a .given .1) (c .before .before .before .before .before .before .before .before .before .before .before .before .before .before .before .before .before .before .before .before .before .before .before .before .before .pre .0 .inside) (c .before .before .before .before .before .before .before .before .before .write-groups .ensures) (c .before .before .before .before .before .b .given .1) (c .before .before .store-u32 .ensures)
+    locals-done t (a .allowance) (a .kinds) (a .node) (omega arith) (c .before .before .before .before .before .before .before .before .before .before .before .before .before .before .before .before .before .before .before .before .before .before .before .before .before .pre .1) (ap (λ (m : Node). m .count) (c .before .before .before .before .before .before .before .before .before .before .before .before .before .before .before .before .before .before .before .node-of .ensures)) (ap (λ (m : Node). m .first) (c .before .before .before .before .before .before .before .before .before .before .before .before .before .before .before .before .before .before .before .node-of .ensures)) (ap (λ (m : Node). m .place) (c .before .before .before .before .before .before .before .before .before .before .before .before .before .before .before .before .before .before .node-of2 .ensures)) (c .before .before .before .before .before .before .before .before .before .before .before .before .before .before .before .before .write-len .ensures) (c .before .before .before .before .before .before .before .before .before .before .before .before .a .given .1) (c .before .before .before .before .before .before .before .before .before .before .before .before .before .before .before .before .before .before .before .before .before .before .before .before .before .pre .0 .inside) (c .before .before .before .before .before .before .before .before .before .write-groups .ensures) (c .before .before .before .before .before .b .given .1) (c .before .before .store-u32 .ensures)
 
 pub write-locals-spec : {M : Type 1} → statement M
 write-locals-spec =
     tie.close
     (tie.spec
     returns
-    node-at-requires
-    node-at-requires-2
+    node-of-requires
+    node-of-requires-2
     write-len-requires
     enum-known-number
     enum-known-a

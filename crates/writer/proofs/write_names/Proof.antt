@@ -23,14 +23,14 @@ abbrev μ-loop : tie.MeasureT-loop
 loop-holds : tie.Need-loop-holds Inv-loop μ-loop
 loop-holds c = row-start (c .before .before .before .before .pre .1) (c .before .before .before .before .pre .2) refl (c .before .before .before .before .pre .0 .inside)
 
-child-requires : tie.Need-child-requires Inv-loop μ-loop
-child-requires c κs = search needs
+child-of-requires : tie.Need-child-of-requires Inv-loop μ-loop
+child-of-requires c κs = search needs
 
 write-string-requires : tie.Need-write-string-requires Inv-loop μ-loop
 write-string-requires c κs =
     let a = c .before .before .before .before .before .before .before .before .args in
     let t = lent (a .s .now) (a .nodes .now) (a .entries .now) (a .used) in
-    (opens (c .before .before .before .loop .inv .way) (c .before .before .before .before .before .before .before .before .pre .0 .counts), text-here t _ _ (row-turn (c .before .before .before .loop .inv) (c .before .before .loop-test .taken) (c .before .child .ensures) .fine))
+    (opens (c .before .before .before .loop .inv .way) (c .before .before .before .before .before .before .before .before .pre .0 .counts), text-here t _ _ (row-turn (c .before .before .before .loop .inv) (c .before .before .loop-test .taken) (c .before .child-of .ensures) .fine))
 
 enum-known-number : tie.Need-enum-known-number Inv-loop μ-loop
 enum-known-number c = search needs
@@ -39,13 +39,13 @@ same-length : tie.Need-same-length Inv-loop μ-loop
 same-length c = c .before .before .before .before .before .write-string .kept .1 .1 .1 .0 ∙ c .before .before .before .before .before .before .before .before .before .loop .inv .way .same
 
 returns : tie.Need-returns Inv-loop μ-loop
-returns c = row-refused (row-turn (c .before .before .before .before .before .before .before .before .before .loop .inv) (c .before .before .before .before .before .before .before .before .loop-test .taken) (c .before .before .before .before .before .before .before .child .ensures)) (c .before .before .before .before .before .write-string .ensures) (c .before .number .given .1)
+returns c = row-refused (row-turn (c .before .before .before .before .before .before .before .before .before .loop .inv) (c .before .before .before .before .before .before .before .before .loop-test .taken) (c .before .before .before .before .before .before .before .child-of .ensures)) (c .before .before .before .before .before .write-string .ensures) (c .before .number .given .1)
 
 enum-known-a : tie.Need-enum-known-a Inv-loop μ-loop
 enum-known-a c = search needs
 
-next-requires : tie.Need-next-requires Inv-loop μ-loop
-next-requires c κs = search needs
+next-of-requires : tie.Need-next-of-requires Inv-loop μ-loop
+next-of-requires c κs = search needs
 
 add-i : tie.Need-add-i Inv-loop μ-loop
 add-i c = search needs
@@ -57,7 +57,7 @@ loop-again : tie.Need-loop-again Inv-loop μ-loop
 loop-again c =
     let a = c .before .before .before .before .before .before .before .before .before .before .before .before .before .before .before .args in
     let t = lent (a .s .now) (a .nodes .now) (a .entries .now) (a .used) in
-    row-more {w₀ = each (stringPart t (a .allowance)) (kidsFrom t (a .count) (a .first))} (row-turn (c .before .before .before .before .before .before .before .before .before .before .loop .inv) (c .before .before .before .before .before .before .before .before .before .loop-test .taken) (c .before .before .before .before .before .before .before .before .child .ensures)) (texts-later t (c .before .before .before .before .before .before .before .before .child .result)) (c .before .before .before .before .before .before .before .before .before .loop-test .taken) (c .next .ensures)
+    row-more {w₀ = each (stringPart t (a .allowance)) (kidsFrom t (a .count) (a .first))} (row-turn (c .before .before .before .before .before .before .before .before .before .before .loop .inv) (c .before .before .before .before .before .before .before .before .before .loop-test .taken) (c .before .before .before .before .before .before .before .before .child-of .ensures)) (texts-later t (c .before .before .before .before .before .before .before .before .child-of .result)) (c .before .before .before .before .before .before .before .before .before .loop-test .taken) (c .next-of .ensures)
     (c .before .before .before .before .before .before .write-string .ensures) (c .before .before .a .given .1)
 
 same-length-2 : tie.Need-same-length-2 Inv-loop μ-loop
@@ -73,13 +73,13 @@ write-names-spec =
     Inv-loop
     μ-loop
     loop-holds
-    child-requires
+    child-of-requires
     write-string-requires
     enum-known-number
     same-length
     returns
     enum-known-a
-    next-requires
+    next-of-requires
     add-i
     loop-less
     loop-again

@@ -23,15 +23,15 @@ Inv-loop s nodes entries out₀ used allowance node at count e₀ i₀ p₀ out 
 abbrev μ-loop : lts.MeasureT-loop
 μ-loop s nodes entries out₀ used allowance node at count e₀ i₀ p₀ out e i p = count - i
 
-node-at-requires : (m : ℕ) → lts.Need-node-at-requires (calls m) (at m) Post Inv-loop μ-loop
-node-at-requires m c κs = search needs
+node-of-requires : (m : ℕ) → lts.Need-node-of-requires (calls m) (at m) Post Inv-loop μ-loop
+node-of-requires m c κs = search needs
 
 loop-holds : (m : ℕ) → lts.Need-loop-holds (calls m) (at m) Post Inv-loop μ-loop
 loop-holds m c =
     let a = c .before .before .before .before .before .args in
     let t = lent (a .s .now) (a .nodes .now) (a .entries .now) (a .used) in
-    let count = ap (λ (n : Node). n .count) (c .node-at .ensures) in
-    let first = ap (λ (n : Node). n .first) (c .node-at .ensures) in
+    let count = ap (λ (n : Node). n .count) (c .node-of .ensures) in
+    let first = ap (λ (n : Node). n .first) (c .node-of .ensures) in
     row-start (chain-at t (a .node) (c .before .before .before .before .before .pre .1 .2) count first) tt (row-at t (writing (a .allowance) t) (a .node) count first) (c .before .before .before .before .before .pre .1 .0 .inside)
 
 write-leaves-requires : (m : ℕ) → lts.Need-write-leaves-requires (calls m) (at m) Post Inv-loop μ-loop
@@ -64,8 +64,8 @@ returns-2 m c =
     let t = lent (a .s .now) (a .nodes .now) (a .entries .now) (a .used) in
     row-end (row-led t (a .allowance) _ (c .before .before .before .before .before .before .before .before .loop .inv) (c .before .before .before .before .before .before .write-leaves .ensures) (c .before .before .here .given .1)) (omega arith)
 
-child-requires : (m : ℕ) → lts.Need-child-requires (calls m) (at m) Post Inv-loop μ-loop
-child-requires m c κs = search needs
+child-of-requires : (m : ℕ) → lts.Need-child-of-requires (calls m) (at m) Post Inv-loop μ-loop
+child-of-requires m c κs = search needs
 
 write-value-requires : (m : ℕ) → lts.Need-write-value-requires (calls m) (at m) Post Inv-loop μ-loop
 write-value-requires m c κs =
@@ -83,16 +83,16 @@ returns-3 : (m : ℕ) → lts.Need-returns-3 (calls m) (at m) Post Inv-loop μ-l
 returns-3 m c =
     let a = c .before .before .before .before .before .before .before .before .before .before .before .before .before .before .before .before .before .before .before .before .before .before .args in
     let t = lent (a .s .now) (a .nodes .now) (a .entries .now) (a .used) in
-    row-refused (row-turn (row-led t (a .allowance) _ (c .before .before .before .before .before .before .before .before .before .before .before .before .before .before .before .before .loop .inv) (c .before .before .before .before .before .before .before .before .before .before .before .before .before .before .write-leaves .ensures) (c .before .before .before .before .before .before .before .before .before .before .here .given .1)) (omega arith) (c .before .before .before .before .before .before .before .child .ensures)) (c .before .before .before .before .before .write-value .ensures) (c .before .number2 .given .1)
+    row-refused (row-turn (row-led t (a .allowance) _ (c .before .before .before .before .before .before .before .before .before .before .before .before .before .before .before .before .loop .inv) (c .before .before .before .before .before .before .before .before .before .before .before .before .before .before .write-leaves .ensures) (c .before .before .before .before .before .before .before .before .before .before .here .given .1)) (omega arith) (c .before .before .before .before .before .before .before .child-of .ensures)) (c .before .before .before .before .before .write-value .ensures) (c .before .number2 .given .1)
 
 enum-known-b : (m : ℕ) → lts.Need-enum-known-b (calls m) (at m) Post Inv-loop μ-loop
 enum-known-b m c = search needs
 
-next-requires : (m : ℕ) → lts.Need-next-requires (calls m) (at m) Post Inv-loop μ-loop
-next-requires m c κs = search needs
+next-of-requires : (m : ℕ) → lts.Need-next-of-requires (calls m) (at m) Post Inv-loop μ-loop
+next-of-requires m c κs = search needs
 
 add-i : (m : ℕ) → lts.Need-add-i (calls m) (at m) Post Inv-loop μ-loop
-add-i m c = search (c .before .before .before .before .before .before .before .before .before .before .before .before .before .before .before .before .before .before .node-at .ok .1 .1 .1 .1, needs)
+add-i m c = search (c .before .before .before .before .before .before .before .before .before .before .before .before .before .before .before .before .before .before .node-of .ok .1 .1 .1 .1, needs)
 
 loop-less : (m : ℕ) → lts.Need-loop-less (calls m) (at m) Post Inv-loop μ-loop
 loop-less m c =
@@ -104,10 +104,10 @@ loop-again : (m : ℕ) → lts.Need-loop-again (calls m) (at m) Post Inv-loop μ
 loop-again m c =
     let a = c .before .before .before .before .before .before .before .before .before .before .before .before .before .before .before .before .before .before .before .before .before .before .before .args in
     let t = lent (a .s .now) (a .nodes .now) (a .entries .now) (a .used) in
-    row-more (row-turn (row-led t (a .allowance) _ (c .before .before .before .before .before .before .before .before .before .before .before .before .before .before .before .before .before .loop .inv) (c .before .before .before .before .before .before .before .before .before .before .before .before .before .before .before .write-leaves .ensures) (c .before .before .before .before .before .before .before .before .before .before .before .here .given .1)) (omega arith) (c .before .before .before .before .before .before .before .before .child .ensures)) (λ vs h. tt) (omega arith) (c .next .ensures)
+    row-more (row-turn (row-led t (a .allowance) _ (c .before .before .before .before .before .before .before .before .before .before .before .before .before .before .before .before .before .loop .inv) (c .before .before .before .before .before .before .before .before .before .before .before .before .before .before .before .write-leaves .ensures) (c .before .before .before .before .before .before .before .before .before .before .before .here .given .1)) (omega arith) (c .before .before .before .before .before .before .before .before .child-of .ensures)) (λ vs h. tt) (omega arith) (c .next-of .ensures)
     (c .before .before .before .before .before .before .write-value .ensures) (c .before .before .b .given .1)
 
 pub write-children-met : {M : Type 1} (m : ℕ) → lts.Closed (calls m) (at m) Post M
 write-children-met m =
     lts.spec (calls m) (at m) Post Inv-loop μ-loop
-    (node-at-requires m) (loop-holds m) (write-leaves-requires m) (enum-known-number m) (same-length m) (returns m) (enum-known-here m) (same-length-2 m) (returns-2 m) (child-requires m) (write-value-requires m) (enum-known-number-2 m) (same-length-3 m) (returns-3 m) (enum-known-b m) (next-requires m) (add-i m) (loop-less m) (loop-again m)
+    (node-of-requires m) (loop-holds m) (write-leaves-requires m) (enum-known-number m) (same-length m) (returns m) (enum-known-here m) (same-length-2 m) (returns-2 m) (child-of-requires m) (write-value-requires m) (enum-known-number-2 m) (same-length-3 m) (returns-3 m) (enum-known-b m) (next-of-requires m) (add-i m) (loop-less m) (loop-again m)

@@ -18,9 +18,9 @@ use Rattle.writer.proofs.+write_children+write_part+write_parts+write_v
 use Rattle.fields.proofs.le32.Reads as le32
 use Rattle.puts.proofs.write_u32.Reads as write-u32
 use Rattle.writer.proofs.close_row.Reads as close-row
-use Rattle.tables.proofs.child.Reads as child
-use Rattle.tables.proofs.next.Reads as next
-use Rattle.tables.proofs.node_at.Reads as node-at
+use Rattle.stores.proofs.child_of.Reads as child-of
+use Rattle.stores.proofs.next_of.Reads as next-of
+use Rattle.stores.proofs.node_of.Reads as node-of
 use Rattle.tables.proofs.part_at.Reads as part-at
 use Rattle.writer.proofs.open_node.Reads as open-node
 use Rattle.writer.proofs.shown.Reads as shown
@@ -68,13 +68,13 @@ abbrev pub write-value-below : ℕ → In 4 write-value-kinds.ps
 write-value-below m = and 4 write-value-kinds.ps (falls 4 write-value-kinds.ps _<_ μ-write-value m) write-value.Pre
 
 abbrev pub write-children-calls : ℕ → write-children-lts.Claims
-write-children-calls m = (node-at.Asked, node-at.Learnt, write-leaves.Asked, write-leaves.Learnt, child.Asked, child.Learnt, write-value-below m, write-value.Post, next.Asked, next.Learnt)
+write-children-calls m = (node-of.Asked, node-of.Learnt, write-leaves.Asked, write-leaves.Learnt, child-of.Asked, child-of.Learnt, write-value-below m, write-value.Post, next-of.Asked, next-of.Learnt)
 
 abbrev pub write-part-calls : ℕ → write-part-lts.Claims
 write-part-calls m = (write-bytes.Asked, write-bytes.Learnt, write-marshal-name-tuple.Asked, write-marshal-name-tuple.Learnt, write-locals.Asked, write-locals.Learnt, write-string.Asked, write-string.Learnt, shown.Asked, shown.Learnt, write-u32.Asked, write-u32.Learnt, write-value-below m, write-value.Post)
 
 abbrev pub write-parts-calls : ℕ → write-parts-lts.Claims
-write-parts-calls m = (node-at.Asked, node-at.Learnt, le32.Asked, le32.Learnt, part-at.Asked, part-at.Learnt, child.Asked, child.Learnt, write-part-below m, write-part.Post, next.Asked, next.Learnt)
+write-parts-calls m = (node-of.Asked, node-of.Learnt, le32.Asked, le32.Learnt, part-at.Asked, part-at.Learnt, child-of.Asked, child-of.Learnt, write-part-below m, write-part.Post, next-of.Asked, next-of.Learnt)
 
 abbrev pub write-value-calls : ℕ → write-value-lts.Claims
 write-value-calls m = (open-node.Asked, open-node.Learnt, write-children-below m, write-children.Post, close-row.Asked, close-row.Learnt, write-parts-below m, write-parts.Post)
