@@ -16,7 +16,7 @@ use Rattle.grammar.specs.Reading.{node, entry, gives}
 use Rattle.grammar.specs.State.{Node, Entry, State, blank, unlinked, nodeWidth, entryWidth, nodeCells, entryCells, nodeAt, entryAt}
 use Rattle.grammar.specs.Answer.{plain, roomsOf, reading, nodesHeld, entriesHeld}
 use Rattle.grammar.specs.Counted.{claimsOf}
-use Rattle.grammar.specs.Record.{sound, nodesIn, entriesIn, soundAt, Tables, put, chain, whole}
+use Rattle.grammar.specs.Record.{sound, nodesIn, entriesIn, soundAt, Tables, tablesOf, put, chain, whole}
 use Rattle.grammar.specs.Leaf.{leafAs, leafOf}
 use Rattle.grammar.proofs.Fitting.{most-fits, fits-unless-of-room, gives-not-of-room}
 use Rattle.grammar.proofs.Links.{childOf, nextOf, More, Linked}
@@ -63,15 +63,9 @@ linked-read t es at few e [] h = refl
 linked-read t es at few e (v ∷ vs) h = chain-read t es at few e v vs (h .0) (h .1) (h .2)
 
 -- the stores that a reading left, as the writer and the leaf question take them
-abbrev pub tablesOf : List ℕ → (nodes entries : ℕ) → ℕ × State → Tables
-tablesOf s nodes entries r =
-    record {
-      input = s;
-      nodes = nodesHeld nodes (gives r);
-      entries = entriesHeld entries (gives r);
-      usedNodes = length (r .1 .nodes);
-      usedEntries = length (r .1 .entries);
-    }
+abbrev pub tablesRead : List ℕ → (nodes entries : ℕ) → ℕ × State → Tables
+tablesRead s nodes entries r =
+    tablesOf s (nodesHeld nodes (gives r)) (entriesHeld entries (gives r)) (length (r .1 .nodes)) (length (r .1 .entries))
 
 module _ (s : List ℕ) (bytes : Bytes s) (nodes entries slots nesting : ℕ) (r : ℕ × State) (e : reading s nodes entries slots nesting ≡ gives r) where
   pub accepted : Accepted s r
@@ -109,15 +103,15 @@ module _ (s : List ℕ) (bytes : Bytes s) (nodes entries slots nesting : ℕ) (r
       (ap (sound s) (node-held n l) ∙ accepted .finished n l .own bytes)
 
   -- .. its chain is its children ..
-  pub read-is-whole : (n : ℕ) (l : n < length (r .1 .nodes)) → whole (tablesOf s nodes entries r) n ≡ some (accepted .finished n l .kids)
+  pub read-is-whole : (n : ℕ) (l : n < length (r .1 .nodes)) → whole (tablesRead s nodes entries r) n ≡ some (accepted .finished n l .kids)
   unfolding whole
   read-is-whole n l =
       let f = accepted .finished n l in
       let c : nodeAt (nodesHeld nodes (gives r)) n .count ≡ length (f .kids) = ap (λ z. z .count) (node-held n l) ∙ f .counted in
       let p : nodeAt (nodesHeld nodes (gives r)) n .first ≡ getD (r .1 .nodes) n blank .first = ap (λ z. z .first) (node-held n l) in
       rw (read-is-sound n l)
-      (ap₂ (chain (tablesOf s nodes entries r)) c p
-      ∙ linked-read (tablesOf s nodes entries r) (r .1 .entries) entry-held all-entries (getD (r .1 .nodes) n blank .first) (f .kids) (f .linked))
+      (ap₂ (chain (tablesRead s nodes entries r)) c p
+      ∙ linked-read (tablesRead s nodes entries r) (r .1 .entries) entry-held all-entries (getD (r .1 .nodes) n blank .first) (f .kids) (f .linked))
 
   -- .. and the leaf question about it is answered.
   pub read-is-answered : (n : ℕ) → n < length (r .1 .nodes)

@@ -70,6 +70,10 @@ pub record Tables : Type 0 where
   pub usedNodes : ℕ
   pub usedEntries : ℕ
 
+abbrev pub tablesOf : (input nodes entries : List ℕ) → (usedNodes usedEntries : ℕ) → Tables
+tablesOf input nodes entries usedNodes usedEntries =
+    record { input = input; nodes = nodes; entries = entries; usedNodes = usedNodes; usedEntries = usedEntries }
+
 abbrev pub put : ℕ → Option (List ℕ) → Option (List ℕ)
 put v none = none
 put v (some vs) = some (v ∷ vs)

@@ -8,7 +8,7 @@ ghost use lib.Ieee.{nan, ofBits, binary64};
 ghost use Rattle.refusals.specs.Limits.{mostBytes};
 ghost use Rattle.grammar.specs.Leaf as definition;
 ghost use Rattle.grammar.specs.Record;
-ghost use Rattle.records.specs.Nodes.{nodeOf};
+ghost use Rattle.stores.specs.Written.{nodeOf};
 ghost use Rattle.records.specs.Held.{LongAt};
 ghost use Rattle.leaf.specs.Answers.{kindOf, plainly, toldOf, answeredOf};
 ghost use Rattle.leaf.specs.Longs.{Measures};
@@ -190,7 +190,7 @@ fn long_leaf(s: &[u8], place: u32) -> Told
 }
 
 // What a sound node is, by its letter.
-fn leaf_as(s: &[u8], node: records::Node) -> Told
+fn leaf_as(s: &[u8], node: stores::Node) -> Told
     requires { ⌜ (Record.sound (now s) (nodeOf node) ≡ true) × (length (now s) ≤ mostBytes) ⌝ }
     ensures { λ r. ⌜ r ≡ toldOf (definition.leafAs (now (s .entry)) (node .letter) (node .place)) ⌝ }
 {
@@ -222,5 +222,5 @@ pub fn leaf_of(input: &[u8], nodes: &[u32], used: u32, node: u32) -> Answered
     if !records::sound_at(input, nodes, used, node) {
         return Answered::Refused(refusals::BAD_TABLE, node);
     }
-    Answered::Told(leaf_as(input, records::node_at(nodes, node)))
+    Answered::Told(leaf_as(input, stores::node_at(nodes, node)))
 }

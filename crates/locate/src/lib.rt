@@ -25,7 +25,7 @@ pub fn locate_node(
     if !records::sound_at(input, nodes, used, node) {
         return linetable::refuse(records, refusals::BAD_TABLE, node);
     }
-    let found = records::node_at(nodes, node);
+    let found = stores::node_at(nodes, node);
     if found.letter != grammar::BYTES_LETTER {
         return linetable::refuse(records, refusals::BAD_TABLE, node);
     }

@@ -17,7 +17,7 @@ use Rattle.grammar.proofs.Tests.{same-some}
 use Rattle.grammar.specs.Answer.{plain, reading, Counts, countsOf, readOf}
 use Rattle.grammar.specs.Input.{Bytes}
 use Rattle.grammar.proofs.Following.{follows-gives}
-use Rattle.grammar.proofs.ReadBack.{tablesOf}
+use Rattle.grammar.proofs.ReadBack.{tablesRead}
 use Rattle.writing.specs.Steps.{writing}
 use Rattle.writing.specs.Answer.{mostOutput, written}
 use Rattle.meaning.specs.Value.{Value}
@@ -68,7 +68,7 @@ pub bytes-of : (v : Value) (rest : List ℕ) → Proper v → Below 256 rest →
 bytes-of v rest p h = below-at (canonical v ++ rest) (below-append (canonical v) rest (octets v p) h)
 
 after-tables : (s : List ℕ) (nodes entries slots nesting : ℕ) (r : ℕ × State) → reading s nodes entries slots nesting ≡ gives r
-    → tablesAfter s (readOf s nodes entries slots nesting) (countsOf (r .1)) ≡ tablesOf s nodes entries r
+    → tablesAfter s (readOf s nodes entries slots nesting) (countsOf (r .1)) ≡ tablesRead s nodes entries r
 unfolding readOf
 after-tables s nodes entries slots nesting r e = rw e refl
 
@@ -85,7 +85,7 @@ module _ (v : Value) (nodes entries slots nesting : ℕ) (depth : depthOf v ≤ 
       let r : ℕ × State = (0, l .state) in
       let c : countsOf (l .state) ≡ countsFor v = counts-are _ _ _ _ _ _ _ _ (l .consumed) (l .nodes-used) (l .entries-used) (l .slots-used) in
       let m = in-tables s bytes nodes entries slots nesting r (l .answer) v 0 (l .means) p in
-      let T = tablesOf s nodes entries r in
+      let T = tablesRead s nodes entries r in
       let same : tablesAfter s (readOf s nodes entries slots nesting) (countsFor v) ≡ T =
       ap (tablesAfter s (readOf s nodes entries slots nesting)) (sym c) ∙ after-tables s nodes entries slots nesting r (l .answer) in
       (rw (l .answer) (ap gives c), λ a h. ap (λ x. valueOf a x 0) same ∙ means-value (InTables T) (λ a n. valueOf a T n) (by-tables T) v 0 a m h)
@@ -111,7 +111,7 @@ module _ (v : Value) (nodes entries slots nesting : ℕ) (depth : depthOf v ≤ 
       let top = max (depthOf v) (depthOf (m .value)) in
       let same : m .value ≡ v = same-some (sym (m .found top (omega arith)) ∙ ap (λ t. valueOf top t 0) (sym (a .tables)) ∙ i .1 top (omega arith)) in
       ap (λ t. written t 0 nesting room) (a .tables)
-      ∙ written-is (tablesOf s nodes entries (a .read)) 0 v small (subst (Means (InTables (tablesOf s nodes entries (a .read))) 0) same (m .means)) p nesting depth o room fits
+      ∙ written-is (tablesRead s nodes entries (a .read)) 0 v small (subst (Means (InTables (tablesRead s nodes entries (a .read))) 0) same (m .means)) p nesting depth o room fits
 
 -- Equal bytes mean the same value: both are what the bytes are read as.
 pub canonical-injective : (v w : Value) → Proper v → Proper w → length (canonical v) ≤ mostBytes → canonical v ≡ canonical w → v ≡ w

@@ -21,7 +21,7 @@ use Rattle.grammar.specs.Record.{ruled, sound, Tables, whole, nodeOf, badString
 use Rattle.grammar.proofs.Tests.{both-true}
 use Rattle.grammar.specs.Input.{Bytes}
 use Rattle.grammar.proofs.Links.{Linked, More, nextOf}
-use Rattle.grammar.proofs.ReadBack.{tablesOf, accepted as accepted-so, node-held, read-is-sound, read-is-whole}
+use Rattle.grammar.proofs.ReadBack.{tablesRead, accepted as accepted-so, node-held, read-is-sound, read-is-whole}
 use Rattle.writing.specs.Shape as shape
 use Rattle.writing.specs.Shape.{Shape, shapeOf, classed, numbersAt}
 use Rattle.meaning.specs.Value.{Value, Values, nil, more, single, integer, float, complex, bytes as byteString, text, sequence, slice, dict, code, countOf, valueAt, contentsOf, membersOf}
@@ -56,7 +56,7 @@ all-rules = (refl, (refl, (refl, (refl, (refl, (refl, (refl, (refl, (refl, (refl
 
 module _ (s : List ℕ) (bytes : Bytes s) (cells entries slots nesting : ℕ) (r : ℕ × State) (e : reading s cells entries slots nesting ≡ gives r) where
   abbrev t : Tables
-  t = tablesOf s cells entries r
+  t = tablesRead s cells entries r
 
   abbrev st : State
   st = r .1

@@ -18,7 +18,7 @@ use Rattle.grammar.proofs.Fitting.{exact-where-all-fit, fits-unless-of-room, gi
 use Rattle.grammar.proofs.Fielding.{Own}
 use Rattle.grammar.proofs.Following.{Need, Follows, follows-map, follows-gives}
 use Rattle.grammar.proofs.Keeping.{value-keeps}
-use Rattle.grammar.proofs.ReadBack.{tablesOf}
+use Rattle.grammar.proofs.ReadBack.{tablesRead}
 use Rattle.grammar.proofs.Root.{root-is-node-0}
 use Rattle.grammar.proofs.Standing.{Holds, Valued}
 use Rattle.meaning.specs.Value.{Value}
@@ -47,8 +47,8 @@ meaning-stays s small bytes fuel depth t st h =
 pub record Meant (s : List ℕ) (nodes entries : ℕ) (r : ℕ × State) (n : ℕ) : Type 0 where
   pub value : Value
   pub proper : Proper value
-  pub means : Means (InTables (tablesOf s nodes entries r)) n value
-  pub found : (allowance : ℕ) → depthOf value ≤ allowance → valueOf allowance (tablesOf s nodes entries r) n ≡ some value
+  pub means : Means (InTables (tablesRead s nodes entries r)) n value
+  pub found : (allowance : ℕ) → depthOf value ≤ allowance → valueOf allowance (tablesRead s nodes entries r) n ≡ some value
 
 module _ (s : List ℕ) (bytes : Bytes s) (nodes entries slots nesting : ℕ) (r : ℕ × State) (e : reading s nodes entries slots nesting ≡ gives r) where
   small : length s ≤ mostBytes
@@ -73,7 +73,7 @@ module _ (s : List ℕ) (bytes : Bytes s) (nodes entries slots nesting : ℕ) (r
         value = x .value;
         proper = x .proper;
         means = m;
-        found = λ a h. means-value (InTables (tablesOf s nodes entries r)) (λ a n. valueOf a (tablesOf s nodes entries r) n) (by-tables (tablesOf s nodes entries r)) (x .value) n a m h;
+        found = λ a h. means-value (InTables (tablesRead s nodes entries r)) (λ a n. valueOf a (tablesRead s nodes entries r) n) (by-tables (tablesRead s nodes entries r)) (x .value) n a m h;
       }
 
   -- every node ..
@@ -89,7 +89,7 @@ pub record Answered (s : List ℕ) (nodes entries slots nesting : ℕ) (c : Coun
   pub read : ℕ × State
   pub is : reading s nodes entries slots nesting ≡ gives read
   pub counts : c ≡ countsOf (read .1)
-  pub tables : tablesAfter s (readOf s nodes entries slots nesting) c ≡ tablesOf s nodes entries read
+  pub tables : tablesAfter s (readOf s nodes entries slots nesting) c ≡ tablesRead s nodes entries read
 
 pub answer-gives : (s : List ℕ) (nodes entries slots nesting : ℕ) (c : Counts) → readOf s nodes entries slots nesting .answer ≡ gives c → Answered s nodes entries slots nesting c
 unfolding readOf

@@ -7,7 +7,7 @@ use mathlib.Core.List.{List, [], _∷_}
 use lib.ListN.{take, drop}
 use Rattle.grammar.specs.Steps.{linePart}
 use Rattle.grammar.specs.Answer.{Counts, Outcome}
-use Rattle.grammar.specs.Record.{Tables, Looked, holds, faulty, look}
+use Rattle.grammar.specs.Record.{Tables, tablesOf, Looked, holds, faulty, look}
 use Rattle.writing.specs.Canonical.{shownLine}
 use Rattle.writing.specs.Shape as shape
 use Rattle.writing.specs.Shape.{Shape, shapeOf}
@@ -61,5 +61,4 @@ valueOf (suc (suc a)) t n = lookedAs (valueOf (suc a) t) (valueOf a t) t n (look
 
 -- The stores as a reading of the input left them, with the counts that it answered.
 abbrev pub tablesAfter : (input : List ℕ) → Outcome → Counts → Tables
-tablesAfter input o c =
-    record { input = input; nodes = o .nodes; entries = o .entries; usedNodes = c .nodes; usedEntries = c .entries }
+tablesAfter input o c = tablesOf input (o .nodes) (o .entries) (c .nodes) (c .entries)

@@ -144,7 +144,14 @@ fn leaf(
                 entries: w.entries,
                 slots: w.slots + h.flag,
             };
-            stores::write_node(nodes, node, h.letter, h.place, h.size, refusals::NOTHING, 0);
+            let record = stores::Node {
+                letter: h.letter,
+                place: h.place,
+                size: h.size,
+                first: refusals::NOTHING,
+                count: 0,
+            };
+            stores::write_node(nodes, node, record);
             stores::fill_slot(slots, h.flag, w.slots, node);
             Taken::Value(node, after)
         }

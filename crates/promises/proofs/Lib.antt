@@ -14,6 +14,9 @@ pub mod Reader
 pub mod Leaf
 pub mod Puts
 pub mod Tables
+pub mod Putleaf
+pub mod Putnames
+pub mod Putvalue
 pub mod Writer
 pub mod Locate
 pub mod Sillgarland

@@ -39,7 +39,7 @@ done-one o o₁ o₂ a b l₁ l₂ ha hb t d₁ d₂ =
     let e : a ≡ b = sym (length-take-le a o₁ (omega (arith, l₁, ha))) ∙ (ap length t ∙ length-take-le b o₂ (omega (arith, l₂, hb))) in
     (e, sym (take-append-drop a o₁) ∙ (ap (λ xs. xs ++ drop a o₁) t ∙ (ap (λ xs. take b o₂ ++ xs) (d₁ ∙ (ap (λ n. drop n o) e ∙ sym d₂)) ∙ take-append-drop b o₂)))
 
-puts-one : {w : Writing} {at : ℕ} {o o₁ o₂ : List ℕ} (r r′ : Wrote) → Puts w at o r o₁ → Puts w at o r′ o₂ → whereDone r r′ o₁ o₂
+pub puts-one : {w : Writing} {at : ℕ} {o o₁ o₂ : List ℕ} (r r′ : Wrote) → Puts w at o r o₁ → Puts w at o r′ o₂ → whereDone r r′ o₁ o₂
 puts-one {w} {at} {o} {o₁} {o₂} (wrote.Done a) (wrote.Done b) p q =
     let x = p .exact in
     let y = q .exact in

@@ -1,21 +1,8 @@
--- One answer for each call of the functions of `records`: the answer, by an equation, a node in the grammar's words.
+-- One answer for each call of the functions of `records`: the answer, by an equation.
 use mathlib.Core.Path.{refl}
-use Rattle.grammar.specs.State as state
-use Rattle.records.specs.declared.Node.{Node}
-use Rattle.records.specs.Nodes.{nodeOf}
 use Rattle.records.proofs as records
 use Rattle.promises.specs.Agreement.{Agree}
-use Rattle.promises.proofs.Same.{one, retold}
-
--- a node's five numbers, from the grammar's words back
-abbrev pub nodeFrom : state.Node → Node
-nodeFrom n = record { letter = n .letter; place = n .place; size = n .size; first = n .first; count = n .count }
-
-pub nodes-in-agrees : Agree records.nodes_in.ended records.nodes_in.Reads.Asked records.nodes_in.Reads.Learnt
-nodes-in-agrees κs a asked r r′ ws ws′ p p′ = (one p p′, refl)
-
-pub node-at-agrees : Agree records.node_at.ended records.node_at.Reads.Asked records.node_at.Reads.Learnt
-node-at-agrees κs a asked r r′ ws ws′ p p′ = (retold nodeOf nodeFrom (λ n. refl) p p′, refl)
+use Rattle.promises.proofs.Same.{one}
 
 pub sound-agrees : Agree records.sound.ended records.sound.Reads.Asked records.sound.Reads.Learnt
 sound-agrees κs a asked r r′ ws ws′ p p′ = (one p p′, refl)

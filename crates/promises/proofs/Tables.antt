@@ -5,12 +5,10 @@ use Prim.Native.Nat.{ℕ}
 use mathlib.Core.Bool.{Bool, true, false}
 use native.Mathlib.Omega.{arith}
 use Rattle.grammar.specs.Record.{Tables, Looked, holds, faulty}
-use Rattle.records.specs.Nodes.{nodeOf}
 use Rattle.tables.specs.Looking.{Looks}
 use Rattle.tables.proofs as tables
 use Rattle.promises.specs.Agreement.{Agree}
-use Rattle.promises.proofs.Same.{one, retold}
-use Rattle.promises.proofs.Records.{nodeFrom}
+use Rattle.promises.proofs.Same.{one}
 
 -- a node holds its children, or is faulty, and not both
 abbrev isHeld : Looked → ℕ
@@ -22,15 +20,6 @@ looks-one t n true true p q = refl
 looks-one t n true false p q = let z : _≡_ {A = ℕ} 1 0 = ap isHeld (one (sym (p .holds-kids)) (sym q)) in absurd (omega arith)
 looks-one t n false true p q = let z : _≡_ {A = ℕ} 0 1 = ap isHeld (one (sym p) (sym (q .holds-kids))) in absurd (omega arith)
 looks-one t n false false p q = refl
-
-pub child-agrees : Agree tables.child.ended tables.child.Reads.Asked tables.child.Reads.Learnt
-child-agrees κs a asked r r′ ws ws′ p p′ = (one p p′, refl)
-
-pub next-agrees : Agree tables.next.ended tables.next.Reads.Asked tables.next.Reads.Learnt
-next-agrees κs a asked r r′ ws ws′ p p′ = (one p p′, refl)
-
-pub node-at-agrees : Agree tables.node_at.ended tables.node_at.Reads.Asked tables.node_at.Reads.Learnt
-node-at-agrees κs a asked r r′ ws ws′ p p′ = (retold nodeOf nodeFrom (λ n. refl) p p′, refl)
 
 pub linked-agrees : Agree tables.linked.ended tables.linked.Reads.Asked tables.linked.Reads.Learnt
 linked-agrees κs a asked r r′ ws ws′ p p′ = (one p p′, refl)

@@ -13,12 +13,11 @@ use Rattle.refusals.specs.Numbers.{accepted}
 use Rattle.grammar.specs.Input.{Bytes}
 use Rattle.grammar.specs.Reading.{Answer, gives, stops}
 use Rattle.grammar.specs.Answer.{Counts, Outcome}
-use Rattle.grammar.specs.Record.{Tables}
+use Rattle.grammar.specs.Record.{Tables, tablesOf}
 use Rattle.reader.specs.Delivered.{answerOf}
 use Rattle.reader.proofs as reader
 use Rattle.puts.specs.declared.Wrote.{Wrote}
 use Rattle.puts.specs.declared.Wrote.the-variants as wrote
-use Rattle.writer.specs.Entry.{tablesOf}
 use Rattle.writer.proofs as writer
 use Rattle.sillgarland.specs.declared.values.SillRead.{SillRead}
 use Rattle.sillgarland.specs.declared.varints.SillWritten.{SillWritten}

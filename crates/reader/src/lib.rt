@@ -1,7 +1,7 @@
 // The reader: `deserialize_value`, and below it a reader of values and a reader of containers and of code that call one another.
 // The nesting allowance falls from a value to its container or its code's body, and from a code's body to its parts once more.
 ghost use mathlib.Core.Path.{_≡_};
-ghost use Prim.Native.Nat.{ℕ, _+_, _*_, _≤_, _<_, min};
+ghost use Prim.Native.Nat.{ℕ, _+_, _*_, _≤_, _<_};
 ghost use lib.ListN.{length, getD};
 ghost use Rattle.grammar.specs.Fields.{parts, codeNumbers};
 ghost use Rattle.grammar.specs.Answer.{readOf};
@@ -70,7 +70,14 @@ fn value(
                 steps::Linked::Refused(number, place) => steps::Step::Refused(number, place),
                 steps::Linked::Line(l) => {
                     let size = steps::node_size(kids, h.place, h.size, l.line);
-                    stores::write_node(nodes, node, h.letter, h.place, size, l.first, l.count);
+                    let record = stores::Node {
+                        letter: h.letter,
+                        place: h.place,
+                        size,
+                        first: l.first,
+                        count: l.count,
+                    };
+                    stores::write_node(nodes, node, record);
                     stores::fill_slot(slots, h.flag, slot, node);
                     let after = l.walk;
                     steps::Step::Value(node, after)
@@ -161,12 +168,6 @@ pub enum Outcome {
     Refused(u32, u32),
 }
 
-fn at_most(n: usize, most: u32) -> u32
-    ensures { λ r. ⌜ r ≡ min n most ⌝ }
-{
-    if n < most as usize { n as u32 } else { most }
-}
-
 // One value from the start of the input. The stores are cleared first; refused, they are all zero, and read, all past what is used is.
 pub fn deserialize_value(
     input: &[u8],
@@ -184,11 +185,11 @@ pub fn deserialize_value(
         return Outcome::Refused(refusals::INPUT_TOO_LONG, 0);
     }
     let room = steps::Room {
-        nodes: at_most(nodes.len() / stores::NODE_WIDTH, refusals::MOST_RECORDS),
-        entries: at_most(entries.len() / stores::ENTRY_WIDTH, refusals::MOST_RECORDS),
-        slots: at_most(slots.len(), refusals::MOST_RECORDS),
+        nodes: stores::node_capacity(nodes.len()),
+        entries: stores::entry_capacity(entries.len()),
+        slots: stores::at_most(slots.len(), refusals::MOST_RECORDS),
     };
-    let allowance = at_most(nesting as usize, refusals::MOST_NESTING);
+    let allowance = stores::at_most(nesting as usize, refusals::MOST_NESTING);
     let start = steps::Walk {
         at: 0,
         nodes: 0,

@@ -14,7 +14,7 @@ use Rattle.wtf8.specs.Forms.{wellFormed}
 use Rattle.grammar.specs.Letters.{refuses, classOf, letters, found, isString}
 use Rattle.grammar.specs.Fields.{contents}
 use Rattle.grammar.proofs.Lettered.{among-each}
-use Rattle.records.specs.Nodes.{tooLong}
+use Rattle.records.specs.Texts.{tooLong}
 use Rattle.grammar.specs.State.{Node}
 use Rattle.grammar.specs.Record.{counted, readsAs, ruled}
 use Rattle.fields.specs.Classes.{classes, classAt}

@@ -17,6 +17,7 @@ use Rattle.grammar.specs.State.{Node, nodeAt}
 use Rattle.grammar.specs.Record.{readsAs, ruled, sound, soundAt, nodesIn}
 use Rattle.grammar.proofs.Tests.{never, both-true}
 use Rattle.grammar.proofs.Passed.{sound-ruled}
+use Rattle.stores.specs.Written.{NodeIn}
 use Rattle.records.specs.Held.{LongAt}
 
 module _ (s : List ℕ) (n : Node) where
@@ -81,7 +82,7 @@ module _ (s : List ℕ) (n : Node) where
 
 -- A node that was found sound by its number is in the store.
 module _ (s nodes : List ℕ) (used n : ℕ) (ok : soundAt s nodes used n ≡ true) where
-  pub in-store : n * 5 + 5 ≤ length nodes
+  pub in-store : NodeIn nodes n
   unfolding soundAt
   in-store =
       let below : n < nodesIn nodes used = ltb-true _ _ (both-true (ltb n (nodesIn nodes used)) (sound s (nodeAt nodes n)) ok .0) in

@@ -2,61 +2,17 @@
 // Only a node's own numbers are tested: chains, and what the parts of a code are, are the writer's.
 ghost use mathlib.Core.Path.{_≡_};
 ghost use mathlib.Core.Bool.{true};
-ghost use Prim.Native.Nat.{_+_, _*_, _≤_, _<_, min};
+ghost use Prim.Native.Nat.{_+_, _≤_, _<_};
 ghost use lib.ListN.{length};
 ghost use Rattle.refusals.specs.Limits.{mostBytes};
 ghost use Rattle.grammar.specs.Letters.{codes, isString};
-ghost use Rattle.grammar.specs.State.{nodeAt};
 ghost use Rattle.wtf8.specs.Forms.{wellFormed};
 ghost use Rattle.grammar.specs.Fields;
 ghost use Rattle.grammar.specs.Record;
 ghost use Rattle.fields.specs.Classes.{classAt, formClasses};
 ghost use Rattle.fields.specs.Behind.{childrenOf};
-ghost use Rattle.records.specs.Nodes.{nodeOf, tooLong};
-
-// Five numbers to a node.
-pub const NODE_WIDTH: usize = 5;
-
-pub struct Node {
-    pub letter: u32,
-    pub place: u32,
-    pub size: u32,
-    pub first: u32,
-    pub count: u32,
-}
-
-fn lesser(a: u32, b: u32) -> u32
-    ensures { λ r. ⌜ r ≡ min a b ⌝ }
-{
-    if a < b { a } else { b }
-}
-
-// How many nodes of a store may be named, where so many are said to be used.
-pub fn nodes_in(nodes: &[u32], used: u32) -> u32
-    ensures { λ r. ⌜ r ≡ Record.nodesIn (now (nodes .entry)) used ⌝ }
-{
-    let held = nodes.len() / NODE_WIDTH;
-    let most = lesser(used, refusals::MOST_RECORDS);
-    if held < most as usize {
-        return held as u32;
-    }
-    most
-}
-
-// The node of a number that is in the store.
-pub fn node_at(nodes: &[u32], node: u32) -> Node
-    requires { ⌜ node * 5 + 5 ≤ length (now nodes) ⌝ }
-    ensures { λ r. ⌜ nodeOf r ≡ nodeAt (now (nodes .entry)) node ⌝ }
-{
-    let at = node as usize * NODE_WIDTH;
-    Node {
-        letter: nodes[at],
-        place: nodes[at + 1],
-        size: nodes[at + 2],
-        first: nodes[at + 3],
-        count: nodes[at + 4],
-    }
-}
+ghost use Rattle.stores.specs.Written.{nodeOf};
+ghost use Rattle.records.specs.Texts.{tooLong};
 
 // Whether a count is what the fields say of the children.
 fn counted(kids: fields::Kids, count: u32) -> bool
@@ -70,7 +26,7 @@ fn counted(kids: fields::Kids, count: u32) -> bool
 }
 
 // A container's or a number's fields, read again from its place, give its size and its count.
-fn read_again(s: &[u8], node: Node, class: u32) -> bool
+fn read_again(s: &[u8], node: stores::Node, class: u32) -> bool
     requires { ⌜ (class < formClasses) × (node .place ≤ length (now s)) × (length (now s) ≤ mostBytes) ⌝ }
     ensures { λ r. ⌜ r ≡ Record.ruled (now (s .entry)) (nodeOf node) (classAt class) ⌝ }
 {
@@ -95,7 +51,7 @@ fn well_formed(s: &[u8], place: u32, size: u32) -> bool
 }
 
 // A code's size, first line, count and argument sum.
-fn code_ruled(s: &[u8], node: Node) -> bool
+fn code_ruled(s: &[u8], node: stores::Node) -> bool
     requires { ⌜ length (now s) ≤ mostBytes ⌝ }
     ensures { λ r. ⌜ r ≡ Record.ruled (now (s .entry)) (nodeOf node) codes ⌝ }
 {
@@ -113,7 +69,7 @@ fn code_ruled(s: &[u8], node: Node) -> bool
 }
 
 // The node's letter is kept, and its numbers are what the letter's rules ask.
-fn ruled(s: &[u8], node: Node, class: u32) -> bool
+fn ruled(s: &[u8], node: stores::Node, class: u32) -> bool
     requires { ⌜ (node .place + node .size ≤ length (now s)) × (length (now s) ≤ mostBytes) ⌝ }
     ensures { λ r. ⌜ r ≡ Record.ruled (now (s .entry)) (nodeOf node) (classAt class) ⌝ }
 {
@@ -143,7 +99,7 @@ fn ruled(s: &[u8], node: Node, class: u32) -> bool
 }
 
 // A node whose span lies in the input and whose numbers are ruled.
-pub fn sound(s: &[u8], node: Node) -> bool
+pub fn sound(s: &[u8], node: stores::Node) -> bool
     requires { ⌜ length (now s) ≤ mostBytes ⌝ }
     ensures { λ r. ⌜ r ≡ Record.sound (now (s .entry)) (nodeOf node) ⌝ }
 {
@@ -168,7 +124,7 @@ fn too_long(letter: u32, size: u32) -> bool
 }
 
 // The same of a node with a string's letter, whose class need not be looked up.
-pub fn text_sound(s: &[u8], node: Node) -> bool
+pub fn text_sound(s: &[u8], node: stores::Node) -> bool
     requires { ⌜ (length (now s) ≤ mostBytes) × (isString (node .letter) ≡ true) ⌝ }
     ensures { λ r. ⌜ r ≡ Record.sound (now (s .entry)) (nodeOf node) ⌝ }
 {
@@ -189,8 +145,8 @@ pub fn sound_at(s: &[u8], nodes: &[u32], used: u32, node: u32) -> bool
     requires { ⌜ length (now s) ≤ mostBytes ⌝ }
     ensures { λ r. ⌜ r ≡ Record.soundAt (now (s .entry)) (now (nodes .entry)) used node ⌝ }
 {
-    if nodes_in(nodes, used) <= node {
+    if stores::nodes_in(nodes, used) <= node {
         return false;
     }
-    sound(s, node_at(nodes, node))
+    sound(s, stores::node_at(nodes, node))
 }

@@ -7,7 +7,7 @@ ghost use lib.ListN.{length};
 ghost use Rattle.grammar.specs.Answer.{readOf};
 ghost use Rattle.reader.specs.Delivered.{answerOf};
 ghost use Rattle.writing.specs.Answer.{written};
-ghost use Rattle.writer.specs.Entry.{tablesOf};
+ghost use Rattle.grammar.specs.Record.{tablesOf};
 ghost use Rattle.sillgarland.specs.Values.{readStruct, ReadAs, wroteStruct, WroteAs};
 
 // A reading's answer: its refusal and place, or how many bytes and how many of each record were used.

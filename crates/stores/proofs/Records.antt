@@ -11,7 +11,7 @@ use Rattle.lent.specs.Lent.{padded}
 use Rattle.grammar.specs.State.{Node, Entry, blank, unlinked, nodeWidth, entryWidth, nodeCells, entryCells}
 use Rattle.grammar.specs.Steps.{reserve, fill}
 use Rattle.grammar.proofs.Contents.{length-nodeCells, length-entryCells}
-use Rattle.stores.specs.Written.{Keeps, nodeWritten, entryWritten, entryLinked}
+use Rattle.stores.specs.Written.{Keeps, NodeIn, EntryIn, nodeWritten, entryWritten, entryLinked}
 use Rattle.stores.proofs.Padded.{set-padded, sets-inside, padded-zeros}
 
 -- Lengths.
@@ -65,7 +65,7 @@ entry-link (x ∷ xs) (suc m) next h =
 -- The stores.
 
 -- a node is claimed: nothing is written
-pub node-claimed : {store : List ℕ} (ns : List Node) → Keeps store (nodeCells ns) → length ns * nodeWidth + nodeWidth ≤ length store
+pub node-claimed : {store : List ℕ} (ns : List Node) → Keeps store (nodeCells ns) → NodeIn store (length ns)
     → Keeps store (nodeCells (ns ++ blank ∷ []))
 node-claimed {store} ns k h =
     k ∙ sym (ap (padded (length store)) (nodeCells-append ns (blank ∷ [])) ∙ padded-zeros (length store) (nodeCells ns) nodeWidth (omega (arith, length-nodeCells ns)))
@@ -79,7 +79,7 @@ node-written {store} ns n r k h =
     ∙ ap₂ padded (sym (length-sets store (n * nodeWidth) (nodeCells (r ∷ [])))) (sym (node-set ns n r h))
 
 -- an entry is claimed and written
-pub entry-written : {store : List ℕ} (es : List Entry) (v : ℕ) → Keeps store (entryCells es) → length es * entryWidth + entryWidth ≤ length store
+pub entry-written : {store : List ℕ} (es : List Entry) (v : ℕ) → Keeps store (entryCells es) → EntryIn store (length es)
     → Keeps (entryWritten store (length es) (record { child = v; next = nothing })) (entryCells (es ++ record { child = v; next = nothing } ∷ []))
 entry-written {store} es v k h =
     ap (λ t. entryWritten t (length es) new) (k ∙ grown)
@@ -133,10 +133,10 @@ fill-some zero slot node slots h = absurd (h refl)
 fill-some (suc f) slot node slots h = refl
 
 -- What the code of `write_node` and `write_entry` stores, one number after another.
-pub node-stores : (store : List ℕ) (n letter place size first count : ℕ)
-    → set (set (set (set (set store (n * nodeWidth) letter) (n * nodeWidth + 1) place) (n * nodeWidth + 2) size) (n * nodeWidth + 3) first) (n * nodeWidth + 4) count
-    ≡ nodeWritten store n (record { letter = letter; place = place; size = size; first = first; count = count })
-node-stores store n letter place size first count =
+pub node-stores : (store : List ℕ) (n : ℕ) (r : Node)
+    → set (set (set (set (set store (n * nodeWidth) (r .letter)) (n * nodeWidth + 1) (r .place)) (n * nodeWidth + 2) (r .size)) (n * nodeWidth + 3) (r .first)) (n * nodeWidth + 4) (r .count)
+    ≡ nodeWritten store n r
+node-stores store n r =
     let e₁ : n * nodeWidth + 1 ≡ suc (n * nodeWidth) = omega arith in
     let e₂ : n * nodeWidth + 2 ≡ suc (suc (n * nodeWidth)) = omega arith in
     let e₃ : n * nodeWidth + 3 ≡ suc (suc (suc (n * nodeWidth))) = omega arith in

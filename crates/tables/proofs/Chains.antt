@@ -12,6 +12,7 @@ use borrow.Author.Tests.{ltb-true, ltb-false, lt-ltb, le-ltb}
 use Rattle.grammar.specs.State.{nodeAt, entryAt}
 use Rattle.grammar.specs.Record.{Tables, entriesIn, chain, put, badString, whole, soundAt}
 use Rattle.grammar.proofs.Tests.{never, both-true}
+use Rattle.stores.specs.Written.{EntryIn}
 use Rattle.tables.specs.Looking.{links, isSome, isNone, stringAt, Straight, Names}
 use Rattle.tables.proofs.Round.{lives, cut-walk}
 
@@ -88,7 +89,7 @@ headed t k e kids h = go (ltb e (entriesIn (t .entries) (t .usedEntries))) refl 
     go false p o q h = let z : _≡_ {A = ℕ} 0 1 = cc in absurd (omega arith)
 
 -- the entry that a chain goes on with is in the store
-pub entry-in : (t : Tables) (k e : ℕ) (kids : List ℕ) → chain t (suc k) e ≡ some kids → e * 2 + 2 ≤ length (t .entries)
+pub entry-in : (t : Tables) (k e : ℕ) (kids : List ℕ) → chain t (suc k) e ≡ some kids → EntryIn (t .entries) e
 entry-in t k e kids h = omega (arith, headed t k e kids h .here)
 
 pub chain-none : (t : Tables) (e : ℕ) (kids : List ℕ) → chain t 0 e ≡ some kids → kids ≡ []

@@ -16,6 +16,7 @@ use Rattle.grammar.specs.State.{nodeAt, entryAt}
 use Rattle.grammar.specs.Record.{Tables, chain, badString, soundAt}
 use Rattle.grammar.proofs.Tests.{never, both-true}
 use Rattle.grammar.proofs.Passed.{sound-ruled, first-string}
+use Rattle.stores.specs.Written.{NodeIn, EntryIn}
 use Rattle.records.proofs.Soundness.{sound-node, in-store}
 use Rattle.writing.specs.Names.{contentsOf, sameBytes, having, namedIn, apartFrom, inGroups}
 use Rattle.writing.proofs.Numbers.{part-next}
@@ -86,7 +87,7 @@ string-within s nodes used v h =
     sound-ruled s (nodeAt nodes v) (sound-node s nodes used v (both-true (soundAt s nodes used v) (isString (nodeAt nodes v .letter)) h .0)) .0
 
 -- and its record in the store
-pub string-stored : (s nodes : List ℕ) (used v : ℕ) → stringAt s nodes used v ≡ true → v * 5 + 5 ≤ length nodes
+pub string-stored : (s nodes : List ℕ) (used v : ℕ) → stringAt s nodes used v ≡ true → NodeIn nodes v
 string-stored s nodes used v h = in-store s nodes used v (both-true (soundAt s nodes used v) (isString (nodeAt nodes v .letter)) h .0)
 
 module _ (s : List ℕ) (p m q n : ℕ) where
@@ -137,7 +138,7 @@ along-none t l P k =
 
 -- the entry of the first of those that are left is in the store
 pub along-entry : {X : Type 0} (t : Tables) (l : Locals) (P : List ℕ → List ℕ → X) {goal : X} {i e : ℕ} → Along t l P goal i e → i < l .count
-    → e * 2 + 2 ≤ length (t .entries)
+    → EntryIn (t .entries) e
 along-entry t l P {goal} {i} {e} w h =
     let n : l .count - i ≡ suc (l .count - (i + 1)) = omega arith in
     entry-in t (l .count - (i + 1)) e (w .rest) (sym (ap (λ c. chain t c e) n) ∙ w .chained)

@@ -1,4 +1,3 @@
--- No export and no promise rests on this page.
 -- The record test of a node with its chain, and of a code with its parts, as the code answers it. 01, 'Writing it back': "16 is given exactly
 -- when ..".
 use mathlib.Core.Path.{_≡_}
@@ -10,12 +9,12 @@ use Rattle.grammar.specs.Letters.{isBytes, isString}
 use lib.Dec.{eqb}
 use Rattle.grammar.specs.State.{nodeAt, entryAt}
 use Rattle.grammar.specs.Steps.{rules, codeParts, asNames}
-use Rattle.grammar.specs.Record.{Tables, Looked, holds, faulty, look, chain, nodeOf, soundAt, whole, suited, badString, badPart}
+use Rattle.grammar.specs.Record.{Tables, tablesOf, Looked, holds, faulty, look, chain, nodeOf, soundAt, whole, suited, badString, badPart}
 use Rattle.tables.specs.declared.Used.{Used}
 
 -- the stores that are lent
 abbrev pub lent : (input nodes entries : List ℕ) → Used → Tables
-lent input nodes entries used = record { input = input; nodes = nodes; entries = entries; usedNodes = used .nodes; usedEntries = used .entries }
+lent input nodes entries used = tablesOf input nodes entries (used .nodes) (used .entries)
 
 abbrev pub isSome : {A : Type 0} → Option A → Bool
 isSome none = false
@@ -37,7 +36,7 @@ Looks t n false = look t n ≡ faulty n
 
 -- entries alone: what a chain is made of
 abbrev pub links : (entries : List ℕ) → (used : ℕ) → Tables
-links entries used = record { input = []; nodes = []; entries = entries; usedNodes = 0; usedEntries = used }
+links entries used = tablesOf [] [] entries 0 used
 
 -- sound bytes, and a sound string
 abbrev pub bytesAt : (input nodes : List ℕ) → (used node : ℕ) → Bool

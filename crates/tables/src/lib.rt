@@ -2,14 +2,13 @@
 // Everything here only reads, and holds for any stores whatever: a number past a store reads as 0, as the definitions have it.
 ghost use mathlib.Core.Path.{_≡_};
 ghost use mathlib.Core.Bool.{true, _&&_};
-ghost use Prim.Native.Nat.{_+_, _*_, _≤_, _<_, min};
+ghost use Prim.Native.Nat.{_+_, _*_, _≤_, _<_};
 ghost use lib.ListN.{length, getD};
 ghost use Rattle.refusals.specs.Limits.{mostBytes, mostRecords};
 ghost use Rattle.grammar.specs.Letters;
-ghost use Rattle.grammar.specs.State.{nodeAt, entryAt};
+ghost use Rattle.grammar.specs.State.{nodeAt, entryAt, entryWidth};
 ghost use Rattle.grammar.specs.Steps.{rules, whatever, asTuple, asNames, codeParts, codePart, localsPart, kindsPart};
 ghost use Rattle.grammar.specs.Record;
-ghost use Rattle.records.specs.Nodes.{nodeOf};
 ghost use Rattle.grammar.specs.Fields.{contents};
 ghost use Rattle.localsplus.specs.Kind;
 ghost use Rattle.writing.specs.Names.{contentsOf, sameBytes, namedIn};
@@ -29,64 +28,10 @@ pub struct Used {
     pub entries: u32,
 }
 
-fn lesser(a: u32, b: u32) -> u32
-    ensures { λ r. ⌜ r ≡ min a b ⌝ }
-{
-    if a < b { a } else { b }
-}
-
-fn word_at(store: &[u32], at: usize) -> u32
-    ensures { λ r. ⌜ r ≡ getD (now (store .entry)) at 0 ⌝ }
-{
-    if at < store.len() {
-        return store[at];
-    }
-    0
-}
-
-// The node of an entry, and the entry after it.
-pub fn child(entries: &[u32], entry: u32) -> u32
-    ensures { λ r. ⌜ r ≡ entryAt (now (entries .entry)) entry .child ⌝ }
-{
-    word_at(entries, entry as usize * 2)
-}
-
-pub fn next(entries: &[u32], entry: u32) -> u32
-    ensures { λ r. ⌜ r ≡ entryAt (now (entries .entry)) entry .next ⌝ }
-{
-    word_at(entries, entry as usize * 2 + 1)
-}
-
-// The record of a node.
-pub fn node_at(nodes: &[u32], node: u32) -> records::Node
-    ensures { λ r. ⌜ nodeOf r ≡ nodeAt (now (nodes .entry)) node ⌝ }
-{
-    let at = node as usize * 5;
-    records::Node {
-        letter: word_at(nodes, at),
-        place: word_at(nodes, at + 1),
-        size: word_at(nodes, at + 2),
-        first: word_at(nodes, at + 3),
-        count: word_at(nodes, at + 4),
-    }
-}
-
-// How many entries of a store may be named, where so many are said to be used.
-fn entries_in(entries: &[u32], used: u32) -> u32
-    ensures { λ r. ⌜ (r ≡ Record.entriesIn (now (entries .entry)) used) × (r ≤ mostRecords) ⌝ }
-{
-    let held = entries.len() / 2;
-    let most = lesser(used, refusals::MOST_RECORDS);
-    if held < most as usize {
-        return held as u32;
-    }
-    most
-}
-
 // How many entries, from one on and up to so many, are each linked to the one behind it, as a reading leaves the leaves of a row.
 // None of these waits for the one before it.
 fn straight(entries: &[u32], room: u32, first: u32, steps: u32) -> u32
-    requires { ⌜ (room * 2 ≤ length (now entries)) × (room ≤ mostRecords) ⌝ }
+    requires { ⌜ (room * entryWidth ≤ length (now entries)) × (room ≤ mostRecords) ⌝ }
     ensures { λ r. ⌜ Straight (now (entries .entry)) room first steps r ⌝ }
 {
     let mut e = first;
@@ -95,7 +40,7 @@ fn straight(entries: &[u32], room: u32, first: u32, steps: u32) -> u32
         if room <= e {
             return i;
         }
-        if entries[e as usize * 2 + 1] != e + 1 {
+        if stores::next_at(entries, e) != e + 1 {
             return i;
         }
         e += 1;
@@ -108,8 +53,8 @@ fn straight(entries: &[u32], room: u32, first: u32, steps: u32) -> u32
 pub fn linked(entries: &[u32], used: u32, first: u32, count: u32) -> bool
     ensures { λ r. ⌜ r ≡ isSome (Record.chain (links (now (entries .entry)) used) count first) ⌝ }
 {
-    let room = entries_in(entries, used);
-    let steps = lesser(count, room + 1);
+    let room = stores::entries_in(entries, used);
+    let steps = stores::at_most(count as usize, room + 1);
     let ahead = straight(entries, room, first, steps);
     let mut e = first + ahead;
     let mut i = ahead;
@@ -117,7 +62,7 @@ pub fn linked(entries: &[u32], used: u32, first: u32, count: u32) -> bool
         if room <= e {
             return false;
         }
-        e = entries[e as usize * 2 + 1];
+        e = stores::next_at(entries, e);
         i += 1;
     }
     true
@@ -164,10 +109,10 @@ fn string_at(s: &[u8], nodes: &[u32], used: u32, node: u32) -> bool
     requires { ⌜ length (now s) ≤ mostBytes ⌝ }
     ensures { λ r. ⌜ r ≡ stringAt (now (s .entry)) (now (nodes .entry)) used node ⌝ }
 {
-    if records::nodes_in(nodes, used) <= node {
+    if stores::nodes_in(nodes, used) <= node {
         return false;
     }
-    let n = records::node_at(nodes, node);
+    let n = stores::node_at(nodes, node);
     if !is_string(n.letter) {
         return false;
     }
@@ -178,10 +123,10 @@ fn string_at(s: &[u8], nodes: &[u32], used: u32, node: u32) -> bool
 fn bytes_at(s: &[u8], nodes: &[u32], used: u32, node: u32) -> bool
     ensures { λ r. ⌜ r ≡ bytesAt (now (s .entry)) (now (nodes .entry)) used node ⌝ }
 {
-    if records::nodes_in(nodes, used) <= node {
+    if stores::nodes_in(nodes, used) <= node {
         return false;
     }
-    let n = records::node_at(nodes, node);
+    let n = stores::node_at(nodes, node);
     if !is_bytes(n.letter) {
         return false;
     }
@@ -196,18 +141,18 @@ fn named(s: &[u8], nodes: &[u32], entries: &[u32], used: Used, first: u32, count
     requires { ⌜ length (now s) ≤ mostBytes ⌝ }
     ensures { λ r. ⌜ Names (lent (now (s .entry)) (now (nodes .entry)) (now (entries .entry)) used) first count r ⌝ }
 {
-    let room = entries_in(entries, used.entries);
-    let steps = lesser(count, room + 1);
+    let room = stores::entries_in(entries, used.entries);
+    let steps = stores::at_most(count as usize, room + 1);
     let mut e = first;
     let mut i = 0u32;
     while i < steps {
         if room <= e {
             return false;
         }
-        if !string_at(s, nodes, used.nodes, child(entries, e)) {
+        if !string_at(s, nodes, used.nodes, stores::child_of(entries, e)) {
             return false;
         }
-        e = next(entries, e);
+        e = stores::next_of(entries, e);
         i += 1;
     }
     true
@@ -221,7 +166,7 @@ fn whole(s: &[u8], nodes: &[u32], entries: &[u32], used: Used, node: u32) -> boo
     if !records::sound_at(s, nodes, used.nodes, node) {
         return false;
     }
-    let n = node_at(nodes, node);
+    let n = stores::node_of(nodes, node);
     linked(entries, used.entries, n.first, n.count)
 }
 
@@ -230,7 +175,7 @@ fn names_fit(s: &[u8], nodes: &[u32], entries: &[u32], used: Used, node: u32) ->
     requires { ⌜ length (now s) ≤ mostBytes ⌝ }
     ensures { λ r. ⌜ NamesFit (lent (now (s .entry)) (now (nodes .entry)) (now (entries .entry)) used) node r ⌝ }
 {
-    let n = node_at(nodes, node);
+    let n = stores::node_of(nodes, node);
     if !is_tuple(n.letter) {
         return false;
     }
@@ -245,7 +190,7 @@ fn tuple_fits(s: &[u8], nodes: &[u32], entries: &[u32], used: Used, node: u32) -
     if !whole(s, nodes, entries, used, node) {
         return false;
     }
-    is_tuple(word_at(nodes, node as usize * 5))
+    is_tuple(stores::letter_of(nodes, node))
 }
 
 // Whether a part of a code is a sound tuple of sound strings.
@@ -283,10 +228,10 @@ fn parts_fit(s: &[u8], nodes: &[u32], entries: &[u32], used: Used, first: u32) -
     let mut e = first;
     let mut part = 0u32;
     while part < grammar::CODE_PARTS {
-        if !part_fits(s, nodes, entries, used, part, child(entries, e)) {
+        if !part_fits(s, nodes, entries, used, part, stores::child_of(entries, e)) {
             return false;
         }
-        e = next(entries, e);
+        e = stores::next_of(entries, e);
         part += 1;
     }
     true
@@ -299,19 +244,19 @@ pub fn part_at(entries: &[u32], first: u32, part: u32) -> u32
     let mut e = first;
     let mut i = 0u32;
     while i < part {
-        e = next(entries, e);
+        e = stores::next_of(entries, e);
         i += 1;
     }
-    child(entries, e)
+    stores::child_of(entries, e)
 }
 
 // As many kinds as local names, and an even number of code bytes.
 fn ends_fit(nodes: &[u32], entries: &[u32], first: u32) -> bool
     ensures { λ r. ⌜ r ≡ evenly (now (nodes .entry)) (partOf (now (entries .entry)) first codePart) (partOf (now (entries .entry)) first localsPart) (partOf (now (entries .entry)) first kindsPart) ⌝ }
 {
-    let code = node_at(nodes, part_at(entries, first, grammar::CODE_PART));
-    let locals = node_at(nodes, part_at(entries, first, grammar::LOCALS_PART));
-    let kinds = node_at(nodes, part_at(entries, first, grammar::KINDS_PART));
+    let code = stores::node_of(nodes, part_at(entries, first, grammar::CODE_PART));
+    let locals = stores::node_of(nodes, part_at(entries, first, grammar::LOCALS_PART));
+    let kinds = stores::node_of(nodes, part_at(entries, first, grammar::KINDS_PART));
     if locals.count != kinds.size {
         return false;
     }
@@ -326,7 +271,7 @@ pub fn look(s: &[u8], nodes: &[u32], entries: &[u32], used: Used, node: u32) -> 
     if !whole(s, nodes, entries, used, node) {
         return false;
     }
-    let n = node_at(nodes, node);
+    let n = stores::node_of(nodes, node);
     if n.letter != grammar::CODE_LETTER {
         return true;
     }
@@ -363,7 +308,7 @@ fn same_name(s: &[u8], nodes: &[u32], used: u32, place: u32, size: u32, name: u3
     requires { ⌜ (place + size ≤ length (now s)) × (stringAt (now s) (now nodes) used name ≡ true) ⌝ }
     ensures { λ r. ⌜ r ≡ sameBytes (contents (now (s .entry)) place size) (contents (now (s .entry)) (nodeAt (now (nodes .entry)) name .place) (nodeAt (now (nodes .entry)) name .size)) ⌝ }
 {
-    let n = records::node_at(nodes, name);
+    let n = stores::node_at(nodes, name);
     if size != n.size {
         return false;
     }
@@ -393,18 +338,18 @@ fn is_local(s: &[u8], nodes: &[u32], entries: &[u32], used: Used, locals: Locals
     requires { ⌜ Listed (lent (now s) (now nodes) (now entries) used) locals × (stringAt (now s) (now nodes) (used .nodes) node ≡ true) ⌝ }
     ensures { λ r. ⌜ r ≡ namedIn (lent (now (s .entry)) (now (nodes .entry)) (now (entries .entry)) used) (contentsOf (lent (now (s .entry)) (now (nodes .entry)) (now (entries .entry)) used) node) (localsIn (lent (now (s .entry)) (now (nodes .entry)) (now (entries .entry)) used) locals) ⌝ }
 {
-    let own = records::node_at(nodes, node);
+    let own = stores::node_at(nodes, node);
     let kinds = locals.kinds as usize;
     let count = locals.count;
     let mut e = locals.first;
     let mut i = 0u32;
     while i < count {
         let kind = s[kinds + i as usize];
-        let name = entries[e as usize * 2];
+        let name = stores::child_at(entries, e);
         if local_is(s, nodes, used.nodes, kind, name, own.place, own.size) {
             return true;
         }
-        e = entries[e as usize * 2 + 1];
+        e = stores::next_at(entries, e);
         i += 1;
     }
     false

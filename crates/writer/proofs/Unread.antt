@@ -8,11 +8,11 @@ use contract.Lifetimes.{Lfts}
 use denote.Ref.{now}
 use denote.Triple.Entry.{Args, Res}
 use denote.Triple.Clauses.{Lasts, atExit}
-use Rattle.grammar.specs.Record.{Tables}
+use Rattle.grammar.specs.Record.{Tables, tablesOf}
 use Rattle.writing.specs.Answer.{outputHeld, written}
 use Rattle.writing.specs.Unread.{SameRead}
 use Rattle.writing.proofs.Unread.{links-and-bytes-unread}
-use Rattle.writer.specs.Entry.{tablesOf, wroteOf}
+use Rattle.writer.specs.Entry.{wroteOf}
 use Rattle.writer.proofs.serialize_value.{ended}
 use Rattle.writer.proofs.serialize_value.Reads.{Learnt}
 

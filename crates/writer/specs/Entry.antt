@@ -4,15 +4,9 @@ use Prim.Native.Nat.{ℕ}
 use mathlib.Core.List.{List}
 use lib.ListN.{length}
 use Rattle.grammar.specs.Reading.{Answer, gives, stops}
-use Rattle.grammar.specs.Record.{Tables}
 use Rattle.writing.specs.Answer.{outputHeld}
 use Rattle.puts.specs.declared.Wrote.{Wrote}
 use Rattle.puts.specs.declared.Wrote.the-variants as wrote
-
--- the stores as they are lent
-abbrev pub tablesOf : (input nodes entries : List ℕ) → (usedNodes usedEntries : ℕ) → Tables
-tablesOf input nodes entries usedNodes usedEntries =
-    record { input = input; nodes = nodes; entries = entries; usedNodes = usedNodes; usedEntries = usedEntries }
 
 -- 01's number and values for each case: how many bytes were written, or the refusal's number and place
 abbrev pub wroteOf : Answer (List ℕ) → Wrote

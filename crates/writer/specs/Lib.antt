@@ -1,5 +1,1 @@
-pub mod Onward
-pub mod Heads
 pub mod Entry
-pub mod Leaves
-pub mod Groups

@@ -5,7 +5,7 @@ use mathlib.Core.Path.{ap, _∙_}
 use borrow.Author.Tests.{ne-eqb}
 use Rattle.grammar.specs.Letters.{letters, found, classOf}
 use Rattle.grammar.specs.Leaf as definition
-use Rattle.records.specs.Nodes.{nodeOf}
+use Rattle.stores.specs.Written.{nodeOf}
 use Rattle.records.proofs.Soundness.{fixed-held, double-held, long-held}
 use Rattle.leaf.specs.Answers.{toldOf}
 use native.Mathlib.Omega.{arith}

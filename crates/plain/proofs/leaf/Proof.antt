@@ -18,14 +18,14 @@ enum-known-o c = search needs
 enum-known-o-2 : tie.Need-enum-known-o-2
 enum-known-o-2 c = search needs
 
-add-t17 : tie.Need-add-t17
-add-t17 c = omega (arith, c .before .before .before .before .before .before .before .before .before .pre, (leaf-head (c .before .before .before .before .front .ensures) (c .before .before .o2 .given .1)))
-
 add-t18 : tie.Need-add-t18
-add-t18 c = search needs
+add-t18 c = omega (arith, c .before .before .before .before .before .before .before .before .before .pre, (leaf-head (c .before .before .before .before .front .ensures) (c .before .before .o2 .given .1)))
 
 add-t19 : tie.Need-add-t19
-add-t19 c = omega (arith, c .before .before .before .before .before .before .before .before .before .before .before .pre, (leaf-head (c .before .before .before .before .before .before .front .ensures) (c .before .before .before .before .o2 .given .1)))
+add-t19 c = search needs
+
+add-t20 : tie.Need-add-t20
+add-t20 c = omega (arith, c .before .before .before .before .before .before .before .before .before .before .before .pre, (leaf-head (c .before .before .before .before .before .before .front .ensures) (c .before .before .before .before .o2 .given .1)))
 
 write-node-requires : tie.Need-write-node-requires
 write-node-requires c κs = omega (arith, c .before .before .before .before .before .before .before .before .before .before .before .before .pre, (leaf-head (c .before .before .before .before .before .before .before .front .ensures) (c .before .before .before .before .before .o2 .given .1)))
@@ -62,9 +62,9 @@ leaf-spec =
     enum-told
     enum-known-o
     enum-known-o-2
-    add-t17
     add-t18
     add-t19
+    add-t20
     write-node-requires
     fill-slot-requires
     same-length

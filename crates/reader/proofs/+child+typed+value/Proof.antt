@@ -227,11 +227,11 @@ value-add-typed : (t : ℕ) → value-lts.Need-add-typed (value-calls t) (value-
 value-add-typed t c =
     omega (arith, c .before .before .before .before .before .before .before .before .before .before .pre .1, (head-in (c .before .before .before .before .front .ensures) (c .before .before .o3 .given .1)))
 
-value-add-t30 : (t : ℕ) → value-lts.Need-add-t30 (value-calls t) (value-at t) value.Post
-value-add-t30 t c = search needs
-
 value-add-t31 : (t : ℕ) → value-lts.Need-add-t31 (value-calls t) (value-at t) value.Post
-value-add-t31 t c =
+value-add-t31 t c = search needs
+
+value-add-t32 : (t : ℕ) → value-lts.Need-add-t32 (value-calls t) (value-at t) value.Post
+value-add-t32 t c =
     omega (arith, c .before .before .before .before .before .before .before .before .before .before .before .pre .1, (head-in (c .before .before .before .before .before .front .ensures) (c .before .before .before .o3 .given .1)))
 
 value-sub-typed : (t : ℕ) → value-lts.Need-sub-typed (value-calls t) (value-at t) value.Post
@@ -354,8 +354,8 @@ pub +child+typed+value-spec : {M : Type 1} → statement M
     (value-enum-known-o-2 t)
     (value-enum-known-o-3 t)
     (value-add-typed t)
-    (value-add-t30 t)
     (value-add-t31 t)
+    (value-add-t32 t)
     (value-sub-typed t)
     (value-typed-requires t)
     (value-enum-known-k t)

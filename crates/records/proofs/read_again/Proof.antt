@@ -2,7 +2,7 @@
 -- Assumes nothing.
 use borrow.Author.Needs.{needs}
 use Rattle.records.proofs.Laws.{again-refused, again-differs, again-counted}
-use Rattle.records.specs.Nodes.{nodeOf}
+use Rattle.stores.specs.Written.{nodeOf}
 use Rattle.records.proofs.read_again.Statement.{statement}
 use Rattle.records.proofs.read_again.Tie as tie
 

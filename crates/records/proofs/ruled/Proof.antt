@@ -4,7 +4,7 @@ use borrow.Author.Needs.{needs}
 use Prim.Native.Nat.{_≤_}
 use borrow.Author.Tests.{lt-leb, le-leb, eq-eqb, ne-eqb}
 use Rattle.fields.specs.Classes.{classes, classAt}
-use Rattle.records.specs.Nodes.{nodeOf}
+use Rattle.stores.specs.Written.{nodeOf}
 use Rattle.records.proofs.Laws.{and-true, not-kept}
 use native.Mathlib.Omega.{arith}
 use Rattle.records.proofs.ruled.Statement.{statement}

@@ -4,7 +4,7 @@ use borrow.Author.Needs.{needs}
 use mathlib.Core.Path.{ap, _∙_}
 use borrow.Author.Tests.{lt-leb, le-leb}
 use Rattle.grammar.specs.Record as definition
-use Rattle.records.specs.Nodes.{nodeOf}
+use Rattle.stores.specs.Written.{nodeOf}
 use Rattle.records.proofs.sound.Statement.{statement}
 use Rattle.records.proofs.sound.Tie as tie
 

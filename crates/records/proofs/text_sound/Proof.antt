@@ -7,7 +7,8 @@ use borrow.Author.Tests.{lt-leb, le-leb, eq-eqb, ne-eqb}
 use Rattle.wtf8.specs.Forms.{wellFormed}
 use Rattle.grammar.specs.Fields.{contents}
 use Rattle.grammar.specs.Record as definition
-use Rattle.records.specs.Nodes.{nodeOf, tooLong}
+use Rattle.stores.specs.Written.{nodeOf}
+use Rattle.records.specs.Texts.{tooLong}
 use Rattle.records.proofs.Laws.{text-ruled}
 use Rattle.records.proofs.text_sound.Statement.{statement}
 use Rattle.records.proofs.text_sound.Tie as tie

@@ -2,6 +2,7 @@
 -- Assumes nothing.
 use Rattle.stores.proofs.Records.{node-stores}
 use native.Mathlib.Omega.{arith}
+use Rattle.stores.specs.Written.{nodeOf}
 use lib.ListN.{length-set}
 use borrow.Author.Needs.{needs}
 use Rattle.stores.proofs.write_node.Statement.{statement}
@@ -56,7 +57,7 @@ same-length : tie.Need-same-length
 same-length c = search needs
 
 returns : tie.Need-returns
-returns c = node-stores (c .args .nodes .now) (c .args .n) (c .args .letter) (c .args .place) (c .args .size) (c .args .first) (c .args .count)
+returns c = node-stores (c .args .nodes .now) (c .args .n) (nodeOf (c .args .node))
 
 pub write-node-spec : {M : Type 1} → statement M
 write-node-spec =

@@ -3,7 +3,7 @@ use Rattle.tables.proofs.Suited.{and-false, bytes-told}
 use Rattle.grammar.specs.State.{Node, nodeAt}
 use Rattle.grammar.specs.Record.{soundAt}
 use Rattle.grammar.specs.Letters.{isBytes}
-use Rattle.records.specs.Nodes.{nodeOf}
+use Rattle.stores.specs.Written.{nodeOf}
 use borrow.Author.Tests.{not-true, not-false, le-ltb, lt-leb, le-leb}
 use lib.Dec.{eqb}
 use native.Mathlib.Omega.{arith}

@@ -11,36 +11,36 @@ use Rattle.tables.proofs.ends_fit.Tie as tie
 part-at-requires : tie.Need-part-at-requires
 part-at-requires c κs = search needs
 
-node-at-requires : tie.Need-node-at-requires
-node-at-requires c κs = search needs
+node-of-requires : tie.Need-node-of-requires
+node-of-requires c κs = search needs
 
 part-at-requires-2 : tie.Need-part-at-requires-2
 part-at-requires-2 c κs = search needs
 
-node-at-requires-2 : tie.Need-node-at-requires-2
-node-at-requires-2 c κs = search needs
+node-of-requires-2 : tie.Need-node-of-requires-2
+node-of-requires-2 c κs = search needs
 
 part-at-requires-3 : tie.Need-part-at-requires-3
 part-at-requires-3 c κs = search needs
 
-node-at-requires-3 : tie.Need-node-at-requires-3
-node-at-requires-3 c κs = search needs
+node-of-requires-3 : tie.Need-node-of-requires-3
+node-of-requires-3 c κs = search needs
 
 returns : tie.Need-returns
-returns c = ends-not (c .before .before .before .before .before .before .before .before .before .before .before .args .nodes .now) (c .before .before .before .before .before .before .before .before .part-at .ensures) (c .before .before .before .before .before .before .part-at2 .ensures) (c .before .before .before .before .part-at3 .ensures) (ap (λ (m : Node). m .count) (c .before .before .before .before .before .node-at2 .ensures)) (ap (λ (m : Node). m .size) (c .before .before .before .node-at3 .ensures)) (λ e. omega arith)
+returns c = ends-not (c .before .before .before .before .before .before .before .before .before .before .before .args .nodes .now) (c .before .before .before .before .before .before .before .before .part-at .ensures) (c .before .before .before .before .before .before .part-at2 .ensures) (c .before .before .before .before .part-at3 .ensures) (ap (λ (m : Node). m .count) (c .before .before .before .before .before .node-of2 .ensures)) (ap (λ (m : Node). m .size) (c .before .before .before .node-of3 .ensures)) (λ e. omega arith)
 
 returns-2 : tie.Need-returns-2
-returns-2 c = ends-so (c .before .before .before .before .before .before .before .before .before .before .before .before .args .nodes .now) (c .before .before .before .before .before .before .before .before .before .part-at .ensures) (c .before .before .before .before .before .before .before .part-at2 .ensures) (c .before .before .before .before .before .part-at3 .ensures) (ap (λ (m : Node). m .size) (c .before .before .before .before .before .before .before .before .node-at .ensures)) (ap (λ (m : Node). m .count) (c .before .before .before .before .before .before .node-at2 .ensures)) (ap (λ (m : Node). m .size) (c .before .before .before .before .node-at3 .ensures)) (omega arith)
+returns-2 c = ends-so (c .before .before .before .before .before .before .before .before .before .before .before .before .args .nodes .now) (c .before .before .before .before .before .before .before .before .before .part-at .ensures) (c .before .before .before .before .before .before .before .part-at2 .ensures) (c .before .before .before .before .before .part-at3 .ensures) (ap (λ (m : Node). m .size) (c .before .before .before .before .before .before .before .before .node-of .ensures)) (ap (λ (m : Node). m .count) (c .before .before .before .before .before .before .node-of2 .ensures)) (ap (λ (m : Node). m .size) (c .before .before .before .before .node-of3 .ensures)) (omega arith)
 
 pub ends-fit-spec : {M : Type 1} → statement M
 ends-fit-spec =
     tie.close
     (tie.spec
     part-at-requires
-    node-at-requires
+    node-of-requires
     part-at-requires-2
-    node-at-requires-2
+    node-of-requires-2
     part-at-requires-3
-    node-at-requires-3
+    node-of-requires-3
     returns
     returns-2)

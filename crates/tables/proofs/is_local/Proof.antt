@@ -4,7 +4,7 @@ use Rattle.tables.specs.Looking.{lent}
 use Rattle.grammar.specs.Fields.{contents}
 use Rattle.grammar.specs.State.{Node}
 use native.Mathlib.Omega.{arith}
-use mathlib.Core.Path.{refl, ap}
+use mathlib.Core.Path.{ap}
 use Prim.Native.Nat.{_-_}
 use borrow.Author.Needs.{needs}
 use Rattle.tables.proofs.is_local.Statement.{statement}
@@ -42,17 +42,8 @@ add-kind c = omega (arith, c .before .before .before .before .before .before .be
 shared-slice-read-kind : tie.Need-shared-slice-read-kind Inv-loop μ-loop
 shared-slice-read-kind c = omega (arith, c .before .before .before .before .before .before .before .before .pre .0 .kinds)
 
-cast-name : tie.Need-cast-name Inv-loop μ-loop
-cast-name c = search (along-entry _ _ _ (c .before .before .loop .inv) (c .before .loop-test .taken), needs)
-
-mul-name : tie.Need-mul-name Inv-loop μ-loop
-mul-name c = search (along-entry _ _ _ (c .before .before .loop .inv) (c .before .loop-test .taken), needs)
-
-mul-name-2 : tie.Need-mul-name-2 Inv-loop μ-loop
-mul-name-2 c = search (along-entry _ _ _ (c .before .before .loop .inv) (c .before .loop-test .taken), needs)
-
-shared-slice-read-name : tie.Need-shared-slice-read-name Inv-loop μ-loop
-shared-slice-read-name c = omega (arith, along-entry _ _ _ (c .before .before .before .loop .inv) (c .before .before .loop-test .taken))
+child-at-requires : tie.Need-child-at-requires Inv-loop μ-loop
+child-at-requires c κs = along-entry _ _ _ (c .before .before .loop .inv) (c .before .loop-test .taken)
 
 local-is-requires : tie.Need-local-is-requires Inv-loop μ-loop
 local-is-requires c κs =
@@ -62,7 +53,7 @@ local-is-requires c κs =
     let name = contents (a .s .now) (own .place) (own .size) in
     let p = ap (λ (m : Node). m .place) (c .before .before .before .before .before .node-at .ensures) in
     let m = ap (λ (m : Node). m .size) (c .before .before .before .before .before .node-at .ensures) in
-    (omega (arith, string-within (a .s .now) (a .nodes .now) (a .used .nodes) (a .node) (c .before .before .before .before .before .before .before .before .before .pre .1)), (along-next t (a .locals) (asks t name) _ (c .before .before .before .before .before .before .before .before .before .pre .0) (c .before .before .before .loop .inv) (c .before .before .loop-test .taken) refl) .text)
+    (omega (arith, string-within (a .s .now) (a .nodes .now) (a .used .nodes) (a .node) (c .before .before .before .before .before .before .before .before .before .pre .1)), (along-next t (a .locals) (asks t name) _ (c .before .before .before .before .before .before .before .before .before .pre .0) (c .before .before .before .loop .inv) (c .before .before .loop-test .taken) (c .child-at .ensures)) .text)
 
 returns : tie.Need-returns Inv-loop μ-loop
 returns c =
@@ -71,23 +62,11 @@ returns c =
     let own = c .before .before .before .before .before .before .before .node-at .result in
     let name = contents (a .s .now) (own .place) (own .size) in
     answer-of t (a .locals) (a .node)
-    (asks-found t name (a .locals) (along-next t (a .locals) (asks t name) _ (c .before .before .before .before .before .before .before .before .before .before .before .pre .0) (c .before .before .before .before .before .loop .inv) (c .before .before .before .before .loop-test .taken) refl) (c .before .local-is .ensures) (c .if1 .taken))
+    (asks-found t name (a .locals) (along-next t (a .locals) (asks t name) _ (c .before .before .before .before .before .before .before .before .before .before .before .pre .0) (c .before .before .before .before .before .loop .inv) (c .before .before .before .before .loop-test .taken) (c .before .before .child-at .ensures)) (c .before .local-is .ensures) (c .if1 .taken))
     (ap (λ (m : Node). m .place) (c .before .before .before .before .before .before .before .node-at .ensures)) (ap (λ (m : Node). m .size) (c .before .before .before .before .before .before .before .node-at .ensures))
 
-cast-e : tie.Need-cast-e Inv-loop μ-loop
-cast-e c = search (along-entry _ _ _ (c .before .before .before .before .before .loop .inv) (c .before .before .before .before .loop-test .taken), needs)
-
-mul-e : tie.Need-mul-e Inv-loop μ-loop
-mul-e c = search (along-entry _ _ _ (c .before .before .before .before .before .loop .inv) (c .before .before .before .before .loop-test .taken), needs)
-
-add-e : tie.Need-add-e Inv-loop μ-loop
-add-e c = search (along-entry _ _ _ (c .before .before .before .before .before .loop .inv) (c .before .before .before .before .loop-test .taken), needs)
-
-mul-e-2 : tie.Need-mul-e-2 Inv-loop μ-loop
-mul-e-2 c = search (along-entry _ _ _ (c .before .before .before .before .before .loop .inv) (c .before .before .before .before .loop-test .taken), needs)
-
-shared-slice-read-e : tie.Need-shared-slice-read-e Inv-loop μ-loop
-shared-slice-read-e c = omega (arith, along-entry _ _ _ (c .before .before .before .before .before .before .loop .inv) (c .before .before .before .before .before .loop-test .taken))
+next-at-requires : tie.Need-next-at-requires Inv-loop μ-loop
+next-at-requires c κs = along-entry _ _ _ (c .before .before .before .before .before .loop .inv) (c .before .before .before .before .loop-test .taken)
 
 add-i : tie.Need-add-i Inv-loop μ-loop
 add-i c = search needs
@@ -101,7 +80,7 @@ loop-again c =
     let t = lent (a .s .now) (a .nodes .now) (a .entries .now) (a .used) in
     let own = c .before .before .before .before .before .before .before .before .node-at .result in
     let name = contents (a .s .now) (own .place) (own .size) in
-    asks-more t name (a .locals) (along-next t (a .locals) (asks t name) _ (c .before .before .before .before .before .before .before .before .before .before .before .before .pre .0) (c .before .before .before .before .before .before .loop .inv) (c .before .before .before .before .before .loop-test .taken) refl) (c .before .before .local-is .ensures) (c .before .if1 .left) (c .before .before .before .before .before .loop-test .taken) refl
+    asks-more t name (a .locals) (along-next t (a .locals) (asks t name) _ (c .before .before .before .before .before .before .before .before .before .before .before .before .pre .0) (c .before .before .before .before .before .before .loop .inv) (c .before .before .before .before .before .loop-test .taken) (c .before .before .before .child-at .ensures)) (c .before .before .local-is .ensures) (c .before .if1 .left) (c .before .before .before .before .before .loop-test .taken) (c .next-at .ensures)
 
 returns-2 : tie.Need-returns-2 Inv-loop μ-loop
 returns-2 c =
@@ -124,17 +103,10 @@ is-local-spec =
     cast-kind
     add-kind
     shared-slice-read-kind
-    cast-name
-    mul-name
-    mul-name-2
-    shared-slice-read-name
+    child-at-requires
     local-is-requires
     returns
-    cast-e
-    mul-e
-    add-e
-    mul-e-2
-    shared-slice-read-e
+    next-at-requires
     add-i
     loop-less
     loop-again

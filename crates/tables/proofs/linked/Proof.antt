@@ -1,7 +1,6 @@
 -- Carried by `Walking`: what is left of the walk still tells the same; entries that are linked straight ahead are walked already.
 -- Assumes nothing.
 use Rattle.tables.proofs.Chains.{Walking, walk-stop, walk-more, walk-end, straight-fits, straight-walk, inside, onto, outside, within-room, linked-is}
-use mathlib.Core.Path.{refl}
 use native.Mathlib.Omega.{arith}
 use Prim.Native.Nat.{_-_}
 use borrow.Author.Needs.{needs}
@@ -17,11 +16,11 @@ abbrev μ-loop : tie.MeasureT-loop
 entries-in-requires : tie.Need-entries-in-requires Inv-loop μ-loop
 entries-in-requires c κs = search needs
 
-add-lesser : tie.Need-add-lesser Inv-loop μ-loop
-add-lesser c = search needs
+add-at-most : tie.Need-add-at-most Inv-loop μ-loop
+add-at-most c = search needs
 
-lesser-requires : tie.Need-lesser-requires Inv-loop μ-loop
-lesser-requires c κs = search needs
+at-most-requires : tie.Need-at-most-requires Inv-loop μ-loop
+at-most-requires c κs = search needs
 
 straight-requires : tie.Need-straight-requires Inv-loop μ-loop
 straight-requires c κs = (omega (arith, c .before .entries-in .ensures .0), c .before .entries-in .ensures .1)
@@ -35,23 +34,11 @@ loop-holds c = straight-walk (c .before .before .before .before .args .used) (c 
 returns : tie.Need-returns Inv-loop μ-loop
 returns c =
     let a = c .before .before .before .before .before .before .before .args in
-    linked-is (a .entries .now) (a .used) (a .count) (a .first) (c .before .before .before .before .before .entries-in .ensures .0) (c .before .before .before .before .lesser .ensures)
+    linked-is (a .entries .now) (a .used) (a .count) (a .first) (c .before .before .before .before .before .entries-in .ensures .0) (c .before .before .before .before .at-most .ensures)
     (walk-stop _ _ _ _ (c .before .before .loop .inv) (c .before .loop-test .taken) (outside (a .entries .now) (a .used) (c .before .before .loop .e) (c .before .before .before .before .before .entries-in .ensures .0) (omega arith)))
 
-cast-e : tie.Need-cast-e Inv-loop μ-loop
-cast-e c = search needs
-
-mul-e : tie.Need-mul-e Inv-loop μ-loop
-mul-e c = search needs
-
-add-e-2 : tie.Need-add-e-2 Inv-loop μ-loop
-add-e-2 c = search needs
-
-mul-e-2 : tie.Need-mul-e-2 Inv-loop μ-loop
-mul-e-2 c = search needs
-
-shared-slice-read-e : tie.Need-shared-slice-read-e Inv-loop μ-loop
-shared-slice-read-e c = search needs
+next-at-requires : tie.Need-next-at-requires Inv-loop μ-loop
+next-at-requires c κs = search needs
 
 add-i : tie.Need-add-i Inv-loop μ-loop
 add-i c = search needs
@@ -62,12 +49,12 @@ loop-less c = search needs
 loop-again : tie.Need-loop-again Inv-loop μ-loop
 loop-again c =
     let a = c .before .before .before .before .before .before .before .before .args in
-    walk-more _ _ _ _ (c .before .before .before .loop .inv) (c .before .before .loop-test .taken) (within-room (a .entries .now) (a .used) (c .before .before .before .loop .e) (c .before .before .before .before .before .before .entries-in .ensures .0) (omega arith)) refl
+    walk-more _ _ _ _ (c .before .before .before .loop .inv) (c .before .before .loop-test .taken) (within-room (a .entries .now) (a .used) (c .before .before .before .loop .e) (c .before .before .before .before .before .before .entries-in .ensures .0) (omega arith)) (c .next-at .ensures)
 
 returns-2 : tie.Need-returns-2 Inv-loop μ-loop
 returns-2 c =
     let a = c .before .before .before .before .before .before .args in
-    linked-is (a .entries .now) (a .used) (a .count) (a .first) (c .before .before .before .before .entries-in .ensures .0) (c .before .before .before .lesser .ensures) (walk-end _ _ _ _ (c .before .loop .inv) (omega arith))
+    linked-is (a .entries .now) (a .used) (a .count) (a .first) (c .before .before .before .before .entries-in .ensures .0) (c .before .before .before .at-most .ensures) (walk-end _ _ _ _ (c .before .loop .inv) (omega arith))
 
 pub linked-spec : {M : Type 1} → statement M
 linked-spec =
@@ -76,17 +63,13 @@ linked-spec =
     Inv-loop
     μ-loop
     entries-in-requires
-    add-lesser
-    lesser-requires
+    add-at-most
+    at-most-requires
     straight-requires
     add-e
     loop-holds
     returns
-    cast-e
-    mul-e
-    add-e-2
-    mul-e-2
-    shared-slice-read-e
+    next-at-requires
     add-i
     loop-less
     loop-again

@@ -18,29 +18,29 @@ abbrev μ-loop : tie.MeasureT-loop
 entries-in-requires : tie.Need-entries-in-requires Inv-loop μ-loop
 entries-in-requires c κs = search needs
 
-add-lesser : tie.Need-add-lesser Inv-loop μ-loop
-add-lesser c = search needs
+add-at-most : tie.Need-add-at-most Inv-loop μ-loop
+add-at-most c = search needs
 
-lesser-requires : tie.Need-lesser-requires Inv-loop μ-loop
-lesser-requires c κs = search needs
+at-most-requires : tie.Need-at-most-requires Inv-loop μ-loop
+at-most-requires c κs = search needs
 
 loop-holds : tie.Need-loop-holds Inv-loop μ-loop
 loop-holds c = walk-start _ _ _ _
 
 returns : tie.Need-returns Inv-loop μ-loop
-returns c = named-are (lent (c .before .before .before .before .before .before .before .before .args .s .now) (c .before .before .before .before .before .before .before .before .args .nodes .now) (c .before .before .before .before .before .before .before .before .args .entries .now) (c .before .before .before .before .before .before .before .before .args .used)) (c .before .before .before .before .before .before .before .before .args .count) (c .before .before .before .before .before .before .before .before .args .first) (c .before .before .before .before .entries-in .ensures .0) (c .before .before .before .lesser .ensures) (walk-stop _ _ _ _ (c .before .before .loop .inv) (c .before .loop-test .taken) (spelt-outside (lent (c .before .before .before .before .before .before .before .before .args .s .now) (c .before .before .before .before .before .before .before .before .args .nodes .now) (c .before .before .before .before .before .before .before .before .args .entries .now) (c .before .before .before .before .before .before .before .before .args .used)) (c .before .before .loop .e) (c .before .before .before .before .entries-in .ensures .0) (omega arith)))
+returns c = named-are (lent (c .before .before .before .before .before .before .before .before .args .s .now) (c .before .before .before .before .before .before .before .before .args .nodes .now) (c .before .before .before .before .before .before .before .before .args .entries .now) (c .before .before .before .before .before .before .before .before .args .used)) (c .before .before .before .before .before .before .before .before .args .count) (c .before .before .before .before .before .before .before .before .args .first) (c .before .before .before .before .entries-in .ensures .0) (c .before .before .before .at-most .ensures) (walk-stop _ _ _ _ (c .before .before .loop .inv) (c .before .loop-test .taken) (spelt-outside (lent (c .before .before .before .before .before .before .before .before .args .s .now) (c .before .before .before .before .before .before .before .before .args .nodes .now) (c .before .before .before .before .before .before .before .before .args .entries .now) (c .before .before .before .before .before .before .before .before .args .used)) (c .before .before .loop .e) (c .before .before .before .before .entries-in .ensures .0) (omega arith)))
 
-child-requires : tie.Need-child-requires Inv-loop μ-loop
-child-requires c κs = search needs
+child-of-requires : tie.Need-child-of-requires Inv-loop μ-loop
+child-of-requires c κs = search needs
 
 string-at-requires : tie.Need-string-at-requires Inv-loop μ-loop
 string-at-requires c κs = search needs
 
 returns-2 : tie.Need-returns-2 Inv-loop μ-loop
-returns-2 c = named-are (lent (c .before .before .before .before .before .before .before .before .before .before .before .args .s .now) (c .before .before .before .before .before .before .before .before .before .before .before .args .nodes .now) (c .before .before .before .before .before .before .before .before .before .before .before .args .entries .now) (c .before .before .before .before .before .before .before .before .before .before .before .args .used)) (c .before .before .before .before .before .before .before .before .before .before .before .args .count) (c .before .before .before .before .before .before .before .before .before .before .before .args .first) (c .before .before .before .before .before .before .before .entries-in .ensures .0) (c .before .before .before .before .before .before .lesser .ensures) (walk-stop _ _ _ _ (c .before .before .before .before .before .loop .inv) (c .before .before .before .before .loop-test .taken) (spelt-as (lent (c .before .before .before .before .before .before .before .before .before .before .before .args .s .now) (c .before .before .before .before .before .before .before .before .before .before .before .args .nodes .now) (c .before .before .before .before .before .before .before .before .before .before .before .args .entries .now) (c .before .before .before .before .before .before .before .before .before .before .before .args .used)) (c .before .before .before .before .before .loop .e) (c .before .before .before .before .before .before .before .entries-in .ensures .0) (omega arith) (c .before .before .child .result) (c .before .before .child .ensures) (c .before .string-at .ensures) ∙ not-true _ (c .if2 .taken)))
+returns-2 c = named-are (lent (c .before .before .before .before .before .before .before .before .before .before .before .args .s .now) (c .before .before .before .before .before .before .before .before .before .before .before .args .nodes .now) (c .before .before .before .before .before .before .before .before .before .before .before .args .entries .now) (c .before .before .before .before .before .before .before .before .before .before .before .args .used)) (c .before .before .before .before .before .before .before .before .before .before .before .args .count) (c .before .before .before .before .before .before .before .before .before .before .before .args .first) (c .before .before .before .before .before .before .before .entries-in .ensures .0) (c .before .before .before .before .before .before .at-most .ensures) (walk-stop _ _ _ _ (c .before .before .before .before .before .loop .inv) (c .before .before .before .before .loop-test .taken) (spelt-as (lent (c .before .before .before .before .before .before .before .before .before .before .before .args .s .now) (c .before .before .before .before .before .before .before .before .before .before .before .args .nodes .now) (c .before .before .before .before .before .before .before .before .before .before .before .args .entries .now) (c .before .before .before .before .before .before .before .before .before .before .before .args .used)) (c .before .before .before .before .before .loop .e) (c .before .before .before .before .before .before .before .entries-in .ensures .0) (omega arith) (c .before .before .child-of .result) (c .before .before .child-of .ensures) (c .before .string-at .ensures) ∙ not-true _ (c .if2 .taken)))
 
-next-requires : tie.Need-next-requires Inv-loop μ-loop
-next-requires c κs = search needs
+next-of-requires : tie.Need-next-of-requires Inv-loop μ-loop
+next-of-requires c κs = search needs
 
 add-i : tie.Need-add-i Inv-loop μ-loop
 add-i c = search needs
@@ -49,10 +49,10 @@ loop-less : tie.Need-loop-less Inv-loop μ-loop
 loop-less c = search needs
 
 loop-again : tie.Need-loop-again Inv-loop μ-loop
-loop-again c = walk-more _ _ _ _ (c .before .before .before .before .before .before .loop .inv) (c .before .before .before .before .before .loop-test .taken) (spelt-as (lent (c .before .before .before .before .before .before .before .before .before .before .before .before .args .s .now) (c .before .before .before .before .before .before .before .before .before .before .before .before .args .nodes .now) (c .before .before .before .before .before .before .before .before .before .before .before .before .args .entries .now) (c .before .before .before .before .before .before .before .before .before .before .before .before .args .used)) (c .before .before .before .before .before .before .loop .e) (c .before .before .before .before .before .before .before .before .entries-in .ensures .0) (omega arith) (c .before .before .before .child .result) (c .before .before .before .child .ensures) (c .before .before .string-at .ensures) ∙ not-false _ (c .before .if2 .left)) (c .next .ensures)
+loop-again c = walk-more _ _ _ _ (c .before .before .before .before .before .before .loop .inv) (c .before .before .before .before .before .loop-test .taken) (spelt-as (lent (c .before .before .before .before .before .before .before .before .before .before .before .before .args .s .now) (c .before .before .before .before .before .before .before .before .before .before .before .before .args .nodes .now) (c .before .before .before .before .before .before .before .before .before .before .before .before .args .entries .now) (c .before .before .before .before .before .before .before .before .before .before .before .before .args .used)) (c .before .before .before .before .before .before .loop .e) (c .before .before .before .before .before .before .before .before .entries-in .ensures .0) (omega arith) (c .before .before .before .child-of .result) (c .before .before .before .child-of .ensures) (c .before .before .string-at .ensures) ∙ not-false _ (c .before .if2 .left)) (c .next-of .ensures)
 
 returns-3 : tie.Need-returns-3 Inv-loop μ-loop
-returns-3 c = named-are (lent (c .before .before .before .before .before .before .before .args .s .now) (c .before .before .before .before .before .before .before .args .nodes .now) (c .before .before .before .before .before .before .before .args .entries .now) (c .before .before .before .before .before .before .before .args .used)) (c .before .before .before .before .before .before .before .args .count) (c .before .before .before .before .before .before .before .args .first) (c .before .before .before .entries-in .ensures .0) (c .before .before .lesser .ensures) (walk-end _ _ _ _ (c .before .loop .inv) (omega arith))
+returns-3 c = named-are (lent (c .before .before .before .before .before .before .before .args .s .now) (c .before .before .before .before .before .before .before .args .nodes .now) (c .before .before .before .before .before .before .before .args .entries .now) (c .before .before .before .before .before .before .before .args .used)) (c .before .before .before .before .before .before .before .args .count) (c .before .before .before .before .before .before .before .args .first) (c .before .before .before .entries-in .ensures .0) (c .before .before .at-most .ensures) (walk-end _ _ _ _ (c .before .loop .inv) (omega arith))
 
 pub named-spec : {M : Type 1} → statement M
 named-spec =
@@ -61,14 +61,14 @@ named-spec =
     Inv-loop
     μ-loop
     entries-in-requires
-    add-lesser
-    lesser-requires
+    add-at-most
+    at-most-requires
     loop-holds
     returns
-    child-requires
+    child-of-requires
     string-at-requires
     returns-2
-    next-requires
+    next-of-requires
     add-i
     loop-less
     loop-again

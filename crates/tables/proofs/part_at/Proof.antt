@@ -15,8 +15,8 @@ abbrev μ-loop : tie.MeasureT-loop
 loop-holds : tie.Need-loop-holds Inv-loop μ-loop
 loop-holds c = reaching-none _ _ _
 
-next-requires : tie.Need-next-requires Inv-loop μ-loop
-next-requires c κs = search needs
+next-of-requires : tie.Need-next-of-requires Inv-loop μ-loop
+next-of-requires c κs = search needs
 
 add-i : tie.Need-add-i Inv-loop μ-loop
 add-i c = search needs
@@ -25,13 +25,13 @@ loop-less : tie.Need-loop-less Inv-loop μ-loop
 loop-less c = search needs
 
 loop-again : tie.Need-loop-again Inv-loop μ-loop
-loop-again c = reaching-more (c .before .before .loop .inv) (c .before .loop-test .taken) (c .next .ensures)
+loop-again c = reaching-more (c .before .before .loop .inv) (c .before .loop-test .taken) (c .next-of .ensures)
 
-child-requires : tie.Need-child-requires Inv-loop μ-loop
-child-requires c κs = search needs
+child-of-requires : tie.Need-child-of-requires Inv-loop μ-loop
+child-of-requires c κs = search needs
 
 returns : tie.Need-returns Inv-loop μ-loop
-returns c = reaching-end (c .before .before .loop .inv) (omega arith) (c .child .ensures)
+returns c = reaching-end (c .before .before .loop .inv) (omega arith) (c .child-of .ensures)
 
 pub part-at-spec : {M : Type 1} → statement M
 part-at-spec =
@@ -40,9 +40,9 @@ part-at-spec =
     Inv-loop
     μ-loop
     loop-holds
-    next-requires
+    next-of-requires
     add-i
     loop-less
     loop-again
-    child-requires
+    child-of-requires
     returns)

@@ -17,17 +17,17 @@ abbrev μ-loop : tie.MeasureT-loop
 loop-holds : tie.Need-loop-holds Inv-loop μ-loop
 loop-holds c = fitting-none _ _
 
-child-requires : tie.Need-child-requires Inv-loop μ-loop
-child-requires c κs = search needs
+child-of-requires : tie.Need-child-of-requires Inv-loop μ-loop
+child-of-requires c κs = search needs
 
 part-fits-requires : tie.Need-part-fits-requires Inv-loop μ-loop
 part-fits-requires c κs = search needs
 
 returns : tie.Need-returns Inv-loop μ-loop
-returns c = fitting-not (lent (c .before .before .before .before .before .before .before .before .args .s .now) (c .before .before .before .before .before .before .before .before .args .nodes .now) (c .before .before .before .before .before .before .before .before .args .entries .now) (c .before .before .before .before .before .before .before .before .args .used)) (c .before .before .before .before .before .before .before .before .args .first) (c .before .before .before .before .loop .part) (c .before .before .before .before .loop .e) (c .before .before .child .result) (c .before .before .before .before .loop .inv) (c .before .before .before .loop-test .taken) (c .before .before .child .ensures) (c .before .part-fits .ensures) (not-true _ (c .if1 .taken))
+returns c = fitting-not (lent (c .before .before .before .before .before .before .before .before .args .s .now) (c .before .before .before .before .before .before .before .before .args .nodes .now) (c .before .before .before .before .before .before .before .before .args .entries .now) (c .before .before .before .before .before .before .before .before .args .used)) (c .before .before .before .before .before .before .before .before .args .first) (c .before .before .before .before .loop .part) (c .before .before .before .before .loop .e) (c .before .before .child-of .result) (c .before .before .before .before .loop .inv) (c .before .before .before .loop-test .taken) (c .before .before .child-of .ensures) (c .before .part-fits .ensures) (not-true _ (c .if1 .taken))
 
-next-requires : tie.Need-next-requires Inv-loop μ-loop
-next-requires c κs = search needs
+next-of-requires : tie.Need-next-of-requires Inv-loop μ-loop
+next-of-requires c κs = search needs
 
 add-part : tie.Need-add-part Inv-loop μ-loop
 add-part c = search needs
@@ -36,7 +36,7 @@ loop-less : tie.Need-loop-less Inv-loop μ-loop
 loop-less c = search needs
 
 loop-again : tie.Need-loop-again Inv-loop μ-loop
-loop-again c = fitting-more (lent (c .before .before .before .before .before .before .before .before .before .args .s .now) (c .before .before .before .before .before .before .before .before .before .args .nodes .now) (c .before .before .before .before .before .before .before .before .before .args .entries .now) (c .before .before .before .before .before .before .before .before .before .args .used)) (c .before .before .before .before .before .before .before .before .before .args .first) (c .before .before .before .before .before .loop .part) (c .before .before .before .before .before .loop .e) (c .next .result) (c .before .before .before .child .result) (c .before .before .before .before .before .loop .inv) (c .before .before .before .before .loop-test .taken) (c .before .before .before .child .ensures) (c .before .before .part-fits .ensures) (not-false _ (c .before .if1 .left)) (c .next .ensures)
+loop-again c = fitting-more (lent (c .before .before .before .before .before .before .before .before .before .args .s .now) (c .before .before .before .before .before .before .before .before .before .args .nodes .now) (c .before .before .before .before .before .before .before .before .before .args .entries .now) (c .before .before .before .before .before .before .before .before .before .args .used)) (c .before .before .before .before .before .before .before .before .before .args .first) (c .before .before .before .before .before .loop .part) (c .before .before .before .before .before .loop .e) (c .next-of .result) (c .before .before .before .child-of .result) (c .before .before .before .before .before .loop .inv) (c .before .before .before .before .loop-test .taken) (c .before .before .before .child-of .ensures) (c .before .before .part-fits .ensures) (not-false _ (c .before .if1 .left)) (c .next-of .ensures)
 
 returns-2 : tie.Need-returns-2 Inv-loop μ-loop
 returns-2 c = fitting-all (lent (c .before .before .before .before .before .args .s .now) (c .before .before .before .before .before .args .nodes .now) (c .before .before .before .before .before .args .entries .now) (c .before .before .before .before .before .args .used)) (c .before .before .before .before .before .args .first) (c .before .loop .part) (c .before .loop .e) (c .before .loop .inv) (omega arith)
@@ -48,10 +48,10 @@ parts-fit-spec =
     Inv-loop
     μ-loop
     loop-holds
-    child-requires
+    child-of-requires
     part-fits-requires
     returns
-    next-requires
+    next-of-requires
     add-part
     loop-less
     loop-again

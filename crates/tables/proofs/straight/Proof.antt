@@ -2,7 +2,7 @@
 use Rattle.tables.proofs.Chains.{straight-start, straight-more}
 use Rattle.tables.specs.Looking.{Straight}
 use native.Mathlib.Omega.{arith}
-use mathlib.Core.Path.{_≡_}
+use mathlib.Core.Path.{_≡_, sym, _∙_}
 use Prim.Native.Nat.{_+_, _-_}
 use borrow.Author.Needs.{needs}
 use Rattle.tables.proofs.straight.Statement.{statement}
@@ -20,23 +20,11 @@ loop-holds c = (omega arith, straight-start)
 returns : tie.Need-returns Inv-loop μ-loop
 returns c = c .before .before .loop .inv .1
 
-cast-if2 : tie.Need-cast-if2 Inv-loop μ-loop
-cast-if2 c = search needs
-
-mul-if2 : tie.Need-mul-if2 Inv-loop μ-loop
-mul-if2 c = search needs
+next-at-requires : tie.Need-next-at-requires Inv-loop μ-loop
+next-at-requires c κs = search needs
 
 add-if2 : tie.Need-add-if2 Inv-loop μ-loop
 add-if2 c = search needs
-
-mul-if2-2 : tie.Need-mul-if2-2 Inv-loop μ-loop
-mul-if2-2 c = search needs
-
-shared-slice-read-if2 : tie.Need-shared-slice-read-if2 Inv-loop μ-loop
-shared-slice-read-if2 c = search needs
-
-add-if2-2 : tie.Need-add-if2-2 Inv-loop μ-loop
-add-if2-2 c = search needs
 
 returns-2 : tie.Need-returns-2 Inv-loop μ-loop
 returns-2 c = c .before .before .before .before .loop .inv .1
@@ -51,7 +39,7 @@ loop-less : tie.Need-loop-less Inv-loop μ-loop
 loop-less c = search needs
 
 loop-again : tie.Need-loop-again Inv-loop μ-loop
-loop-again c = (omega (arith, c .before .before .before .before .loop .inv .0), straight-more (c .before .before .before .before .loop .inv .1) (c .before .before .before .before .loop .inv .0) (c .before .before .before .loop-test .taken) (omega arith) (c .if2 .left))
+loop-again c = (omega (arith, c .before .before .before .before .loop .inv .0), straight-more (c .before .before .before .before .loop .inv .1) (c .before .before .before .before .loop .inv .0) (c .before .before .before .loop-test .taken) (omega arith) (sym (c .before .next-at .ensures) ∙ c .if2 .left))
 
 returns-3 : tie.Need-returns-3 Inv-loop μ-loop
 returns-3 c = c .before .loop .inv .1
@@ -64,12 +52,8 @@ straight-spec =
     μ-loop
     loop-holds
     returns
-    cast-if2
-    mul-if2
+    next-at-requires
     add-if2
-    mul-if2-2
-    shared-slice-read-if2
-    add-if2-2
     returns-2
     add-e
     add-i

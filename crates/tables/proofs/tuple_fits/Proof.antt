@@ -19,11 +19,8 @@ returns c =
     let t = lent (a .s .now) (a .nodes .now) (a .entries .now) (a .used) in
     part-broken t asTuple (a .node) (none-is (Record.whole t (a .node)) (sym (not-true _ (c .if1 .taken)) ∙ c .before .whole .ensures))
 
-mul-word-at : tie.Need-mul-word-at
-mul-word-at c = search needs
-
-word-at-requires : tie.Need-word-at-requires
-word-at-requires c κs = search needs
+letter-of-requires : tie.Need-letter-of-requires
+letter-of-requires c κs = search needs
 
 is-tuple-requires : tie.Need-is-tuple-requires
 is-tuple-requires c κs = search needs
@@ -32,7 +29,7 @@ returns-2 : tie.Need-returns-2
 returns-2 c =
     let a = c .before .before .before .before .before .before .before .args in
     let t = lent (a .s .now) (a .nodes .now) (a .entries .now) (a .used) in
-    tuple-part t (a .node) (some-is (Record.whole t (a .node)) (sym (not-false _ (c .before .before .if1 .left)) ∙ c .before .before .before .whole .ensures) .1) (c .before .word-at .ensures) (c .is-tuple .ensures)
+    tuple-part t (a .node) (some-is (Record.whole t (a .node)) (sym (not-false _ (c .before .before .if1 .left)) ∙ c .before .before .before .whole .ensures) .1) (c .before .letter-of .ensures) (c .is-tuple .ensures)
 
 pub tuple-fits-spec : {M : Type 1} → statement M
-tuple-fits-spec = tie.close (tie.spec whole-requires returns mul-word-at word-at-requires is-tuple-requires returns-2)
+tuple-fits-spec = tie.close (tie.spec whole-requires returns letter-of-requires is-tuple-requires returns-2)

@@ -14,15 +14,15 @@ sound-at-requires c κs = search needs
 returns : tie.Need-returns
 returns c = whole-not (lent (c .before .before .before .before .before .args .s .now) (c .before .before .before .before .before .args .nodes .now) (c .before .before .before .before .before .args .entries .now) (c .before .before .before .before .before .args .used)) (c .before .before .before .before .before .args .node) (c .before .sound-at .ensures) (not-true _ (c .if1 .taken))
 
-node-at-requires : tie.Need-node-at-requires
-node-at-requires c κs = search needs
+node-of-requires : tie.Need-node-of-requires
+node-of-requires c κs = search needs
 
 linked-requires : tie.Need-linked-requires
 linked-requires c κs = search needs
 
 returns-2 : tie.Need-returns-2
-returns-2 c = whole-is (lent (c .before .before .before .before .before .before .before .args .s .now) (c .before .before .before .before .before .before .before .args .nodes .now) (c .before .before .before .before .before .before .before .args .entries .now) (c .before .before .before .before .before .before .before .args .used)) (c .before .before .before .before .before .before .before .args .node) (c .before .node-at .result .count) (c .before .node-at .result .first) (c .before .before .before .sound-at .ensures) (not-false _ (c .before .before .if1 .left)) (ap (λ (m : Node). m .count) (c .before .node-at .ensures)) (ap (λ (m : Node). m .first) (c .before .node-at .ensures)) (c .linked .ensures)
+returns-2 c = whole-is (lent (c .before .before .before .before .before .before .before .args .s .now) (c .before .before .before .before .before .before .before .args .nodes .now) (c .before .before .before .before .before .before .before .args .entries .now) (c .before .before .before .before .before .before .before .args .used)) (c .before .before .before .before .before .before .before .args .node) (c .before .node-of .result .count) (c .before .node-of .result .first) (c .before .before .before .sound-at .ensures) (not-false _ (c .before .before .if1 .left)) (ap (λ (m : Node). m .count) (c .before .node-of .ensures)) (ap (λ (m : Node). m .first) (c .before .node-of .ensures)) (c .linked .ensures)
 
 pub whole-spec : {M : Type 1} → statement M
 whole-spec =
-    tie.close (tie.spec sound-at-requires returns node-at-requires linked-requires returns-2)
+    tie.close (tie.spec sound-at-requires returns node-of-requires linked-requires returns-2)

@@ -1,6 +1,6 @@
 -- The value is written into what counts of the output; behind it, or where it is refused everywhere, the output is cleared. Assumes nothing.
 use Rattle.writer.proofs.Finishing.{fits-behind, behind-cleared, finish-long, finish-done, finish-refused}
-use Rattle.writer.specs.Entry.{tablesOf}
+use Rattle.grammar.specs.Record.{tablesOf}
 use Rattle.lent.specs.Lent.{zeros}
 use lib.Seq.{length-front, length-take-le}
 use lib.ListN.{length, drop}
@@ -26,8 +26,8 @@ returns c =
     let t = tablesOf (b .input .now) (b .nodes .now) (b .entries .now) (b .used-nodes) (b .used-entries) in
     finish-long t (b .root) (b .nesting) (length (b .out .now)) (omega arith) (c .before .before .clear-bytes .ensures)
 
-lesser-requires : tie.Need-lesser-requires
-lesser-requires c κs = search needs
+at-most-requires : tie.Need-at-most-requires
+at-most-requires c κs = search needs
 
 counted-requires : tie.Need-counted-requires
 counted-requires c κs = search needs
@@ -75,7 +75,7 @@ returns-2 c =
     let o = (c .before .before .before .before .before .before .before .before .before .write-value .last .1 .1 .1 .0) ++ drop (c .before .before .before .before .before .before .before .before .before .before .before .counted .result) (b .out .now) in
     let fits = fits-behind (c .before .before .before .before .before .before .before .before .before .before .before .counted .result) (b .out .now) (omega (arith, c .before .before .before .before .before .before .before .before .before .before .before .counted .ensures .1)) (c .before .before .before .before .before .before .before .before .before .write-value .ensures) (c .before .before .before .before .before .a .given .1) in
     let long = length-front (b .out .now) (c .before .before .before .before .before .before .before .before .before .write-value .last .1 .1 .1 .0) (c .before .before .before .before .before .before .before .before .before .before .before .counted .result) (c .before .before .before .before .before .before .before .before .before .write-value .kept .1 .1 .1 .0) in
-    finish-done t (b .root) (b .nesting) (length (b .out .now)) (omega arith) (b .out .now) (c .before .before .before .before .before .before .before .before .before .before .before .before .lesser .ensures) (c .before .before .before .before .before .before .before .before .before .before .before .counted .ensures .0) (omega (arith, c .before .before .before .before .before .before .before .before .before .before .before .counted .ensures .1)) (c .before .before .before .before .before .before .before .before .before .write-value .ensures) (c .before .before .before .before .before .a .given .1)
+    finish-done t (b .root) (b .nesting) (length (b .out .now)) (omega arith) (b .out .now) (c .before .before .before .before .before .before .before .before .before .before .before .before .at-most .ensures) (c .before .before .before .before .before .before .before .before .before .before .before .counted .ensures .0) (omega (arith, c .before .before .before .before .before .before .before .before .before .before .before .counted .ensures .1)) (c .before .before .before .before .before .before .before .before .before .write-value .ensures) (c .before .before .before .before .before .a .given .1)
     (behind-cleared (c .before .before .before .before .before .a .given .0 .0) (length (b .out .now)) o fits long (c .before .before .clear-bytes2 .ensures))
 
 same-length-3 : tie.Need-same-length-3
@@ -85,7 +85,7 @@ returns-3 : tie.Need-returns-3
 returns-3 c =
     let b = c .before .before .before .before .before .before .before .before .before .before .before .before .before .before .before .before .before .before .args in
     let t = tablesOf (b .input .now) (b .nodes .now) (b .entries .now) (b .used-nodes) (b .used-entries) in
-    finish-refused t (b .root) (b .nesting) (length (b .out .now)) (omega arith) (b .out .now) (c .before .before .before .before .before .before .before .before .before .before .before .before .lesser .ensures) (c .before .before .before .before .before .before .before .before .before .before .before .counted .ensures .0) (omega (arith, c .before .before .before .before .before .before .before .before .before .before .before .counted .ensures .1)) (c .before .before .before .before .before .before .before .before .before .write-value .ensures) (c .before .before .before .before .before .number .given .1)
+    finish-refused t (b .root) (b .nesting) (length (b .out .now)) (omega arith) (b .out .now) (c .before .before .before .before .before .before .before .before .before .before .before .before .at-most .ensures) (c .before .before .before .before .before .before .before .before .before .before .before .counted .ensures .0) (omega (arith, c .before .before .before .before .before .before .before .before .before .before .before .counted .ensures .1)) (c .before .before .before .before .before .before .before .before .before .write-value .ensures) (c .before .before .before .before .before .number .given .1)
     (c .before .before .clear-bytes3 .ensures ∙ ap zeros (length-front (b .out .now) (c .before .before .before .before .before .before .before .before .before .write-value .last .1 .1 .1 .0) (c .before .before .before .before .before .before .before .before .before .before .before .counted .result) (c .before .before .before .before .before .before .before .before .before .write-value .kept .1 .1 .1 .0)))
 
 pub serialize-value-spec : {M : Type 1} → statement M
@@ -96,7 +96,7 @@ serialize-value-spec =
     clear-bytes-requires
     same-length
     returns
-    lesser-requires
+    at-most-requires
     counted-requires
     slice-relend-prefix-write-value
     slice-aggregate-write-value

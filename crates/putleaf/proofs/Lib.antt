@@ -1,0 +1,2 @@
+pub mod Leafing
+pub mod Leading

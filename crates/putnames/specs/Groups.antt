@@ -1,0 +1,36 @@
+-- Names that are written one after another and counted, as the tuple of local names asks it. 01, 'Writing it back': "Local names are written
+-- as all Local, then Cell whose name equals no Local name, then Free".
+use mathlib.Core.Path.{_≡_}
+use Prim.Native.Nat.{ℕ, _+_, _≤_}
+use mathlib.Core.Option.{none}
+use mathlib.Core.List.{List}
+use lib.ListN.{length}
+use Rattle.grammar.specs.Steps.{asNames}
+use Rattle.grammar.specs.Record.{Tables, nodeOf, whole, suited}
+use Rattle.writing.specs.Writing.{Writing, each}
+use Rattle.puts.specs.declared.Wrote.{Wrote}
+use Rattle.puts.specs.declared.Wrote.the-variants as wrote
+use Rattle.puts.specs.Puts.{Puts}
+use Rattle.putnames.specs.declared.Grouped.{Grouped}
+use Rattle.putnames.specs.declared.Grouped.the-variants as grouped
+
+-- the answer of a put, but for the count
+abbrev pub wroteOf : Grouped → Wrote
+wroteOf (grouped.Done a n) = wrote.Done a
+wroteOf (grouped.Refused number place) = wrote.Refused number place
+
+-- where they are done, they are so many
+abbrev pub CountedTo : ℕ → Grouped → Type 0
+CountedTo many (grouped.Done a n) = n ≡ many
+CountedTo many (grouped.Refused number place) = Unit
+
+-- the names, each written by f, and counted on from `counted`
+pub record Groups (f : ℕ → Writing) (names : List ℕ) (counted at : ℕ) (before : List ℕ) (r : Grouped) (after : List ℕ) : Type 0 where
+  pub puts : Puts (each f names) at before (wroteOf r) after
+  pub count : CountedTo (counted + length names) r
+
+-- local names and their kinds, as a code has tested them
+pub record Localed (t : Tables) (kinds node : ℕ) : Type 0 where
+  pub tuple : suited t asNames node (whole t node) ≡ none
+  pub within : nodeOf t kinds .place + nodeOf t kinds .size ≤ length (t .input)
+  pub even : nodeOf t kinds .size ≡ nodeOf t node .count

@@ -1,0 +1,279 @@
+// The writing of a code's strings and names: a code string, a tuple of names, and the local names in their groups.
+// What is asked of the stores was tested with the code: the names of a chain are sound strings.
+ghost use mathlib.Core.Path.{_≡_};
+ghost use mathlib.Core.Bool.{true, cond};
+ghost use mathlib.Core.Option.{none};
+ghost use Prim.Native.Nat.{_+_, _≤_, _<_};
+ghost use lib.ListN.{length};
+ghost use Rattle.refusals.specs.Limits.{mostBytes};
+ghost use Rattle.grammar.specs.Steps.{asNames};
+ghost use Rattle.grammar.specs.Record;
+ghost use Rattle.writing.specs.Writing.{ended, each};
+ghost use Rattle.writing.specs.Names.{contentsOf, inGroups};
+ghost use Rattle.writing.specs.Steps.{stringPart, namesPart, kidsOf};
+ghost use Rattle.puts.specs.Puts.{Open, Puts};
+ghost use Rattle.tables.specs.Looking.{lent, isSome, stringAt};
+ghost use Rattle.tables.specs.Groups.{groupIn, kindsIn, namesIn, Listed};
+ghost use Rattle.underway.specs.Rows.{kidsFrom};
+ghost use Rattle.putnames.specs.Groups.{Groups, Localed};
+
+// A code string.
+pub fn write_string(
+    s: &[u8],
+    nodes: &[u32],
+    entries: &[u32],
+    out: &mut [u8],
+    used: tables::Used,
+    allowance: u32,
+    node: u32,
+    at: u32,
+) -> puts::Wrote
+    requires { ⌜ Open at (now out) × (stringAt (now s) (now nodes) (used .nodes) node ≡ true) ⌝ }
+    ensures { λ r. ⌜ Puts (stringPart (lent (now (s .entry)) (now (nodes .entry)) (now (entries .entry)) used) allowance node) at (now (out .entry)) r (now (out .exit)) ⌝ }
+{
+    if allowance == 0 {
+        return puts::Wrote::Refused(refusals::TOO_DEEP, node);
+    }
+    let n = stores::node_of(nodes, node);
+    puts::write_marshal_str(out, at, s, n.place, n.size)
+}
+
+// The names of a chain, one after another.
+fn write_names(
+    s: &[u8],
+    nodes: &[u32],
+    entries: &[u32],
+    out: &mut [u8],
+    used: tables::Used,
+    allowance: u32,
+    first: u32,
+    count: u32,
+    at: u32,
+) -> puts::Wrote
+    requires { ⌜ Open at (now out) × (isSome (Record.chain (lent (now s) (now nodes) (now entries) used) count first) ≡ true) × (Record.badString (lent (now s) (now nodes) (now entries) used) (kidsFrom (lent (now s) (now nodes) (now entries) used) count first) ≡ none) ⌝ }
+    ensures { λ r. ⌜ Puts (each (stringPart (lent (now (s .entry)) (now (nodes .entry)) (now (entries .entry)) used) allowance) (kidsFrom (lent (now (s .entry)) (now (nodes .entry)) (now (entries .entry)) used) count first)) at (now (out .entry)) r (now (out .exit)) ⌝ }
+{
+    let mut e = first;
+    let mut i = 0u32;
+    let mut p = at;
+    while i < count {
+        let name = stores::child_of(entries, e);
+        match write_string(s, nodes, entries, out, used, allowance, name, p) {
+            puts::Wrote::Refused(number, place) => {
+                return puts::Wrote::Refused(number, place);
+            }
+            puts::Wrote::Done(a) => {
+                p = a;
+            }
+        }
+        e = stores::next_of(entries, e);
+        i += 1;
+    }
+    puts::Wrote::Done(p)
+}
+
+// A tuple of names.
+pub fn write_marshal_name_tuple(
+    s: &[u8],
+    nodes: &[u32],
+    entries: &[u32],
+    out: &mut [u8],
+    used: tables::Used,
+    allowance: u32,
+    node: u32,
+    at: u32,
+) -> puts::Wrote
+    requires { ⌜ Open at (now out) × (Record.suited (lent (now s) (now nodes) (now entries) used) asNames node (Record.whole (lent (now s) (now nodes) (now entries) used) node) ≡ none) ⌝ }
+    ensures { λ r. ⌜ Puts (namesPart (lent (now (s .entry)) (now (nodes .entry)) (now (entries .entry)) used) allowance node (kidsOf (lent (now (s .entry)) (now (nodes .entry)) (now (entries .entry)) used) node)) at (now (out .entry)) r (now (out .exit)) ⌝ }
+{
+    if allowance == 0 {
+        return puts::Wrote::Refused(refusals::TOO_DEEP, node);
+    }
+    let n = stores::node_of(nodes, node);
+    match puts::write_len(out, at, grammar::WRITTEN_TUPLE, n.count) {
+        puts::Wrote::Refused(number, place) => puts::Wrote::Refused(number, place),
+        puts::Wrote::Done(a) => write_names(
+            s,
+            nodes,
+            entries,
+            out,
+            used,
+            allowance - 1,
+            n.first,
+            n.count,
+            a,
+        ),
+    }
+}
+
+// A name, if it is one of its group.
+fn write_member(
+    s: &[u8],
+    nodes: &[u32],
+    entries: &[u32],
+    out: &mut [u8],
+    used: tables::Used,
+    allowance: u32,
+    member: bool,
+    node: u32,
+    at: u32,
+) -> puts::Wrote
+    requires { ⌜ Open at (now out) × (stringAt (now s) (now nodes) (used .nodes) node ≡ true) ⌝ }
+    ensures { λ r. ⌜ Puts (cond member (stringPart (lent (now (s .entry)) (now (nodes .entry)) (now (entries .entry)) used) allowance node) ended) at (now (out .entry)) r (now (out .exit)) ⌝ }
+{
+    if !member {
+        return puts::Wrote::Done(at);
+    }
+    write_string(s, nodes, entries, out, used, allowance, node, at)
+}
+
+fn one_if(so: bool) -> u32
+    ensures { λ r. ⌜ (r ≡ cond so 1 0) × (r ≤ 1) ⌝ }
+{
+    if so {
+        return 1;
+    }
+    0
+}
+
+// Where names end, and how many are counted up to there; or why they are refused.
+pub enum Grouped {
+    Done(u32, u32),
+    Refused(u32, u32),
+}
+
+// The names in the group of a bit, counted on from those before them.
+fn write_group(
+    s: &[u8],
+    nodes: &[u32],
+    entries: &[u32],
+    out: &mut [u8],
+    used: tables::Used,
+    allowance: u32,
+    locals: tables::Locals,
+    bit: u32,
+    at: u32,
+    counted: u32,
+) -> Grouped
+    requires { ⌜ Open at (now out) × Listed (lent (now s) (now nodes) (now entries) used) locals × (0 < bit) × (counted + locals .count ≤ 4294967295) ⌝ }
+    ensures { λ r. ⌜ Groups (stringPart (lent (now (s .entry)) (now (nodes .entry)) (now (entries .entry)) used) allowance) (groupIn (lent (now (s .entry)) (now (nodes .entry)) (now (entries .entry)) used) locals bit) counted at (now (out .entry)) r (now (out .exit)) ⌝ }
+{
+    let kinds = locals.kinds as usize;
+    let count = locals.count;
+    let mut e = locals.first;
+    let mut i = 0u32;
+    let mut p = at;
+    let mut n = counted;
+    while i < count {
+        let kind = s[kinds + i as usize];
+        let name = stores::child_of(entries, e);
+        let member = tables::belongs(s, nodes, entries, used, locals, bit, kind, name);
+        match write_member(s, nodes, entries, out, used, allowance, member, name, p) {
+            puts::Wrote::Refused(number, place) => {
+                return Grouped::Refused(number, place);
+            }
+            puts::Wrote::Done(a) => {
+                p = a;
+            }
+        }
+        n += one_if(member);
+        e = stores::next_of(entries, e);
+        i += 1;
+    }
+    Grouped::Done(p, n)
+}
+
+// The three groups of local names: Local, Cell whose name equals no Local name, Free.
+fn write_groups(
+    s: &[u8],
+    nodes: &[u32],
+    entries: &[u32],
+    out: &mut [u8],
+    used: tables::Used,
+    allowance: u32,
+    locals: tables::Locals,
+    at: u32,
+) -> Grouped
+    requires { ⌜ Open at (now out) × Listed (lent (now s) (now nodes) (now entries) used) locals × (length (now s) ≤ mostBytes) ⌝ }
+    ensures { λ r. ⌜ Groups (stringPart (lent (now (s .entry)) (now (nodes .entry)) (now (entries .entry)) used) allowance) (inGroups (lent (now (s .entry)) (now (nodes .entry)) (now (entries .entry)) used) (kindsIn (lent (now (s .entry)) (now (nodes .entry)) (now (entries .entry)) used) locals) (namesIn (lent (now (s .entry)) (now (nodes .entry)) (now (entries .entry)) used) locals)) 0 at (now (out .entry)) r (now (out .exit)) ⌝ }
+{
+    match write_group(
+        s,
+        nodes,
+        entries,
+        out,
+        used,
+        allowance,
+        locals,
+        tables::LOCAL,
+        at,
+        0,
+    ) {
+        Grouped::Refused(number, place) => Grouped::Refused(number, place),
+        Grouped::Done(a, local) => match write_group(
+            s,
+            nodes,
+            entries,
+            out,
+            used,
+            allowance,
+            locals,
+            tables::CELL,
+            a,
+            local,
+        ) {
+            Grouped::Refused(number, place) => Grouped::Refused(number, place),
+            Grouped::Done(b, cell) => write_group(
+                s,
+                nodes,
+                entries,
+                out,
+                used,
+                allowance,
+                locals,
+                tables::FREE,
+                b,
+                cell,
+            ),
+        },
+    }
+}
+
+// The tuple of local names, in their groups; the kinds stand in another part. The count, which is not known before, comes over a 0.
+pub fn write_locals(
+    s: &[u8],
+    nodes: &[u32],
+    entries: &[u32],
+    out: &mut [u8],
+    used: tables::Used,
+    allowance: u32,
+    kinds: u32,
+    node: u32,
+    at: u32,
+) -> puts::Wrote
+    requires { ⌜ Open at (now out) × Localed (lent (now s) (now nodes) (now entries) used) kinds node × (length (now s) ≤ mostBytes) ⌝ }
+    ensures { λ r. ⌜ Puts (namesPart (lent (now (s .entry)) (now (nodes .entry)) (now (entries .entry)) used) allowance node (inGroups (lent (now (s .entry)) (now (nodes .entry)) (now (entries .entry)) used) (contentsOf (lent (now (s .entry)) (now (nodes .entry)) (now (entries .entry)) used) kinds) (kidsOf (lent (now (s .entry)) (now (nodes .entry)) (now (entries .entry)) used) node))) at (now (out .entry)) r (now (out .exit)) ⌝ }
+{
+    if allowance == 0 {
+        return puts::Wrote::Refused(refusals::TOO_DEEP, node);
+    }
+    let n = stores::node_of(nodes, node);
+    let k = stores::node_of(nodes, kinds);
+    let locals = tables::Locals {
+        first: n.first,
+        count: n.count,
+        kinds: k.place,
+    };
+    match puts::write_len(out, at, grammar::WRITTEN_TUPLE, 0) {
+        puts::Wrote::Refused(number, place) => puts::Wrote::Refused(number, place),
+        puts::Wrote::Done(a) => {
+            match write_groups(s, nodes, entries, out, used, allowance - 1, locals, a) {
+                Grouped::Refused(number, place) => puts::Wrote::Refused(number, place),
+                Grouped::Done(b, count) => {
+                    puts::store_u32(out, at as usize + 1, count);
+                    puts::Wrote::Done(b)
+                }
+            }
+        }
+    }
+}

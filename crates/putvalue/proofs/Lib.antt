@@ -1,0 +1,3 @@
+pub mod Fronting
+pub mod Opening
+pub mod Coding

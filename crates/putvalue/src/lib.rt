@@ -1,0 +1,434 @@
+// The writing of a value of lent stores, whatever stands in them: a node up to its children, then its row or its parts.
+// A writer of values and writers of children and parts call one another, and the nesting allowance falls each time.
+ghost use mathlib.Core.Path.{_≡_};
+ghost use mathlib.Core.Bool.{true, cond};
+ghost use mathlib.Core.List.{_∷_};
+ghost use lib.Dec.{eqb};
+ghost use Prim.Native.Nat.{_+_, _≤_};
+ghost use lib.ListN.{length};
+ghost use Rattle.grammar.specs.LetterNames.{floatLetter};
+ghost use Rattle.refusals.specs.Limits.{mostBytes};
+ghost use Rattle.grammar.specs.Letters.{classOf};
+ghost use Rattle.grammar.specs.Fields.{le64};
+ghost use Rattle.fields.specs.Classes.{classAt};
+ghost use Rattle.grammar.specs.Record;
+ghost use Rattle.stores.specs.Written.{nodeOf};
+ghost use Rattle.writing.specs.Writing.{ended, emit, each};
+ghost use Rattle.writing.specs.Canonical.{bytes64, ofBits, integerBytes, shownLine};
+ghost use Rattle.writing.specs.Names.{contentsOf};
+ghost use Rattle.writing.specs.Steps.{writing, parted};
+ghost use Rattle.puts.specs.Puts.{Open, Puts};
+ghost use Rattle.tables.specs.Looking.{lent, Held};
+ghost use Rattle.underway.specs.Rows.{closed, rowOfNode, lineOf};
+ghost use Rattle.putvalue.specs.Heads.{wholeOf, rowOf, partsOf, Fronts, Heads, Levels, PartIn, linedPart, Coded};
+
+// What stands in front of a node's children: it is refused, or whole already; or its row comes next, of a dict's pairs or not; or a code's parts do.
+pub enum Opened {
+    Refused(u32, u32),
+    Done(u32),
+    Row(u32, bool),
+    Parts(u32),
+}
+
+fn whole(wrote: puts::Wrote) -> Opened
+    ensures { λ r. ⌜ r ≡ wholeOf wrote ⌝ }
+{
+    match wrote {
+        puts::Wrote::Done(a) => Opened::Done(a),
+        puts::Wrote::Refused(number, place) => Opened::Refused(number, place),
+    }
+}
+
+fn with_row(wrote: puts::Wrote, pairs: bool) -> Opened
+    ensures { λ r. ⌜ r ≡ rowOf pairs wrote ⌝ }
+{
+    match wrote {
+        puts::Wrote::Done(a) => Opened::Row(a, pairs),
+        puts::Wrote::Refused(number, place) => Opened::Refused(number, place),
+    }
+}
+
+fn with_parts(wrote: puts::Wrote) -> Opened
+    ensures { λ r. ⌜ r ≡ partsOf wrote ⌝ }
+{
+    match wrote {
+        puts::Wrote::Done(a) => Opened::Parts(a),
+        puts::Wrote::Refused(number, place) => Opened::Refused(number, place),
+    }
+}
+
+// Eight bytes: a float, or a whole number.
+fn write_eight(s: &[u8], out: &mut [u8], letter: u32, place: u32, at: u32) -> puts::Wrote
+    requires { ⌜ Open at (now out) × (place + 8 ≤ length (now s)) ⌝ }
+    ensures { λ r. ⌜ Puts (emit (cond (eqb letter floatLetter) (floatLetter ∷ bytes64 (le64 (now (s .entry)) place)) (integerBytes (ofBits 9223372036854775808 (le64 (now (s .entry)) place)))) ended) at (now (out .entry)) r (now (out .exit)) ⌝ }
+{
+    if letter == grammar::FLOAT_LETTER {
+        return puts::write_slice(out, at, grammar::WRITTEN_FLOAT, s, place, 8);
+    }
+    puts::write_int64(out, at, s, place)
+}
+
+// A node's own bytes, in front of its children.
+fn write_front(s: &[u8], out: &mut [u8], n: stores::Node, class: u32, at: u32) -> Opened
+    requires { ⌜ Open at (now out) × (length (now s) ≤ mostBytes) × (Record.sound (now s) (nodeOf n) ≡ true) × (classAt class ≡ classOf (n .letter)) ⌝ }
+    ensures { λ r. ⌜ Fronts (now (s .entry)) (nodeOf n) (classOf (n .letter)) at (now (out .entry)) r (now (out .exit)) ⌝ }
+{
+    match class {
+        fields::SINGLE => whole(puts::write_u8(out, at, n.letter as u8)),
+        fields::FIXED4 => whole(puts::write_slice(out, at, grammar::WRITTEN_INT, s, n.place, 4)),
+        fields::FIXED8 => whole(write_eight(s, out, n.letter, n.place, at)),
+        fields::DOUBLE => whole(puts::write_slice(
+            out,
+            at,
+            grammar::WRITTEN_COMPLEX,
+            s,
+            n.place,
+            16,
+        )),
+        fields::LONG => whole(puts::write_pylong(out, at, s, n.place, n.size)),
+        fields::SEQUENCE => with_row(puts::write_len(out, at, n.letter as u8, n.count), false),
+        fields::FEW => with_row(
+            puts::write_len(out, at, grammar::WRITTEN_TUPLE, n.count),
+            false,
+        ),
+        fields::SLICE => with_row(puts::write_u8(out, at, grammar::WRITTEN_SLICE), false),
+        fields::DICT => with_row(puts::write_u8(out, at, grammar::WRITTEN_DICT), true),
+        fields::BYTES => whole(puts::write_vec(
+            out,
+            at,
+            grammar::WRITTEN_BYTES,
+            s,
+            n.place,
+            n.size,
+        )),
+        fields::TEXT => whole(puts::write_vec(
+            out,
+            at,
+            grammar::WRITTEN_UNICODE,
+            s,
+            n.place,
+            n.size,
+        )),
+        fields::SHORT => whole(puts::write_vec(
+            out,
+            at,
+            grammar::WRITTEN_UNICODE,
+            s,
+            n.place,
+            n.size,
+        )),
+        _ => with_parts(puts::write_slice(
+            out,
+            at,
+            grammar::WRITTEN_CODE,
+            s,
+            n.place,
+            grammar::CODE_NUMBERS,
+        )),
+    }
+}
+
+// Whether no level is left for a node, or for the body of a code.
+fn too_deep(nodes: &[u32], used: u32, allowance: u32, node: u32) -> bool
+    ensures { λ r. ⌜ Levels (now (nodes .entry)) used allowance node r ⌝ }
+{
+    if allowance == 0 {
+        return true;
+    }
+    if allowance != 1 {
+        return false;
+    }
+    if stores::nodes_in(nodes, used) <= node {
+        return false;
+    }
+    let n = stores::node_of(nodes, node);
+    n.letter == grammar::CODE_LETTER
+}
+
+// A node up to its children: its levels, its record, and its own bytes.
+fn open_node(
+    s: &[u8],
+    nodes: &[u32],
+    entries: &[u32],
+    out: &mut [u8],
+    used: tables::Used,
+    allowance: u32,
+    node: u32,
+    at: u32,
+) -> Opened
+    requires { ⌜ Open at (now out) × (length (now s) ≤ mostBytes) ⌝ }
+    ensures { λ r. ⌜ Heads (lent (now (s .entry)) (now (nodes .entry)) (now (entries .entry)) used) allowance node at (now (out .entry)) r (now (out .exit)) ⌝ }
+{
+    if too_deep(nodes, used.nodes, allowance, node) {
+        return Opened::Refused(refusals::TOO_DEEP, node);
+    }
+    if !tables::look(s, nodes, entries, used, node) {
+        return Opened::Refused(refusals::BAD_TABLE, node);
+    }
+    let n = stores::node_of(nodes, node);
+    write_front(s, out, n, fields::class_of(n.letter), at)
+}
+
+// What stands behind a row.
+fn close_row(out: &mut [u8], at: u32, pairs: bool) -> puts::Wrote
+    requires { ⌜ Open at (now out) ⌝ }
+    ensures { λ r. ⌜ Puts (closed pairs) at (now (out .entry)) r (now (out .exit)) ⌝ }
+{
+    if pairs {
+        return puts::write_u8(out, at, grammar::WRITTEN_NULL);
+    }
+    puts::Wrote::Done(at)
+}
+
+// A first line of 0 or less is written as 0.
+fn shown(line: u32) -> u32
+    ensures { λ r. ⌜ r ≡ shownLine line ⌝ }
+{
+    if line < 0x8000_0000 {
+        return line;
+    }
+    0
+}
+
+// A value.
+pub fn write_value(
+    s: &[u8],
+    nodes: &[u32],
+    entries: &[u32],
+    out: &mut [u8],
+    used: tables::Used,
+    allowance: u32,
+    node: u32,
+    at: u32,
+) -> puts::Wrote
+    requires { ⌜ Open at (now out) × (length (now s) ≤ mostBytes) ⌝ }
+    ensures { λ r. ⌜ Puts (writing allowance (lent (now (s .entry)) (now (nodes .entry)) (now (entries .entry)) used) node) at (now (out .entry)) r (now (out .exit)) ⌝ }
+{
+    match open_node(s, nodes, entries, out, used, allowance, node, at) {
+        Opened::Refused(number, place) => puts::Wrote::Refused(number, place),
+        Opened::Done(a) => puts::Wrote::Done(a),
+        Opened::Row(a, pairs) => match write_children(
+            s,
+            nodes,
+            entries,
+            out,
+            used,
+            allowance - 1,
+            node,
+            a,
+        ) {
+            puts::Wrote::Refused(number, place) => puts::Wrote::Refused(number, place),
+            puts::Wrote::Done(b) => close_row(out, b, pairs),
+        },
+        Opened::Parts(a) => write_parts(s, nodes, entries, out, used, allowance - 2, node, a),
+    }
+}
+
+// The children of a container, one after another, each with the allowance that is left to them.
+fn write_children(
+    s: &[u8],
+    nodes: &[u32],
+    entries: &[u32],
+    out: &mut [u8],
+    used: tables::Used,
+    allowance: u32,
+    node: u32,
+    at: u32,
+) -> puts::Wrote
+    requires { ⌜ Open at (now out) × (length (now s) ≤ mostBytes) × Held (lent (now s) (now nodes) (now entries) used) node ⌝ }
+    ensures { λ r. ⌜ Puts (each (writing allowance (lent (now (s .entry)) (now (nodes .entry)) (now (entries .entry)) used)) (rowOfNode (lent (now (s .entry)) (now (nodes .entry)) (now (entries .entry)) used) node)) at (now (out .entry)) r (now (out .exit)) ⌝ }
+{
+    let n = stores::node_of(nodes, node);
+    let count = n.count;
+    let mut e = n.first;
+    let mut i = 0u32;
+    let mut p = at;
+    loop {
+        match putleaf::write_leaves(s, nodes, entries, out, used, allowance, count, e, i, p) {
+            putleaf::Rowed::Refused(number, place) => {
+                return puts::Wrote::Refused(number, place);
+            }
+            putleaf::Rowed::On(here, done, a) => {
+                if count <= done {
+                    return puts::Wrote::Done(a);
+                }
+                let child = stores::child_of(entries, here);
+                match write_value(s, nodes, entries, out, used, allowance, child, a) {
+                    puts::Wrote::Refused(number, place) => {
+                        return puts::Wrote::Refused(number, place);
+                    }
+                    puts::Wrote::Done(b) => {
+                        p = b;
+                    }
+                }
+                e = stores::next_of(entries, here);
+                i = done + 1;
+            }
+        }
+    }
+}
+
+// A part of a code: as bytes, as names, as local names, as a code string, or as any value is, as its constants are; the first line
+// comes before the ninth.
+fn write_part(
+    s: &[u8],
+    nodes: &[u32],
+    entries: &[u32],
+    out: &mut [u8],
+    used: tables::Used,
+    allowance: u32,
+    line: u32,
+    kinds: u32,
+    part: u32,
+    node: u32,
+    at: u32,
+) -> puts::Wrote
+    requires { ⌜ Open at (now out) × (length (now s) ≤ mostBytes) × PartIn (lent (now s) (now nodes) (now entries) used) kinds part node ⌝ }
+    ensures { λ r. ⌜ Puts (linedPart (lent (now (s .entry)) (now (nodes .entry)) (now (entries .entry)) used) allowance line (contentsOf (lent (now (s .entry)) (now (nodes .entry)) (now (entries .entry)) used) kinds) part node) at (now (out .entry)) r (now (out .exit)) ⌝ }
+{
+    match part {
+        grammar::CODE_PART => putleaf::write_bytes(
+            s,
+            nodes,
+            entries,
+            out,
+            used,
+            allowance,
+            node,
+            at,
+        ),
+        grammar::NAMES_PART => putnames::write_marshal_name_tuple(
+            s,
+            nodes,
+            entries,
+            out,
+            used,
+            allowance,
+            node,
+            at,
+        ),
+        grammar::LOCALS_PART => putnames::write_locals(
+            s,
+            nodes,
+            entries,
+            out,
+            used,
+            allowance,
+            kinds,
+            node,
+            at,
+        ),
+        grammar::KINDS_PART => putleaf::write_bytes(
+            s,
+            nodes,
+            entries,
+            out,
+            used,
+            allowance,
+            node,
+            at,
+        ),
+        grammar::FILE_PART => putnames::write_string(
+            s,
+            nodes,
+            entries,
+            out,
+            used,
+            allowance,
+            node,
+            at,
+        ),
+        grammar::NAME_PART => putnames::write_string(
+            s,
+            nodes,
+            entries,
+            out,
+            used,
+            allowance,
+            node,
+            at,
+        ),
+        grammar::QUALIFIED_NAME_PART => putnames::write_string(
+            s,
+            nodes,
+            entries,
+            out,
+            used,
+            allowance,
+            node,
+            at,
+        ),
+        grammar::LINES_PART => match puts::write_u32(out, at, shown(line)) {
+            puts::Wrote::Refused(number, place) => puts::Wrote::Refused(number, place),
+            puts::Wrote::Done(a) => putleaf::write_bytes(
+                s,
+                nodes,
+                entries,
+                out,
+                used,
+                allowance,
+                node,
+                a,
+            ),
+        },
+        grammar::EXCEPTIONS_PART => putleaf::write_bytes(
+            s,
+            nodes,
+            entries,
+            out,
+            used,
+            allowance,
+            node,
+            at,
+        ),
+        _ => write_value(s, nodes, entries, out, used, allowance, node, at),
+    }
+}
+
+// The ten parts of a code.
+fn write_parts(
+    s: &[u8],
+    nodes: &[u32],
+    entries: &[u32],
+    out: &mut [u8],
+    used: tables::Used,
+    allowance: u32,
+    node: u32,
+    at: u32,
+) -> puts::Wrote
+    requires { ⌜ Open at (now out) × (length (now s) ≤ mostBytes) × Coded (lent (now s) (now nodes) (now entries) used) node ⌝ }
+    ensures { λ r. ⌜ Puts (parted (lent (now (s .entry)) (now (nodes .entry)) (now (entries .entry)) used) allowance (writing allowance (lent (now (s .entry)) (now (nodes .entry)) (now (entries .entry)) used)) (lineOf (lent (now (s .entry)) (now (nodes .entry)) (now (entries .entry)) used) node) (rowOfNode (lent (now (s .entry)) (now (nodes .entry)) (now (entries .entry)) used) node)) at (now (out .entry)) r (now (out .exit)) ⌝ }
+{
+    let n = stores::node_of(nodes, node);
+    let line = fields::le32(s, n.place as usize + n.size as usize);
+    let kinds = tables::part_at(entries, n.first, grammar::KINDS_PART);
+    let mut e = n.first;
+    let mut part = 0u32;
+    let mut p = at;
+    while part < grammar::CODE_PARTS {
+        let child = stores::child_of(entries, e);
+        match write_part(
+            s,
+            nodes,
+            entries,
+            out,
+            used,
+            allowance,
+            line,
+            kinds,
+            part,
+            child,
+            p,
+        ) {
+            puts::Wrote::Refused(number, place) => {
+                return puts::Wrote::Refused(number, place);
+            }
+            puts::Wrote::Done(a) => {
+                p = a;
+            }
+        }
+        e = stores::next_of(entries, e);
+        part += 1;
+    }
+    puts::Wrote::Done(p)
+}
