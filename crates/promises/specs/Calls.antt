@@ -55,16 +55,16 @@ pub record Writer : Type 1 where
   pub answer : Calls → Answer ℕ
   pub output : Calls → List ℕ
 
--- A reader's calls with bytes, each below 256, as the type of its input says. Demand 2 is of these: a number is the same once it is written
--- back only if the four or eight numbers that it was read from are bytes. Demands 1 and 3 do not ask it.
-pub record OfBytes (R : Reader) : Type 0 where
-  pub call : R .Calls
-  pub bytes : Bytes (R .input call)
+-- Calls with bytes, each below 256, as the type of the input says; and a reader of these calls alone. Demand 2 is of such a reader: a number is
+-- the same once it is written back only if the four or eight numbers that it was read from are bytes. Demands 1 and 3 do not ask it.
+pub record OfBytes (C : Type 0) (input : C → List ℕ) : Type 0 where
+  pub call : C
+  pub bytes : Bytes (input call)
 
 abbrev pub onBytes : Reader → Reader
 onBytes R =
     record {
-      Calls = OfBytes R;
+      Calls = OfBytes (R .Calls) (R .input);
       input = λ c. R .input (c .call);
       nodes = λ c. R .nodes (c .call);
       entries = λ c. R .entries (c .call);
