@@ -1,20 +1,20 @@
 -- What the answer says is bounded by the input, and what the stores name is there: consequences of Keeping for the whole reading.
 -- Assumes an input of 16 MiB at most.
 use mathlib.Core.Path.{_≡_, refl, sym, ap, _∙_}
-use Prim.Native.Nat.{ℕ, _≤_, _<_, max}
+use Prim.Native.Nat.{ℕ, _≤_, _<_}
 use native.Mathlib.Omega.{arith}
-use mathlib.Core.Bool.{true, cond}
+use mathlib.Core.Bool.{true}
 use mathlib.Core.List.{List, [], _∷_, _++_}
 use lib.ListN.{length, getD}
 use Rattle.refusals.specs.Numbers.{tooDeep}
 use Rattle.refusals.specs.Limits.{mostBytes}
 use Rattle.grammar.specs.Reading.{Kind, level, node, entry, slot, gives, stops}
 use Rattle.grammar.specs.Letters.{among}
-use Rattle.grammar.specs.Room.{Rooms, roomFor, numberOf, run, plainly, Claim, same, most}
+use Rattle.grammar.specs.Room.{Rooms, roomFor, numberOf, run, plainly, Claim}
 use Rattle.grammar.specs.State.{State, start, unlinked, blank}
 use Rattle.grammar.specs.Answer.{plain}
 use Rattle.grammar.specs.Counted.{claimsOf, needed, Over}
-use Rattle.grammar.proofs.Fitting.{exact-where-all-fit, most-fits, Fitted, all, some-over, fitted, refused-where-one-is-over, fits-unless-of-room, gives-not-of-room}
+use Rattle.grammar.proofs.Fitting.{exact-where-all-fit, most-fits, need-most, Fitted, all, some-over, fitted, refused-where-one-is-over, fits-unless-of-room, gives-not-of-room}
 use Rattle.grammar.proofs.Following.{Need, Follows, follows-gives, follows-stops, AllAt, follows-claims}
 use Rattle.grammar.proofs.Links.{UsedOrNone, linked-first}
 use Rattle.grammar.proofs.Standing.{Holds, EntryIn, Finished, Valued}
@@ -117,18 +117,6 @@ module _ (s : List ℕ) (small : length s ≤ mostBytes) where
   accepted-within R r e =
       let fits = fits-unless-of-room R (plain s) (λ n p q. gives-not-of-room r n p (sym e ∙ q)) in
       accepted r (sym (exact-where-all-fit R (plain s) fits) ∙ e)
-
--- A claim's need is at most the most of its kind.
-need-most : (k : Kind) (cs before : List Claim) (c : Claim) (rest : List Claim) → cs ≡ before ++ c ∷ rest → c .kind ≡ k → c .need ≤ most k cs
-unfolding most
-need-most k cs [] c rest e q = rw (e, q) (own k)
-  where
-    own : (k : Kind) → c .need ≤ max (cond (same k k) (c .need) 0) (most k rest)
-    own level = omega arith
-    own node = omega arith
-    own entry = omega arith
-    own slot = omega arith
-need-most k cs (b ∷ bs) c rest e q = rw e (omega (arith, need-most k (bs ++ c ∷ rest) bs c rest refl q))
 
 -- 01: "The nesting count is the least allowance that meets no refusal 10". With that allowance, or more, none is met ..
 not-level : (k : Kind) → numberOf k ≡ tooDeep → k ≡ level

@@ -4,17 +4,17 @@ use mathlib.Core.Path.{_≡_, refl, _∙_}
 use Prim.Native.Nat.{ℕ, _≤_, _<_}
 use native.Mathlib.Omega.{arith}
 use mathlib.Core.Bool.{Bool, true, false, cond}
-use mathlib.Core.List.{List, [], _∷_, _++_}
+use mathlib.Core.List.{List}
 use lib.ListN.{length}
 use lib.Dec.{ltb}
 use borrow.Author.Tests.{le-ltb, lt-ltb}
 use Rattle.refusals.specs.Numbers.{inputTooLong}
 use Rattle.refusals.specs.Limits.{mostBytes}
 use Rattle.grammar.specs.Reading.{Kind, level, node, entry, slot, stops}
-use Rattle.grammar.specs.Room.{Rooms, roomFor, numberOf, run, plainly, Claim, most, AllFit}
+use Rattle.grammar.specs.Room.{Rooms, roomFor, numberOf, run, plainly}
 use Rattle.grammar.specs.Answer.{plain, roomsOf, reading}
 use Rattle.grammar.specs.Counted.{claimsOf, AllFour, Over, NotOfRoom, Larger}
-use Rattle.grammar.proofs.Fitting.{exact-where-all-fit, all-fit, most-fits, Fitted, all, some-over, fitted, refused-where-one-is-over, fits-unless-of-room, more-room}
+use Rattle.grammar.proofs.Fitting.{exact-where-all-fit, all-fit, most-fits, need-most, Fitted, all, some-over, fitted, refused-where-one-is-over, fits-unless-of-room, more-room}
 
 -- "InputTooLong, tested before all"
 pub too-long : (s : List ℕ) (nodes entries slots nesting : ℕ) → mostBytes < length s → reading s nodes entries slots nesting ≡ stops inputTooLong 0
@@ -31,7 +31,7 @@ pub exact-where-it-fits : (s : List ℕ) (nodes entries slots nesting : ℕ) →
     → AllFour s (roomsOf nodes entries slots nesting) → reading s nodes entries slots nesting ≡ plainly (plain s)
 exact-where-it-fits s nodes entries slots nesting h fits =
     within-room s nodes entries slots nesting h
-    ∙ exact-where-all-fit (roomsOf nodes entries slots nesting) (plain s) (all-fit (roomsOf nodes entries slots nesting) (claimsOf s) fits)
+    ∙ exact-where-all-fit (roomsOf nodes entries slots nesting) (plain s) (all-fit (roomsOf nodes entries slots nesting) (claimsOf s) (λ k. omega (arith, fits k)))
 
 -- Otherwise it is the refusal of the first claim, in reading order, that does not fit.
 pub first-over-refuses : (s : List ℕ) (nodes entries slots nesting : ℕ) → length s ≤ mostBytes → (o : Over (roomsOf nodes entries slots nesting) (claimsOf s))
@@ -40,19 +40,9 @@ first-over-refuses s nodes entries slots nesting h o =
     within-room s nodes entries slots nesting h ∙ refused-where-one-is-over (roomsOf nodes entries slots nesting) (plain s) o
 
 -- One of the two is so and not the other: all four counts fit, or some claim is over, and then they do not.
-over-not-four : (R : Rooms) (before rest : List Claim) (c : Claim) → ((k : Kind) → most k (before ++ c ∷ rest) ≤ roomFor R k) → c .need ≤ roomFor R (c .kind)
-unfolding AllFit most
-over-not-four R [] rest c four = all-fit R (c ∷ rest) four .0
-over-not-four R (b ∷ bs) rest c four = over-not-four R bs rest c (λ k. below k (four k))
-  where
-    below : (k : Kind) → most k (b ∷ bs ++ c ∷ rest) ≤ roomFor R k → most k (bs ++ c ∷ rest) ≤ roomFor R k
-    below k h = omega arith
-
 pub not-both : (s : List ℕ) (R : Rooms) → AllFour s R → Over R (claimsOf s) → ⊥
 not-both s R four o =
-    let e : claimsOf s ≡ o .before ++ o .first ∷ o .rest = o .order in
-    let fits = over-not-four R (o .before) (o .rest) (o .first) (λ k. rw e at (four k)) in
-    omega (arith, fits, o .over)
+    omega (arith, need-most (o .first .kind) (claimsOf s) (o .before) (o .first) (o .rest) (o .order) refl, four (o .first .kind), o .over)
 
 pub data FourOrOver (s : List ℕ) (R : Rooms) : Type 0 where
   four : AllFour s R → FourOrOver s R
@@ -62,7 +52,7 @@ pub four-or-over : (s : List ℕ) (R : Rooms) → FourOrOver s R
 four-or-over s R = go (fitted R (claimsOf s))
   where
     go : Fitted R (claimsOf s) → FourOrOver s R
-    go (all h) = four (most-fits R (claimsOf s) h)
+    go (all h) = four (λ k. omega (arith, most-fits R (claimsOf s) h k))
     go (some-over o) = short (λ f. not-both s R f o) o
 
 -- Wherever an answer is given that is no refusal for want of room, all four counts fit: so wherever an input is accepted.
@@ -70,7 +60,8 @@ pub four-unless-of-room : (s : List ℕ) (nodes entries slots nesting : ℕ) →
     → AllFour s (roomsOf nodes entries slots nesting)
 four-unless-of-room s nodes entries slots nesting h other =
     let R = roomsOf nodes entries slots nesting in
-    most-fits R (claimsOf s) (fits-unless-of-room R (plain s) (λ n p e. other n p (within-room s nodes entries slots nesting h ∙ e)))
+    let m = most-fits R (claimsOf s) (fits-unless-of-room R (plain s) (λ n p e. other n p (within-room s nodes entries slots nesting h ∙ e))) in
+    λ k. omega (arith, m k)
 
 larger-rooms : {nodes entries slots nesting nodes′ entries′ slots′ nesting′ : ℕ} → Larger nodes entries slots nesting nodes′ entries′ slots′ nesting′
     → (k : Kind) → roomFor (roomsOf nodes entries slots nesting) k ≤ roomFor (roomsOf nodes′ entries′ slots′ nesting′) k

@@ -68,6 +68,18 @@ most-fits R (c ∷ cs) h k = own k (c .kind) (h .0) (most-fits R cs (h .1) k)
     own slot entry f m = omega arith
     own slot slot f m = omega arith
 
+-- A claim's need is at most the most of its kind.
+pub need-most : (k : Kind) (cs before : List Claim) (c : Claim) (rest : List Claim) → cs ≡ before ++ c ∷ rest → c .kind ≡ k → c .need ≤ most k cs
+unfolding most
+need-most k cs [] c rest e q = rw (e, q) (own k)
+  where
+    own : (k : Kind) → c .need ≤ max (cond (same k k) (c .need) 0) (most k rest)
+    own level = omega arith
+    own node = omega arith
+    own entry = omega arith
+    own slot = omega arith
+need-most k cs (b ∷ bs) c rest e q = rw e (omega (arith, need-most k (bs ++ c ∷ rest) bs c rest refl q))
+
 -- All fit, or there is a first that does not.
 pub data Fitted (R : Rooms) (cs : List Claim) : Type 0 where
   all : AllFit R cs → Fitted R cs

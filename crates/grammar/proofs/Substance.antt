@@ -1,21 +1,20 @@
 -- 01, 'What a green run has to mean': the definitions shut out made-up counts, and a reader that touches no store. (That demands 2 and 3 shut
 -- out others stands in `promises`.) Consequences of Exactness and Bounded. Assumes that the input is bytes where it says so.
 use mathlib.Core.Path.{_≡_, refl, sym, ap, _∙_}
-use Prim.Native.Nat.{ℕ, zero, suc, _+_, _*_, _≤_, _<_}
+use Prim.Native.Nat.{ℕ, zero, suc, _+_, _*_, _<_}
 use native.Mathlib.Omega.{arith}
 use mathlib.Core.Bool.{Bool, true, false, _&&_}
 use mathlib.Core.List.{List, [], _∷_}
 use lib.ListN.{length, getD}
 use lib.Dec.{leb}
-use Rattle.refusals.specs.Limits.{mostBytes}
 use Rattle.lent.specs.Lent.{zeros, padded}
 use Rattle.grammar.specs.Input.{Bytes}
-use Rattle.grammar.specs.Reading.{Kind, level, node, entry, slot, gives}
+use Rattle.grammar.specs.Reading.{level, node, entry, slot, gives}
 use Rattle.grammar.specs.Letters.{letters, found, classOf}
-use Rattle.grammar.specs.Room.{roomFor, plainly}
+use Rattle.grammar.specs.Room.{plainly}
 use Rattle.grammar.specs.State.{Node, State, blank, nodeWidth, entryWidth, nodeCells}
 use Rattle.grammar.specs.Answer.{plain, roomsOf, reading, nodesHeld, readOf}
-use Rattle.grammar.specs.Counted.{claimsOf, needed, AllFour}
+use Rattle.grammar.specs.Counted.{claimsOf, AllFour}
 use Rattle.grammar.specs.Record.{sound}
 use Rattle.grammar.proofs.Fitting.{exact-where-all-fit, most-fits, fits-unless-of-room, gives-not-of-room}
 use Rattle.grammar.proofs.Exactness.{exact-where-it-fits}

@@ -54,8 +54,8 @@ pub record Writer : Type 1 where
   pub answer : Calls → Answer ℕ
   pub output : Calls → List ℕ
 
--- Calls with bytes, each below 256, as the type of their input says. Demand 2 is of these: a number is the same once it is written back only
--- if the four or eight numbers that it was read from are bytes. Demands 1 and 3 do not ask it.
+-- Calls with bytes, each below 256, as the type of the input says; and a reader of these calls alone. Demand 2 is of such a reader: a number is
+-- the same once it is written back only if the four or eight numbers that it was read from are bytes. Demands 1 and 3 do not ask it.
 pub record OfBytes (C : Type 0) (input : C → List ℕ) : Type 0 where
   pub call : C
   pub bytes : Bytes (input call)
