@@ -6,17 +6,21 @@ use printing::say_number;
 use printing::say_refused;
 use reader::Outcome;
 
+fn say_word(n: u32) {
+    say_number(n as u64);
+}
+
 fn say_record(records: &[u32], i: usize) {
     if i < records.len() / 4 {
         let j = 4 * i;
         say(b"  ");
-        say_number(records[j] as u64);
+        say_word(records[j]);
         say(b":");
-        say_number(records[j + 1] as u64);
+        say_word(records[j + 1]);
         say(b" - ");
-        say_number(records[j + 2] as u64);
+        say_word(records[j + 2]);
         say(b":");
-        say_number(records[j + 3] as u64);
+        say_word(records[j + 3]);
         say(b"\n");
     }
 }

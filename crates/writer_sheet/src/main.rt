@@ -24,38 +24,43 @@ fn say_answer(answer: Wrote) {
     say(b":");
 }
 
-// The root of stores of which so many records are used.
-fn write_root(
-    input: &[u8],
-    nodes: &[u32],
-    entries: &[u32],
-    used: Outcome,
-    nesting: u32,
-    out: &mut [u8],
-) {
-    match used {
-        Outcome::Refused(number, place) => {
-            say(b"not read: ");
-            say_refused(number, place);
-        }
+// How many nodes and how many entries a reading used; none where it was refused, so that the writer then refuses the root.
+fn nodes_used(answer: Outcome) -> u32 {
+    match answer {
+        Outcome::Refused(_, _) => 0,
         Outcome::Read {
             consumed: _,
-            nodes: used_nodes,
-            entries: used_entries,
+            nodes,
+            entries: _,
             slots: _,
-        } => {
-            say_answer(writer::serialize_value(
-                input,
-                nodes,
-                entries,
-                used_nodes,
-                used_entries,
-                0,
-                nesting,
-                out,
-            ));
-        }
+        } => nodes,
     }
+}
+
+fn entries_used(answer: Outcome) -> u32 {
+    match answer {
+        Outcome::Refused(_, _) => 0,
+        Outcome::Read {
+            consumed: _,
+            nodes: _,
+            entries,
+            slots: _,
+        } => entries,
+    }
+}
+
+// The root of stores that a reading left.
+fn show(input: &[u8], nodes: &[u32], entries: &[u32], read: Outcome, nesting: u32, out: &mut [u8]) {
+    say_answer(writer::serialize_value(
+        input,
+        nodes,
+        entries,
+        nodes_used(read),
+        entries_used(read),
+        0,
+        nesting,
+        out,
+    ));
     say_bytes(out);
     say(b"\n");
 }
@@ -63,8 +68,8 @@ fn write_root(
 fn written(input: &[u8], nesting: u32, out: &mut [u8]) {
     let mut nodes = [0u32; NODES];
     let mut entries = [0u32; 34];
-    let used = reader::deserialize_value(input, &mut nodes, &mut entries, &mut [0; 8], 2000);
-    write_root(input, &nodes, &entries, used, nesting, out);
+    let read = reader::deserialize_value(input, &mut nodes, &mut entries, &mut [0; 8], 2000);
+    show(input, &nodes, &entries, read, nesting, out);
 }
 
 // The same with one number of the nodes replaced.
@@ -73,9 +78,9 @@ fn damaged(input: &[u8], at: usize, with: u32, out: &mut [u8])
 {
     let mut nodes = [0u32; NODES];
     let mut entries = [0u32; 34];
-    let used = reader::deserialize_value(input, &mut nodes, &mut entries, &mut [0; 8], 2000);
+    let read = reader::deserialize_value(input, &mut nodes, &mut entries, &mut [0; 8], 2000);
     nodes[at] = with;
-    write_root(input, &nodes, &entries, used, 2000, out);
+    show(input, &nodes, &entries, read, 2000, out);
 }
 
 fn singles() {
