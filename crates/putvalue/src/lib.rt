@@ -1,25 +1,21 @@
 // The writing of a value of lent stores, whatever stands in them: a node up to its children, then its row or its parts.
 // A writer of values and writers of children and parts call one another, and the nesting allowance falls each time.
 ghost use mathlib.Core.Path.{_≡_};
-ghost use mathlib.Core.Bool.{true, cond};
-ghost use mathlib.Core.List.{_∷_};
-ghost use lib.Dec.{eqb};
+ghost use mathlib.Core.Bool.{true};
 ghost use Prim.Native.Nat.{_+_, _≤_};
 ghost use lib.ListN.{length};
 ghost use Rattle.refusals.specs.Limits.{mostBytes};
 ghost use Rattle.grammar.specs.Letters.{classOf};
-ghost use Rattle.grammar.specs.Fields.{le64};
-ghost use Rattle.fields.specs.Classes.{classAt};
 ghost use Rattle.grammar.specs.Record;
+ghost use Rattle.fields.specs.Classes.{classAt};
 ghost use Rattle.stores.specs.Written.{nodeOf};
-ghost use Rattle.writing.specs.Writing.{ended, emit, each};
-ghost use Rattle.writing.specs.Canonical.{bytes64, ofBits, integerBytes, shownLine};
-ghost use Rattle.writing.specs.Names.{contentsOf};
-ghost use Rattle.writing.specs.Steps.{writing, parted};
+ghost use Rattle.writing.specs.Canonical.{shownLine};
+ghost use Rattle.writing.specs.Steps.{writing};
 ghost use Rattle.puts.specs.Puts.{Open, Puts};
 ghost use Rattle.tables.specs.Looking.{lent, Held};
-ghost use Rattle.underway.specs.Rows.{closed, rowOfNode, lineOf};
-ghost use Rattle.putvalue.specs.Heads.{wholeOf, rowOf, partsOf, Fronts, Heads, Levels, PartIn, linedPart, Coded};
+ghost use Rattle.underway.specs.Rows.{closed};
+ghost use Rattle.putvalue.specs.Heads.{eightAt, wholeOf, rowOf, partsOf, Fronts, Heads, Levels, Coded};
+ghost use Rattle.putvalue.specs.Parts.{PartIn, rowWritten, partWritten, partsWritten};
 
 // What stands in front of a node's children: it is refused, or whole already; or its row comes next, of a dict's pairs or not; or a code's parts do.
 pub enum Opened {
@@ -59,7 +55,7 @@ fn with_parts(wrote: puts::Wrote) -> Opened
 // Eight bytes: a float, or a whole number.
 fn write_eight(s: &[u8], out: &mut [u8], letter: u32, place: u32, at: u32) -> puts::Wrote
     requires { ⌜ Open at (now out) × (place + 8 ≤ length (now s)) ⌝ }
-    ensures { λ r. ⌜ Puts (emit (cond (eqb letter 0x67) (0x67 ∷ bytes64 (le64 (now (s .entry)) place)) (integerBytes (ofBits 9223372036854775808 (le64 (now (s .entry)) place)))) ended) at (now (out .entry)) r (now (out .exit)) ⌝ }
+    ensures { λ r. ⌜ Puts (eightAt (now (s .entry)) letter place) at (now (out .entry)) r (now (out .exit)) ⌝ }
 {
     if letter == 0x67 {
         return puts::write_slice(out, at, 0x67, s, place, 8);
@@ -197,7 +193,7 @@ fn write_children(
     at: u32,
 ) -> puts::Wrote
     requires { ⌜ Open at (now out) × (length (now s) ≤ mostBytes) × Held (lent (now s) (now nodes) (now entries) used) node ⌝ }
-    ensures { λ r. ⌜ Puts (each (writing allowance (lent (now (s .entry)) (now (nodes .entry)) (now (entries .entry)) used)) (rowOfNode (lent (now (s .entry)) (now (nodes .entry)) (now (entries .entry)) used) node)) at (now (out .entry)) r (now (out .exit)) ⌝ }
+    ensures { λ r. ⌜ Puts (rowWritten (lent (now (s .entry)) (now (nodes .entry)) (now (entries .entry)) used) allowance node) at (now (out .entry)) r (now (out .exit)) ⌝ }
 {
     let n = stores::node_of(nodes, node);
     let count = n.count;
@@ -245,7 +241,7 @@ fn write_part(
     at: u32,
 ) -> puts::Wrote
     requires { ⌜ Open at (now out) × (length (now s) ≤ mostBytes) × PartIn (lent (now s) (now nodes) (now entries) used) kinds part node ⌝ }
-    ensures { λ r. ⌜ Puts (linedPart (lent (now (s .entry)) (now (nodes .entry)) (now (entries .entry)) used) allowance line (contentsOf (lent (now (s .entry)) (now (nodes .entry)) (now (entries .entry)) used) kinds) part node) at (now (out .entry)) r (now (out .exit)) ⌝ }
+    ensures { λ r. ⌜ Puts (partWritten (lent (now (s .entry)) (now (nodes .entry)) (now (entries .entry)) used) allowance line kinds part node) at (now (out .entry)) r (now (out .exit)) ⌝ }
 {
     match part {
         0 => putleaf::write_bytes(s, nodes, entries, out, used, allowance, node, at),
@@ -276,7 +272,7 @@ fn write_parts(
     at: u32,
 ) -> puts::Wrote
     requires { ⌜ Open at (now out) × (length (now s) ≤ mostBytes) × Coded (lent (now s) (now nodes) (now entries) used) node ⌝ }
-    ensures { λ r. ⌜ Puts (parted (lent (now (s .entry)) (now (nodes .entry)) (now (entries .entry)) used) allowance (writing allowance (lent (now (s .entry)) (now (nodes .entry)) (now (entries .entry)) used)) (lineOf (lent (now (s .entry)) (now (nodes .entry)) (now (entries .entry)) used) node) (rowOfNode (lent (now (s .entry)) (now (nodes .entry)) (now (entries .entry)) used) node)) at (now (out .entry)) r (now (out .exit)) ⌝ }
+    ensures { λ r. ⌜ Puts (partsWritten (lent (now (s .entry)) (now (nodes .entry)) (now (entries .entry)) used) allowance node) at (now (out .entry)) r (now (out .exit)) ⌝ }
 {
     let n = stores::node_of(nodes, node);
     let line = fields::le32(s, n.place as usize + n.size as usize);

@@ -11,9 +11,9 @@ ghost use Rattle.grammar.specs.Steps.{rules, whatever, asTuple, asNames};
 ghost use Rattle.grammar.specs.Record;
 ghost use Rattle.grammar.specs.Fields.{contents};
 ghost use Rattle.localsplus.specs.Kind;
-ghost use Rattle.writing.specs.Names.{contentsOf, sameBytes, namedIn};
-ghost use Rattle.tables.specs.Groups.{localsIn, inGroup, Listed};
-ghost use Rattle.tables.specs.Looking.{lent, links, isSome, isNone, bytesAt, stringAt, Straight, Names, NamesFit, Parts, after, partOf, evenly, Looks};
+ghost use Rattle.writing.specs.Names.{sameBytes};
+ghost use Rattle.tables.specs.Groups.{sameAs, isLocal, isMember, Listed};
+ghost use Rattle.tables.specs.Looking.{lent, links, isSome, fits, bytesAt, stringAt, Straight, Names, NamesFit, Parts, after, partOf, evenly, Looks};
 
 // The bits of a kind.
 pub const LOCAL: u32 = 0x20;
@@ -185,7 +185,7 @@ fn names_fit(s: &[u8], nodes: &[u32], entries: &[u32], used: Used, node: u32) ->
 // Whether a part of a code is a sound tuple.
 fn tuple_fits(s: &[u8], nodes: &[u32], entries: &[u32], used: Used, node: u32) -> bool
     requires { ⌜ length (now s) ≤ mostBytes ⌝ }
-    ensures { λ r. ⌜ r ≡ isNone (Record.suited (lent (now (s .entry)) (now (nodes .entry)) (now (entries .entry)) used) asTuple node (Record.whole (lent (now (s .entry)) (now (nodes .entry)) (now (entries .entry)) used) node)) ⌝ }
+    ensures { λ r. ⌜ r ≡ fits (lent (now (s .entry)) (now (nodes .entry)) (now (entries .entry)) used) asTuple node ⌝ }
 {
     if !whole(s, nodes, entries, used, node) {
         return false;
@@ -196,7 +196,7 @@ fn tuple_fits(s: &[u8], nodes: &[u32], entries: &[u32], used: Used, node: u32) -
 // Whether a part of a code is a sound tuple of sound strings.
 fn whole_names_fit(s: &[u8], nodes: &[u32], entries: &[u32], used: Used, node: u32) -> bool
     requires { ⌜ length (now s) ≤ mostBytes ⌝ }
-    ensures { λ r. ⌜ r ≡ isNone (Record.suited (lent (now (s .entry)) (now (nodes .entry)) (now (entries .entry)) used) asNames node (Record.whole (lent (now (s .entry)) (now (nodes .entry)) (now (entries .entry)) used) node)) ⌝ }
+    ensures { λ r. ⌜ r ≡ fits (lent (now (s .entry)) (now (nodes .entry)) (now (entries .entry)) used) asNames node ⌝ }
 {
     if !whole(s, nodes, entries, used, node) {
         return false;
@@ -207,7 +207,7 @@ fn whole_names_fit(s: &[u8], nodes: &[u32], entries: &[u32], used: Used, node: u
 // Whether a part of a code is what its rule asks.
 fn part_fits(s: &[u8], nodes: &[u32], entries: &[u32], used: Used, part: u32, node: u32) -> bool
     requires { ⌜ (length (now s) ≤ mostBytes) × (part < 10) ⌝ }
-    ensures { λ r. ⌜ r ≡ isNone (Record.suited (lent (now (s .entry)) (now (nodes .entry)) (now (entries .entry)) used) (getD rules part whatever) node (Record.whole (lent (now (s .entry)) (now (nodes .entry)) (now (entries .entry)) used) node)) ⌝ }
+    ensures { λ r. ⌜ r ≡ fits (lent (now (s .entry)) (now (nodes .entry)) (now (entries .entry)) used) (getD rules part whatever) node ⌝ }
 {
     match part {
         1 => tuple_fits(s, nodes, entries, used, node),
@@ -306,7 +306,7 @@ fn same_bytes(s: &[u8], a: usize, b: usize, size: usize) -> bool
 // Whether a part of the input and a sound string are the same.
 fn same_name(s: &[u8], nodes: &[u32], used: u32, place: u32, size: u32, name: u32) -> bool
     requires { ⌜ (place + size ≤ length (now s)) × (stringAt (now s) (now nodes) used name ≡ true) ⌝ }
-    ensures { λ r. ⌜ r ≡ sameBytes (contents (now (s .entry)) place size) (contents (now (s .entry)) (nodeAt (now (nodes .entry)) name .place) (nodeAt (now (nodes .entry)) name .size)) ⌝ }
+    ensures { λ r. ⌜ r ≡ sameAs (now (s .entry)) (now (nodes .entry)) name place size ⌝ }
 {
     let n = stores::node_at(nodes, name);
     if size != n.size {
@@ -325,7 +325,7 @@ fn has(bit: u32, kind: u8) -> bool
 // Whether a name of a kind is Local and the same as a part of the input.
 fn local_is(s: &[u8], nodes: &[u32], used: u32, kind: u8, name: u32, place: u32, size: u32) -> bool
     requires { ⌜ (place + size ≤ length (now s)) × (stringAt (now s) (now nodes) used name ≡ true) ⌝ }
-    ensures { λ r. ⌜ r ≡ (Kind.has 32 kind && sameBytes (contents (now (s .entry)) place size) (contents (now (s .entry)) (nodeAt (now (nodes .entry)) name .place) (nodeAt (now (nodes .entry)) name .size))) ⌝ }
+    ensures { λ r. ⌜ r ≡ (Kind.has Kind.localBit kind && sameAs (now (s .entry)) (now (nodes .entry)) name place size) ⌝ }
 {
     if !has(LOCAL, kind) {
         return false;
@@ -336,7 +336,7 @@ fn local_is(s: &[u8], nodes: &[u32], used: u32, kind: u8, name: u32, place: u32,
 // Whether a name equals a Local name.
 fn is_local(s: &[u8], nodes: &[u32], entries: &[u32], used: Used, locals: Locals, node: u32) -> bool
     requires { ⌜ Listed (lent (now s) (now nodes) (now entries) used) locals × (stringAt (now s) (now nodes) (used .nodes) node ≡ true) ⌝ }
-    ensures { λ r. ⌜ r ≡ namedIn (lent (now (s .entry)) (now (nodes .entry)) (now (entries .entry)) used) (contentsOf (lent (now (s .entry)) (now (nodes .entry)) (now (entries .entry)) used) node) (localsIn (lent (now (s .entry)) (now (nodes .entry)) (now (entries .entry)) used) locals) ⌝ }
+    ensures { λ r. ⌜ r ≡ isLocal (lent (now (s .entry)) (now (nodes .entry)) (now (entries .entry)) used) locals node ⌝ }
 {
     let own = stores::node_at(nodes, node);
     let kinds = locals.kinds as usize;
@@ -367,7 +367,7 @@ pub fn belongs(
     node: u32,
 ) -> bool
     requires { ⌜ Listed (lent (now s) (now nodes) (now entries) used) locals × (stringAt (now s) (now nodes) (used .nodes) node ≡ true) × (0 < bit) ⌝ }
-    ensures { λ r. ⌜ r ≡ inGroup (lent (now (s .entry)) (now (nodes .entry)) (now (entries .entry)) used) (localsIn (lent (now (s .entry)) (now (nodes .entry)) (now (entries .entry)) used) locals) bit kind node ⌝ }
+    ensures { λ r. ⌜ r ≡ isMember (lent (now (s .entry)) (now (nodes .entry)) (now (entries .entry)) used) locals bit kind node ⌝ }
 {
     if !has(bit, kind) {
         return false;
