@@ -59,12 +59,6 @@ pub const REFERENCE: u32 = 13;
 
 pub const REFUSED: u32 = 14;
 
-fn wide(byte: u8) -> u64
-    ensures { λ r. ⌜ (r ≡ byte) × (r < 256) ⌝ }
-{
-    byte as u64
-}
-
 fn word(byte: u8) -> u32
     ensures { λ r. ⌜ (r ≡ byte) × (r < 256) ⌝ }
 {
@@ -94,14 +88,14 @@ pub fn le64(s: &[u8], at: usize) -> u64
     requires { ⌜ at + 8 ≤ length (now s) ⌝ }
     ensures { λ r. ⌜ r ≡ Fields.le64 (now (s .entry)) at ⌝ }
 {
-    let b0 = wide(s[at]);
-    let b1 = wide(s[at + 1]);
-    let b2 = wide(s[at + 2]);
-    let b3 = wide(s[at + 3]);
-    let b4 = wide(s[at + 4]);
-    let b5 = wide(s[at + 5]);
-    let b6 = wide(s[at + 6]);
-    let b7 = wide(s[at + 7]);
+    let b0 = signed::wide(s[at]);
+    let b1 = signed::wide(s[at + 1]);
+    let b2 = signed::wide(s[at + 2]);
+    let b3 = signed::wide(s[at + 3]);
+    let b4 = signed::wide(s[at + 4]);
+    let b5 = signed::wide(s[at + 5]);
+    let b6 = signed::wide(s[at + 6]);
+    let b7 = signed::wide(s[at + 7]);
     b0
         + b1 * 256
         + b2 * 65536

@@ -74,12 +74,6 @@ pub fn lt_byte(table: &[u8], at: usize) -> Byte
     }
 }
 
-fn wide(byte: u8) -> u64
-    ensures { λ r. ⌜ (r ≡ byte) × (r < 256) ⌝ }
-{
-    byte as u64
-}
-
 // A varint of at most `most` bytes.
 fn varint_within(table: &[u8], at: usize, most: usize) -> Varint
     ensures { λ r. ⌜ r ≡ varintWithin most (now (table .entry)) at ⌝ }
@@ -94,7 +88,7 @@ fn varint_within(table: &[u8], at: usize, most: usize) -> Varint
     if most == 0 {
         return Varint::TooLong;
     }
-    let b = wide(table[at]);
+    let b = signed::wide(table[at]);
     if b % 128 < 64 {
         return Varint::Value {
             value: (b % 64) as u32,
@@ -129,7 +123,7 @@ pub fn lt_read_varint(table: &[u8], at: usize) -> Varint
             missing: true,
         };
     }
-    let b = wide(table[at]);
+    let b = signed::wide(table[at]);
     if b % 128 < 64 {
         return Varint::Value {
             value: (b % 64) as u32,

@@ -12,3 +12,6 @@ signed32-agrees κs a asked r r′ ws ws′ p p′ = (one p p′, refl)
 
 pub signed64-agrees : Agree signed.signed64.ended signed.signed64.Reads.Asked signed.signed64.Reads.Learnt
 signed64-agrees κs a asked r r′ ws ws′ p p′ = (one p p′, refl)
+
+pub wide-agrees : Agree signed.wide.ended signed.wide.Reads.Asked signed.wide.Reads.Learnt
+wide-agrees κs a asked r r′ ws ws′ p p′ = (one (p .0) (p′ .0), refl)

@@ -13,6 +13,11 @@ ghost use Rattle.writing.specs.Steps.{writing};
 ghost use Rattle.puts.specs.Puts.{Open, Puts};
 ghost use Rattle.tables.specs.Looking.{lent, isSome};
 ghost use Rattle.putleaf.specs.Leaves.{textIf, ledOf, LeafIs, Leaves, Leads, Rows};
+use grammar::BYTES_LETTER;
+use grammar::INT_LETTER;
+use grammar::WRITTEN_BYTES;
+use grammar::WRITTEN_INT;
+use grammar::WRITTEN_UNICODE;
 
 // How a node without children is written, if it is of a common kind and its record is sound: four bytes from a place on,
 // or a letter, and so many bytes from a place on.
@@ -26,7 +31,7 @@ fn text_if(formed: bool, place: u32, size: u32) -> Leaf
     ensures { λ r. ⌜ r ≡ textIf formed place size ⌝ }
 {
     if formed {
-        Leaf::Sized(grammar::WRITTEN_UNICODE, place, size)
+        Leaf::Sized(WRITTEN_UNICODE, place, size)
     } else {
         Leaf::Other
     }
@@ -54,13 +59,13 @@ fn leaf_of(s: &[u8], n: stores::Node) -> Leaf
     }
     let letter = n.letter;
     match letter {
-        grammar::INT_LETTER => {
+        INT_LETTER => {
             if n.size != 4 {
                 return Leaf::Other;
             }
             Leaf::Four(n.place)
         }
-        grammar::BYTES_LETTER => Leaf::Sized(grammar::WRITTEN_BYTES, n.place, n.size),
+        BYTES_LETTER => Leaf::Sized(WRITTEN_BYTES, n.place, n.size),
         _ => text_of(s, n),
     }
 }
@@ -110,7 +115,7 @@ fn write_leaf(
 {
     match leaf_at(s, nodes, used, allowance, node) {
         Leaf::Other => Led::Left,
-        Leaf::Four(place) => led_by(puts::write_slice(out, at, grammar::WRITTEN_INT, s, place, 4)),
+        Leaf::Four(place) => led_by(puts::write_slice(out, at, WRITTEN_INT, s, place, 4)),
         Leaf::Sized(letter, place, size) => led_by(puts::write_vec(
             out,
             at,
@@ -184,5 +189,5 @@ pub fn write_bytes(
         return puts::Wrote::Refused(refusals::TOO_DEEP, node);
     }
     let n = stores::node_of(nodes, node);
-    puts::write_vec(out, at, grammar::WRITTEN_BYTES, s, n.place, n.size)
+    puts::write_vec(out, at, WRITTEN_BYTES, s, n.place, n.size)
 }

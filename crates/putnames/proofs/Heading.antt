@@ -21,7 +21,8 @@ use Rattle.puts.specs.declared.Wrote.the-variants as wrote
 use Rattle.puts.specs.Puts.{Puts}
 use Rattle.putnames.specs.declared.Grouped.{Grouped}
 use Rattle.putnames.specs.declared.Grouped.the-variants as grouped
-use Rattle.putnames.specs.Groups.{wroteOf, Groups, Localed}
+use Rattle.putnames.specs.Names.{Localed}
+use Rattle.putnames.specs.Groups.{wroteOf, Groups}
 use Rattle.underway.proofs.Under.{later, puts-equal, puts-told}
 use Rattle.putnames.proofs.Naming.{inLocals, locals-part, counted-as}
 

@@ -32,7 +32,8 @@ use Rattle.tables.proofs.Codes.{look-plain}
 use Rattle.tables.proofs.Groups.{Along, along-none, Next, along-next, along-on, along-end, groups-are}
 use Rattle.underway.specs.Onward.{Onward}
 use Rattle.underway.specs.Rows.{kidsFrom}
-use Rattle.putnames.specs.Groups.{Localed, wroteOf, CountedTo, Groups}
+use Rattle.putnames.specs.Names.{Localed}
+use Rattle.putnames.specs.Groups.{wroteOf, CountedTo, Groups}
 use Rattle.putnames.specs.declared.Grouped.{Grouped}
 use Rattle.putnames.specs.declared.Grouped.the-variants as grouped
 use Rattle.underway.proofs.Under.{start, left-as, done, refused-in, written-in, puts-equal, puts-open, last}

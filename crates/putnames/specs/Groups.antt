@@ -1,16 +1,18 @@
 -- Names that are written one after another and counted, as the tuple of local names asks it. 01, 'Writing it back': "Local names are written
 -- as all Local, then Cell whose name equals no Local name, then Free".
 use mathlib.Core.Path.{_≡_}
-use Prim.Native.Nat.{ℕ, _+_, _≤_}
-use mathlib.Core.Option.{none}
+use Prim.Native.Nat.{ℕ, _+_}
 use mathlib.Core.List.{List}
 use lib.ListN.{length}
-use Rattle.grammar.specs.Steps.{asNames}
-use Rattle.grammar.specs.Record.{Tables, nodeOf, whole, suited}
+use Rattle.grammar.specs.Record.{Tables}
 use Rattle.writing.specs.Writing.{Writing, each}
+use Rattle.writing.specs.Names.{inGroups}
+use Rattle.writing.specs.Steps.{stringPart}
 use Rattle.puts.specs.declared.Wrote.{Wrote}
 use Rattle.puts.specs.declared.Wrote.the-variants as wrote
 use Rattle.puts.specs.Puts.{Puts}
+use Rattle.tables.specs.declared.Locals.{Locals}
+use Rattle.tables.specs.Groups.{namesIn, kindsIn, groupIn}
 use Rattle.putnames.specs.declared.Grouped.{Grouped}
 use Rattle.putnames.specs.declared.Grouped.the-variants as grouped
 
@@ -29,8 +31,9 @@ pub record Groups (f : ℕ → Writing) (names : List ℕ) (counted at : ℕ) (b
   pub puts : Puts (each f names) at before (wroteOf r) after
   pub count : CountedTo (counted + length names) r
 
--- local names and their kinds, as a code has tested them
-pub record Localed (t : Tables) (kinds node : ℕ) : Type 0 where
-  pub tuple : suited t asNames node (whole t node) ≡ none
-  pub within : nodeOf t kinds .place + nodeOf t kinds .size ≤ length (t .input)
-  pub even : nodeOf t kinds .size ≡ nodeOf t node .count
+-- the names in the group of a bit, and those of the three groups one after another
+abbrev pub Group : Tables → (allowance : ℕ) → Locals → (bit counted at : ℕ) → (before : List ℕ) → Grouped → (after : List ℕ) → Type 0
+Group t a l bit = Groups (stringPart t a) (groupIn t l bit)
+
+abbrev pub AllGroups : Tables → (allowance : ℕ) → Locals → (at : ℕ) → (before : List ℕ) → Grouped → (after : List ℕ) → Type 0
+AllGroups t a l = Groups (stringPart t a) (inGroups t (kindsIn t l) (namesIn t l)) 0

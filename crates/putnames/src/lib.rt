@@ -2,20 +2,17 @@
 // What is asked of the stores was tested with the code: the names of a chain are sound strings.
 ghost use mathlib.Core.Path.{_≡_};
 ghost use mathlib.Core.Bool.{true, cond};
-ghost use mathlib.Core.Option.{none};
 ghost use Prim.Native.Nat.{_+_, _≤_, _<_};
 ghost use lib.ListN.{length};
 ghost use Rattle.refusals.specs.Limits.{mostBytes};
-ghost use Rattle.grammar.specs.Steps.{asNames};
-ghost use Rattle.grammar.specs.Record;
-ghost use Rattle.writing.specs.Writing.{ended, each};
-ghost use Rattle.writing.specs.Names.{contentsOf, inGroups};
-ghost use Rattle.writing.specs.Steps.{stringPart, namesPart, kidsOf};
+ghost use Rattle.writing.specs.Writing.{ended};
+ghost use Rattle.writing.specs.Steps.{stringPart};
 ghost use Rattle.puts.specs.Puts.{Open, Puts};
-ghost use Rattle.tables.specs.Looking.{lent, isSome, stringAt};
-ghost use Rattle.tables.specs.Groups.{groupIn, kindsIn, namesIn, Listed};
-ghost use Rattle.underway.specs.Rows.{kidsFrom};
-ghost use Rattle.putnames.specs.Groups.{Groups, Localed};
+ghost use Rattle.tables.specs.Looking.{lent, stringAt};
+ghost use Rattle.tables.specs.Groups.{Listed};
+ghost use Rattle.putnames.specs.Names.{Chained, Spelt, Tuples, Localed, namesFrom, namesOf, localsOf};
+ghost use Rattle.putnames.specs.Groups.{Group, AllGroups};
+use grammar::WRITTEN_TUPLE;
 
 // A code string.
 pub fn write_string(
@@ -50,8 +47,8 @@ fn write_names(
     count: u32,
     at: u32,
 ) -> puts::Wrote
-    requires { ⌜ Open at (now out) × (isSome (Record.chain (lent (now s) (now nodes) (now entries) used) count first) ≡ true) × (Record.badString (lent (now s) (now nodes) (now entries) used) (kidsFrom (lent (now s) (now nodes) (now entries) used) count first) ≡ none) ⌝ }
-    ensures { λ r. ⌜ Puts (each (stringPart (lent (now (s .entry)) (now (nodes .entry)) (now (entries .entry)) used) allowance) (kidsFrom (lent (now (s .entry)) (now (nodes .entry)) (now (entries .entry)) used) count first)) at (now (out .entry)) r (now (out .exit)) ⌝ }
+    requires { ⌜ Open at (now out) × Chained (lent (now s) (now nodes) (now entries) used) count first × Spelt (lent (now s) (now nodes) (now entries) used) count first ⌝ }
+    ensures { λ r. ⌜ Puts (namesFrom (lent (now (s .entry)) (now (nodes .entry)) (now (entries .entry)) used) allowance count first) at (now (out .entry)) r (now (out .exit)) ⌝ }
 {
     let mut e = first;
     let mut i = 0u32;
@@ -83,14 +80,14 @@ pub fn write_marshal_name_tuple(
     node: u32,
     at: u32,
 ) -> puts::Wrote
-    requires { ⌜ Open at (now out) × (Record.suited (lent (now s) (now nodes) (now entries) used) asNames node (Record.whole (lent (now s) (now nodes) (now entries) used) node) ≡ none) ⌝ }
-    ensures { λ r. ⌜ Puts (namesPart (lent (now (s .entry)) (now (nodes .entry)) (now (entries .entry)) used) allowance node (kidsOf (lent (now (s .entry)) (now (nodes .entry)) (now (entries .entry)) used) node)) at (now (out .entry)) r (now (out .exit)) ⌝ }
+    requires { ⌜ Open at (now out) × Tuples (lent (now s) (now nodes) (now entries) used) node ⌝ }
+    ensures { λ r. ⌜ Puts (namesOf (lent (now (s .entry)) (now (nodes .entry)) (now (entries .entry)) used) allowance node) at (now (out .entry)) r (now (out .exit)) ⌝ }
 {
     if allowance == 0 {
         return puts::Wrote::Refused(refusals::TOO_DEEP, node);
     }
     let n = stores::node_of(nodes, node);
-    match puts::write_len(out, at, grammar::WRITTEN_TUPLE, n.count) {
+    match puts::write_len(out, at, WRITTEN_TUPLE, n.count) {
         puts::Wrote::Refused(number, place) => puts::Wrote::Refused(number, place),
         puts::Wrote::Done(a) => write_names(
             s,
@@ -156,7 +153,7 @@ fn write_group(
     counted: u32,
 ) -> Grouped
     requires { ⌜ Open at (now out) × Listed (lent (now s) (now nodes) (now entries) used) locals × (0 < bit) × (counted + locals .count ≤ 4294967295) ⌝ }
-    ensures { λ r. ⌜ Groups (stringPart (lent (now (s .entry)) (now (nodes .entry)) (now (entries .entry)) used) allowance) (groupIn (lent (now (s .entry)) (now (nodes .entry)) (now (entries .entry)) used) locals bit) counted at (now (out .entry)) r (now (out .exit)) ⌝ }
+    ensures { λ r. ⌜ Group (lent (now (s .entry)) (now (nodes .entry)) (now (entries .entry)) used) allowance locals bit counted at (now (out .entry)) r (now (out .exit)) ⌝ }
 {
     let kinds = locals.kinds as usize;
     let count = locals.count;
@@ -195,7 +192,7 @@ fn write_groups(
     at: u32,
 ) -> Grouped
     requires { ⌜ Open at (now out) × Listed (lent (now s) (now nodes) (now entries) used) locals × (length (now s) ≤ mostBytes) ⌝ }
-    ensures { λ r. ⌜ Groups (stringPart (lent (now (s .entry)) (now (nodes .entry)) (now (entries .entry)) used) allowance) (inGroups (lent (now (s .entry)) (now (nodes .entry)) (now (entries .entry)) used) (kindsIn (lent (now (s .entry)) (now (nodes .entry)) (now (entries .entry)) used) locals) (namesIn (lent (now (s .entry)) (now (nodes .entry)) (now (entries .entry)) used) locals)) 0 at (now (out .entry)) r (now (out .exit)) ⌝ }
+    ensures { λ r. ⌜ AllGroups (lent (now (s .entry)) (now (nodes .entry)) (now (entries .entry)) used) allowance locals at (now (out .entry)) r (now (out .exit)) ⌝ }
 {
     match write_group(
         s,
@@ -252,7 +249,7 @@ pub fn write_locals(
     at: u32,
 ) -> puts::Wrote
     requires { ⌜ Open at (now out) × Localed (lent (now s) (now nodes) (now entries) used) kinds node × (length (now s) ≤ mostBytes) ⌝ }
-    ensures { λ r. ⌜ Puts (namesPart (lent (now (s .entry)) (now (nodes .entry)) (now (entries .entry)) used) allowance node (inGroups (lent (now (s .entry)) (now (nodes .entry)) (now (entries .entry)) used) (contentsOf (lent (now (s .entry)) (now (nodes .entry)) (now (entries .entry)) used) kinds) (kidsOf (lent (now (s .entry)) (now (nodes .entry)) (now (entries .entry)) used) node))) at (now (out .entry)) r (now (out .exit)) ⌝ }
+    ensures { λ r. ⌜ Puts (localsOf (lent (now (s .entry)) (now (nodes .entry)) (now (entries .entry)) used) allowance kinds node) at (now (out .entry)) r (now (out .exit)) ⌝ }
 {
     if allowance == 0 {
         return puts::Wrote::Refused(refusals::TOO_DEEP, node);
@@ -264,7 +261,7 @@ pub fn write_locals(
         count: n.count,
         kinds: k.place,
     };
-    match puts::write_len(out, at, grammar::WRITTEN_TUPLE, 0) {
+    match puts::write_len(out, at, WRITTEN_TUPLE, 0) {
         puts::Wrote::Refused(number, place) => puts::Wrote::Refused(number, place),
         puts::Wrote::Done(a) => {
             match write_groups(s, nodes, entries, out, used, allowance - 1, locals, a) {

@@ -14,6 +14,10 @@ ghost use Rattle.writing.specs.Writing.{emit, ended};
 ghost use Rattle.writing.specs.Canonical.{bytes32, bytes64, sized, ascii, codeString, digitsOf, digitBytes, bitsOf, ofBits, longBytes, integerBytes};
 ghost use Rattle.writing.specs.Shape.{longAt};
 ghost use Rattle.puts.specs.Puts.{Open, Puts, Short};
+use grammar::WRITTEN_INT;
+use grammar::WRITTEN_LONG;
+use grammar::WRITTEN_SHORT;
+use grammar::WRITTEN_UNICODE;
 
 // A writer's answer: how many bytes are written, or a refusal's number and place.
 pub enum Wrote {
@@ -219,7 +223,7 @@ fn write_short(out: &mut [u8], at: u32, s: &[u8], from: u32, size: u32) -> Wrote
     if room - place < 2 + count {
         return Wrote::Refused(refusals::NO_ROOM, room as u32);
     }
-    out[place] = grammar::WRITTEN_SHORT;
+    out[place] = WRITTEN_SHORT;
     out[place + 1] = size as u8;
     store_slice(out, place + 2, s, from as usize, count);
     Wrote::Done(at + 2 + size)
@@ -233,7 +237,7 @@ pub fn write_marshal_str(out: &mut [u8], at: u32, s: &[u8], from: u32, size: u32
     if is_short(s, from, size) {
         return write_short(out, at, s, from, size);
     }
-    write_vec(out, at, grammar::WRITTEN_UNICODE, s, from, size)
+    write_vec(out, at, WRITTEN_UNICODE, s, from, size)
 }
 
 // How many digits of 15 bits a number outside signed 32 bits has.
@@ -288,7 +292,7 @@ fn write_digits(out: &mut [u8], at: u32, negative: bool, magnitude: u64) -> Wrot
     if room - place < 5 + 2 * count as usize {
         return Wrote::Refused(refusals::NO_ROOM, room as u32);
     }
-    out[place] = grammar::WRITTEN_LONG;
+    out[place] = WRITTEN_LONG;
     store_u32(out, place + 1, signed_count(negative, count));
     store_digits(out, place + 5, magnitude);
     Wrote::Done(at + 5 + 2 * count)
@@ -301,10 +305,10 @@ pub fn write_int64(out: &mut [u8], at: u32, s: &[u8], place: u32) -> Wrote
 {
     let bits = fields::le64(s, place as usize);
     if bits < 0x8000_0000 {
-        return write_slice(out, at, grammar::WRITTEN_INT, s, place, 4);
+        return write_slice(out, at, WRITTEN_INT, s, place, 4);
     }
     if 0xFFFF_FFFF_8000_0000 <= bits {
-        return write_slice(out, at, grammar::WRITTEN_INT, s, place, 4);
+        return write_slice(out, at, WRITTEN_INT, s, place, 4);
     }
     if bits < 0x8000_0000_0000_0000 {
         return write_digits(out, at, false, bits);
@@ -337,22 +341,17 @@ pub fn write_pylong(out: &mut [u8], at: u32, s: &[u8], place: u32, size: u32) ->
     ensures { λ r. ⌜ Puts (emit (integerBytes (longAt (now (s .entry)) place)) ended) at (now (out .entry)) r (now (out .exit)) ⌝ }
 {
     if 10 < size {
-        return write_slice(out, at, grammar::WRITTEN_LONG, s, place, size);
+        return write_slice(out, at, WRITTEN_LONG, s, place, size);
     }
     let value = few_digits(s, place as usize + 4, (size - 4) / 2);
     if fields::le32(s, place as usize) < 0x8000_0000 {
         if value < 0x8000_0000 {
-            return write_len(out, at, grammar::WRITTEN_INT, value as u32);
+            return write_len(out, at, WRITTEN_INT, value as u32);
         }
-        return write_slice(out, at, grammar::WRITTEN_LONG, s, place, size);
+        return write_slice(out, at, WRITTEN_LONG, s, place, size);
     }
     if value <= 0x8000_0000 {
-        return write_len(
-            out,
-            at,
-            grammar::WRITTEN_INT,
-            0xFFFF_FFFF - value as u32 + 1,
-        );
+        return write_len(out, at, WRITTEN_INT, 0xFFFF_FFFF - value as u32 + 1);
     }
-    write_slice(out, at, grammar::WRITTEN_LONG, s, place, size)
+    write_slice(out, at, WRITTEN_LONG, s, place, size)
 }

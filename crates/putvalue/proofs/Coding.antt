@@ -31,8 +31,9 @@ use Rattle.tables.proofs.Chains.{onto, headed, chain-none}
 use Rattle.tables.proofs.Codes.{part-of}
 use Rattle.underway.specs.Onward.{Onward}
 use Rattle.underway.specs.Rows.{rowOfNode, lineOf}
-use Rattle.putvalue.specs.Heads.{Coded, linedPart, partsFrom, PartIn}
-use Rattle.putnames.specs.Groups.{Localed}
+use Rattle.putvalue.specs.Heads.{Coded}
+use Rattle.putvalue.specs.Parts.{linedPart, partsFrom, PartIn}
+use Rattle.putnames.specs.Names.{Localed}
 use Rattle.underway.proofs.Under.{start, left-as, done, refused-in, written-in}
 use Rattle.putvalue.proofs.Opening.{row-held}
 

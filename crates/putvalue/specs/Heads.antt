@@ -1,32 +1,33 @@
--- What the parts of the writer of values answer: the front of a node, and the parts of a code. 01, 'Writing it back': "Node by node in writing
+-- What the parts of the writer of values answer: the front of a node, and a node that is opened. 01, 'Writing it back': "Node by node in writing
 -- order", "its own bytes as they come".
 use mathlib.Core.Path.{_≡_}
-use Prim.Native.Nat.{ℕ, zero, suc, _+_, _-_, _≤_, _<_}
-use mathlib.Core.Bool.{Bool, true, false, cond}
-use mathlib.Core.Option.{none}
-use mathlib.Core.List.{List, [], _∷_}
-use lib.ListN.{length, take, getD, drop}
+use Prim.Native.Nat.{ℕ, _+_, _-_, _≤_}
+use mathlib.Core.Bool.{Bool, cond}
+use mathlib.Core.List.{List, _∷_}
+use lib.ListN.{length}
 use lib.Dec.{eqb}
-use Rattle.grammar.specs.Reading.{Answer, gives, stops}
+use Rattle.grammar.specs.LetterNames.{floatLetter}
 use Rattle.grammar.specs.Letters.{Class, codes, classOf}
-use Rattle.grammar.specs.Fields.{le32}
+use Rattle.grammar.specs.Fields.{le32, le64}
 use Rattle.grammar.specs.State.{Node}
-use Rattle.grammar.specs.Steps.{rules, codeParts, kindsPart, linePart, asNames, whatever, localsPart}
-use Rattle.grammar.specs.Record.{Tables, nodeOf, chain, whole, suited, badPart}
-use Rattle.writing.specs.Writing.{Writing, ended, emit, then, each, into}
-use Rattle.writing.specs.Canonical.{bytes32, shownLine}
+use Rattle.grammar.specs.Record.{Tables, nodeOf}
+use Rattle.writing.specs.Writing.{Writing, ended, emit, then, each}
+use Rattle.writing.specs.Canonical.{bytes64, integerBytes, ofBits}
 use Rattle.writing.specs.Shape.{classed}
-use Rattle.writing.specs.Names.{contentsOf}
-use Rattle.writing.specs.Steps.{Manner, asValue, manners, part, shaped, isCode, writing, parted}
+use Rattle.writing.specs.Steps.{shaped, writing, parted}
 use Rattle.puts.specs.declared.Wrote.{Wrote}
 use Rattle.puts.specs.declared.Wrote.the-variants as wrote
 use Rattle.puts.specs.Puts.{Puts}
-use Rattle.tables.specs.Looking.{isSome, Held}
-use Rattle.tables.specs.Groups.{orNone}
+use Rattle.tables.specs.Looking.{Held}
 use Rattle.underway.specs.Onward.{Onward}
 use Rattle.underway.specs.Rows.{rowOfNode, closed, lineOf, outOfLevels}
 use Rattle.putvalue.specs.declared.Opened.{Opened}
 use Rattle.putvalue.specs.declared.Opened.the-variants as opened
+
+-- one field of eight bytes: `g` is a float, which is copied, and `I` a whole number
+abbrev pub eightAt : List ℕ → (letter place : ℕ) → Writing
+eightAt s letter place =
+    emit (cond (eqb letter floatLetter) (floatLetter ∷ bytes64 (le64 s place)) (integerBytes (ofBits 9223372036854775808 (le64 s place)))) ended
 
 -- a put's answer, and what is to come after it
 abbrev pub wholeOf : Wrote → Opened
@@ -68,24 +69,6 @@ HeadAs t a n at o (opened.Parts p) o′ =
 pub record Heads (t : Tables) (a n at : ℕ) (o : List ℕ) (r : Opened) (o′ : List ℕ) : Type 0 where
   pub same : length o′ ≡ length o
   pub stands : HeadAs t a n at o r o′
-
--- a code's first line, which comes where it stands: before the ninth part
-abbrev pub lineAt : (i line : ℕ) → Writing → Writing
-lineAt i line w = cond (eqb i linePart) (emit (bytes32 (shownLine line)) w) w
-
--- a part in its place, with what it asks
-abbrev pub linedPart : Tables → (allowance line : ℕ) → (kinds : List ℕ) → (i node : ℕ) → Writing
-linedPart t a line kinds i v = lineAt i line (part t a (writing a t) kinds (getD manners i asValue) v)
-
-unfoldable pub partsFrom : Tables → (allowance line : ℕ) → (kinds : List ℕ) → (i : ℕ) → List ℕ → Writing
-partsFrom t a line kinds i [] = ended
-partsFrom t a line kinds i (v ∷ vs) = then (linedPart t a line kinds i v) (partsFrom t a line kinds (i + 1) vs)
-
-pub record PartIn (t : Tables) (kinds i v : ℕ) : Type 0 where
-  pub below : i < codeParts
-  pub fits : suited t (getD rules i whatever) v (whole t v) ≡ none
-  pub within : nodeOf t kinds .place + nodeOf t kinds .size ≤ length (t .input)
-  pub even : i ≡ localsPart → nodeOf t kinds .size ≡ nodeOf t v .count
 
 -- whether levels are out, which neither the input nor the entries tell
 pub record Levels (nodes : List ℕ) (used allowance node : ℕ) (r : Bool) : Type 0 where

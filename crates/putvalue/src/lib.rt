@@ -1,26 +1,44 @@
 // The writing of a value of lent stores, whatever stands in them: a node up to its children, then its row or its parts.
 // A writer of values and writers of children and parts call one another, and the nesting allowance falls each time.
 ghost use mathlib.Core.Path.{_≡_};
-ghost use mathlib.Core.Bool.{true, cond};
-ghost use mathlib.Core.List.{_∷_};
-ghost use lib.Dec.{eqb};
+ghost use mathlib.Core.Bool.{true};
 ghost use Prim.Native.Nat.{_+_, _≤_};
 ghost use lib.ListN.{length};
-ghost use Rattle.grammar.specs.LetterNames.{floatLetter};
 ghost use Rattle.refusals.specs.Limits.{mostBytes};
 ghost use Rattle.grammar.specs.Letters.{classOf};
-ghost use Rattle.grammar.specs.Fields.{le64};
-ghost use Rattle.fields.specs.Classes.{classAt};
 ghost use Rattle.grammar.specs.Record;
+ghost use Rattle.fields.specs.Classes.{classAt};
 ghost use Rattle.stores.specs.Written.{nodeOf};
-ghost use Rattle.writing.specs.Writing.{ended, emit, each};
-ghost use Rattle.writing.specs.Canonical.{bytes64, ofBits, integerBytes, shownLine};
-ghost use Rattle.writing.specs.Names.{contentsOf};
-ghost use Rattle.writing.specs.Steps.{writing, parted};
+ghost use Rattle.writing.specs.Canonical.{shownLine};
+ghost use Rattle.writing.specs.Steps.{writing};
 ghost use Rattle.puts.specs.Puts.{Open, Puts};
 ghost use Rattle.tables.specs.Looking.{lent, Held};
-ghost use Rattle.underway.specs.Rows.{closed, rowOfNode, lineOf};
-ghost use Rattle.putvalue.specs.Heads.{wholeOf, rowOf, partsOf, Fronts, Heads, Levels, PartIn, linedPart, Coded};
+ghost use Rattle.underway.specs.Rows.{closed};
+ghost use Rattle.putvalue.specs.Heads.{eightAt, wholeOf, rowOf, partsOf, Fronts, Heads, Levels, Coded};
+ghost use Rattle.putvalue.specs.Parts.{PartIn, rowWritten, partWritten, partsWritten};
+use grammar::CODE_LETTER;
+use grammar::CODE_NUMBERS;
+use grammar::CODE_PART;
+use grammar::CODE_PARTS;
+use grammar::EXCEPTIONS_PART;
+use grammar::FILE_PART;
+use grammar::FLOAT_LETTER;
+use grammar::KINDS_PART;
+use grammar::LINES_PART;
+use grammar::LOCALS_PART;
+use grammar::NAME_PART;
+use grammar::NAMES_PART;
+use grammar::QUALIFIED_NAME_PART;
+use grammar::WRITTEN_BYTES;
+use grammar::WRITTEN_CODE;
+use grammar::WRITTEN_COMPLEX;
+use grammar::WRITTEN_DICT;
+use grammar::WRITTEN_FLOAT;
+use grammar::WRITTEN_INT;
+use grammar::WRITTEN_NULL;
+use grammar::WRITTEN_SLICE;
+use grammar::WRITTEN_TUPLE;
+use grammar::WRITTEN_UNICODE;
 
 // What stands in front of a node's children: it is refused, or whole already; or its row comes next, of a dict's pairs or not; or a code's parts do.
 pub enum Opened {
@@ -60,10 +78,10 @@ fn with_parts(wrote: puts::Wrote) -> Opened
 // Eight bytes: a float, or a whole number.
 fn write_eight(s: &[u8], out: &mut [u8], letter: u32, place: u32, at: u32) -> puts::Wrote
     requires { ⌜ Open at (now out) × (place + 8 ≤ length (now s)) ⌝ }
-    ensures { λ r. ⌜ Puts (emit (cond (eqb letter floatLetter) (floatLetter ∷ bytes64 (le64 (now (s .entry)) place)) (integerBytes (ofBits 9223372036854775808 (le64 (now (s .entry)) place)))) ended) at (now (out .entry)) r (now (out .exit)) ⌝ }
+    ensures { λ r. ⌜ Puts (eightAt (now (s .entry)) letter place) at (now (out .entry)) r (now (out .exit)) ⌝ }
 {
-    if letter == grammar::FLOAT_LETTER {
-        return puts::write_slice(out, at, grammar::WRITTEN_FLOAT, s, place, 8);
+    if letter == FLOAT_LETTER {
+        return puts::write_slice(out, at, WRITTEN_FLOAT, s, place, 8);
     }
     puts::write_int64(out, at, s, place)
 }
@@ -75,56 +93,18 @@ fn write_front(s: &[u8], out: &mut [u8], n: stores::Node, class: u32, at: u32) -
 {
     match class {
         fields::SINGLE => whole(puts::write_u8(out, at, n.letter as u8)),
-        fields::FIXED4 => whole(puts::write_slice(out, at, grammar::WRITTEN_INT, s, n.place, 4)),
+        fields::FIXED4 => whole(puts::write_slice(out, at, WRITTEN_INT, s, n.place, 4)),
         fields::FIXED8 => whole(write_eight(s, out, n.letter, n.place, at)),
-        fields::DOUBLE => whole(puts::write_slice(
-            out,
-            at,
-            grammar::WRITTEN_COMPLEX,
-            s,
-            n.place,
-            16,
-        )),
+        fields::DOUBLE => whole(puts::write_slice(out, at, WRITTEN_COMPLEX, s, n.place, 16)),
         fields::LONG => whole(puts::write_pylong(out, at, s, n.place, n.size)),
         fields::SEQUENCE => with_row(puts::write_len(out, at, n.letter as u8, n.count), false),
-        fields::FEW => with_row(
-            puts::write_len(out, at, grammar::WRITTEN_TUPLE, n.count),
-            false,
-        ),
-        fields::SLICE => with_row(puts::write_u8(out, at, grammar::WRITTEN_SLICE), false),
-        fields::DICT => with_row(puts::write_u8(out, at, grammar::WRITTEN_DICT), true),
-        fields::BYTES => whole(puts::write_vec(
-            out,
-            at,
-            grammar::WRITTEN_BYTES,
-            s,
-            n.place,
-            n.size,
-        )),
-        fields::TEXT => whole(puts::write_vec(
-            out,
-            at,
-            grammar::WRITTEN_UNICODE,
-            s,
-            n.place,
-            n.size,
-        )),
-        fields::SHORT => whole(puts::write_vec(
-            out,
-            at,
-            grammar::WRITTEN_UNICODE,
-            s,
-            n.place,
-            n.size,
-        )),
-        _ => with_parts(puts::write_slice(
-            out,
-            at,
-            grammar::WRITTEN_CODE,
-            s,
-            n.place,
-            grammar::CODE_NUMBERS,
-        )),
+        fields::FEW => with_row(puts::write_len(out, at, WRITTEN_TUPLE, n.count), false),
+        fields::SLICE => with_row(puts::write_u8(out, at, WRITTEN_SLICE), false),
+        fields::DICT => with_row(puts::write_u8(out, at, WRITTEN_DICT), true),
+        fields::BYTES => whole(puts::write_vec(out, at, WRITTEN_BYTES, s, n.place, n.size)),
+        fields::TEXT => whole(puts::write_vec(out, at, WRITTEN_UNICODE, s, n.place, n.size)),
+        fields::SHORT => whole(puts::write_vec(out, at, WRITTEN_UNICODE, s, n.place, n.size)),
+        _ => with_parts(puts::write_slice(out, at, WRITTEN_CODE, s, n.place, CODE_NUMBERS)),
     }
 }
 
@@ -142,7 +122,7 @@ fn too_deep(nodes: &[u32], used: u32, allowance: u32, node: u32) -> bool
         return false;
     }
     let n = stores::node_of(nodes, node);
-    n.letter == grammar::CODE_LETTER
+    n.letter == CODE_LETTER
 }
 
 // A node up to its children: its levels, its record, and its own bytes.
@@ -175,7 +155,7 @@ fn close_row(out: &mut [u8], at: u32, pairs: bool) -> puts::Wrote
     ensures { λ r. ⌜ Puts (closed pairs) at (now (out .entry)) r (now (out .exit)) ⌝ }
 {
     if pairs {
-        return puts::write_u8(out, at, grammar::WRITTEN_NULL);
+        return puts::write_u8(out, at, WRITTEN_NULL);
     }
     puts::Wrote::Done(at)
 }
@@ -236,7 +216,7 @@ fn write_children(
     at: u32,
 ) -> puts::Wrote
     requires { ⌜ Open at (now out) × (length (now s) ≤ mostBytes) × Held (lent (now s) (now nodes) (now entries) used) node ⌝ }
-    ensures { λ r. ⌜ Puts (each (writing allowance (lent (now (s .entry)) (now (nodes .entry)) (now (entries .entry)) used)) (rowOfNode (lent (now (s .entry)) (now (nodes .entry)) (now (entries .entry)) used) node)) at (now (out .entry)) r (now (out .exit)) ⌝ }
+    ensures { λ r. ⌜ Puts (rowWritten (lent (now (s .entry)) (now (nodes .entry)) (now (entries .entry)) used) allowance node) at (now (out .entry)) r (now (out .exit)) ⌝ }
 {
     let n = stores::node_of(nodes, node);
     let count = n.count;
@@ -284,10 +264,11 @@ fn write_part(
     at: u32,
 ) -> puts::Wrote
     requires { ⌜ Open at (now out) × (length (now s) ≤ mostBytes) × PartIn (lent (now s) (now nodes) (now entries) used) kinds part node ⌝ }
-    ensures { λ r. ⌜ Puts (linedPart (lent (now (s .entry)) (now (nodes .entry)) (now (entries .entry)) used) allowance line (contentsOf (lent (now (s .entry)) (now (nodes .entry)) (now (entries .entry)) used) kinds) part node) at (now (out .entry)) r (now (out .exit)) ⌝ }
+    ensures { λ r. ⌜ Puts (partWritten (lent (now (s .entry)) (now (nodes .entry)) (now (entries .entry)) used) allowance line kinds part node) at (now (out .entry)) r (now (out .exit)) ⌝ }
 {
     match part {
-        grammar::CODE_PART => putleaf::write_bytes(
+        CODE_PART => putleaf::write_bytes(s, nodes, entries, out, used, allowance, node, at),
+        NAMES_PART => putnames::write_marshal_name_tuple(
             s,
             nodes,
             entries,
@@ -297,17 +278,7 @@ fn write_part(
             node,
             at,
         ),
-        grammar::NAMES_PART => putnames::write_marshal_name_tuple(
-            s,
-            nodes,
-            entries,
-            out,
-            used,
-            allowance,
-            node,
-            at,
-        ),
-        grammar::LOCALS_PART => putnames::write_locals(
+        LOCALS_PART => putnames::write_locals(
             s,
             nodes,
             entries,
@@ -318,7 +289,10 @@ fn write_part(
             node,
             at,
         ),
-        grammar::KINDS_PART => putleaf::write_bytes(
+        KINDS_PART => putleaf::write_bytes(s, nodes, entries, out, used, allowance, node, at),
+        FILE_PART => putnames::write_string(s, nodes, entries, out, used, allowance, node, at),
+        NAME_PART => putnames::write_string(s, nodes, entries, out, used, allowance, node, at),
+        QUALIFIED_NAME_PART => putnames::write_string(
             s,
             nodes,
             entries,
@@ -328,37 +302,7 @@ fn write_part(
             node,
             at,
         ),
-        grammar::FILE_PART => putnames::write_string(
-            s,
-            nodes,
-            entries,
-            out,
-            used,
-            allowance,
-            node,
-            at,
-        ),
-        grammar::NAME_PART => putnames::write_string(
-            s,
-            nodes,
-            entries,
-            out,
-            used,
-            allowance,
-            node,
-            at,
-        ),
-        grammar::QUALIFIED_NAME_PART => putnames::write_string(
-            s,
-            nodes,
-            entries,
-            out,
-            used,
-            allowance,
-            node,
-            at,
-        ),
-        grammar::LINES_PART => match puts::write_u32(out, at, shown(line)) {
+        LINES_PART => match puts::write_u32(out, at, shown(line)) {
             puts::Wrote::Refused(number, place) => puts::Wrote::Refused(number, place),
             puts::Wrote::Done(a) => putleaf::write_bytes(
                 s,
@@ -371,16 +315,7 @@ fn write_part(
                 a,
             ),
         },
-        grammar::EXCEPTIONS_PART => putleaf::write_bytes(
-            s,
-            nodes,
-            entries,
-            out,
-            used,
-            allowance,
-            node,
-            at,
-        ),
+        EXCEPTIONS_PART => putleaf::write_bytes(s, nodes, entries, out, used, allowance, node, at),
         _ => write_value(s, nodes, entries, out, used, allowance, node, at),
     }
 }
@@ -397,15 +332,15 @@ fn write_parts(
     at: u32,
 ) -> puts::Wrote
     requires { ⌜ Open at (now out) × (length (now s) ≤ mostBytes) × Coded (lent (now s) (now nodes) (now entries) used) node ⌝ }
-    ensures { λ r. ⌜ Puts (parted (lent (now (s .entry)) (now (nodes .entry)) (now (entries .entry)) used) allowance (writing allowance (lent (now (s .entry)) (now (nodes .entry)) (now (entries .entry)) used)) (lineOf (lent (now (s .entry)) (now (nodes .entry)) (now (entries .entry)) used) node) (rowOfNode (lent (now (s .entry)) (now (nodes .entry)) (now (entries .entry)) used) node)) at (now (out .entry)) r (now (out .exit)) ⌝ }
+    ensures { λ r. ⌜ Puts (partsWritten (lent (now (s .entry)) (now (nodes .entry)) (now (entries .entry)) used) allowance node) at (now (out .entry)) r (now (out .exit)) ⌝ }
 {
     let n = stores::node_of(nodes, node);
     let line = fields::le32(s, n.place as usize + n.size as usize);
-    let kinds = tables::part_at(entries, n.first, grammar::KINDS_PART);
+    let kinds = tables::part_at(entries, n.first, KINDS_PART);
     let mut e = n.first;
     let mut part = 0u32;
     let mut p = at;
-    while part < grammar::CODE_PARTS {
+    while part < CODE_PARTS {
         let child = stores::child_of(entries, e);
         match write_part(
             s,

@@ -13,6 +13,10 @@ ghost use Rattle.fields.specs.Classes.{classAt, formClasses};
 ghost use Rattle.fields.specs.Behind.{childrenOf};
 ghost use Rattle.stores.specs.Written.{nodeOf};
 ghost use Rattle.records.specs.Texts.{tooLong};
+use grammar::CODE_NUMBERS;
+use grammar::CODE_PARTS;
+use grammar::SHORT_INTERNED_LETTER;
+use grammar::SHORT_LETTER;
 
 // Whether a count is what the fields say of the children.
 fn counted(kids: fields::Kids, count: u32) -> bool
@@ -21,7 +25,7 @@ fn counted(kids: fields::Kids, count: u32) -> bool
     match kids {
         fields::Kids::Items(items) => count == items,
         fields::Kids::Pairs => count % 2 == 0,
-        fields::Kids::Parts => count == grammar::CODE_PARTS,
+        fields::Kids::Parts => count == CODE_PARTS,
     }
 }
 
@@ -56,13 +60,13 @@ fn code_ruled(s: &[u8], node: stores::Node) -> bool
     ensures { λ r. ⌜ r ≡ Record.ruled (now (s .entry)) (nodeOf node) codes ⌝ }
 {
     let place = node.place as usize;
-    if node.size < grammar::CODE_NUMBERS {
+    if node.size < CODE_NUMBERS {
         return false;
     }
     if s.len() < place + node.size as usize + 4 {
         return false;
     }
-    if node.count != grammar::CODE_PARTS {
+    if node.count != CODE_PARTS {
         return false;
     }
     fields::argument_sum(s, place) < 0x1_0000_0000
@@ -117,8 +121,8 @@ fn too_long(letter: u32, size: u32) -> bool
         return false;
     }
     match letter {
-        grammar::SHORT_LETTER => true,
-        grammar::SHORT_INTERNED_LETTER => true,
+        SHORT_LETTER => true,
+        SHORT_INTERNED_LETTER => true,
         _ => false,
     }
 }

@@ -1,6 +1,7 @@
-// Signed numbers and their bits in two's complement, the one place where the port goes from one to the other.
+// Signed numbers and their bits in two's complement, the one place where the port goes from one to the other; and a byte as a wide number.
 // Everything below works on the bits, or on a line with an offset, so that its facts are facts of unsigned numbers.
 ghost use mathlib.Core.Path.{_≡_};
+ghost use Prim.Native.Nat.{_<_};
 ghost use mir.Syntax.{w32, w64};
 ghost use mir.Val.{toZ, ofZ};
 
@@ -35,4 +36,11 @@ pub fn signed64(bits: u64) -> i64
     } else {
         !((0xFFFF_FFFF_FFFF_FFFF - bits) as i64)
     }
+}
+
+// A byte, and that it is small: sums of such take no proof.
+pub fn wide(byte: u8) -> u64
+    ensures { λ r. ⌜ (r ≡ byte) × (r < 256) ⌝ }
+{
+    byte as u64
 }

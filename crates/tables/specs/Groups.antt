@@ -9,8 +9,9 @@ use lib.ListN.{length}
 use lib.Dec.{eqb}
 use Rattle.localsplus.specs.Kind.{localBit, cellBit, has}
 use Rattle.grammar.specs.Fields.{contents}
+use Rattle.grammar.specs.State.{nodeAt}
 use Rattle.grammar.specs.Record.{Tables, chain, badString}
-use Rattle.writing.specs.Names.{contentsOf, having, namedIn, apartFrom}
+use Rattle.writing.specs.Names.{contentsOf, sameBytes, having, namedIn}
 use Rattle.tables.specs.declared.Locals.{Locals}
 use Rattle.tables.specs.Looking.{isSome}
 
@@ -28,9 +29,20 @@ kindsIn t l = contents (t .input) (l .kinds) (l .count)
 abbrev pub localsIn : Tables → Locals → List ℕ
 localsIn t l = having localBit (kindsIn t l) (namesIn t l)
 
+-- a string, and a part of the input, are the same
+abbrev pub sameAs : (s nodes : List ℕ) → (name place size : ℕ) → Bool
+sameAs s nodes v place size = sameBytes (contents s place size) (contents s (nodeAt nodes v .place) (nodeAt nodes v .size))
+
+-- "equals no Local name": whether a name equals one
+abbrev pub isLocal : Tables → Locals → ℕ → Bool
+isLocal t l v = namedIn t (contentsOf t v) (localsIn t l)
+
 -- whether a name of a kind stands in a group: of the cells, those whose name equals no Local name
 abbrev pub inGroup : Tables → (locals : List ℕ) → (bit kind name : ℕ) → Bool
 inGroup t locals bit kind v = has bit kind && not (eqb bit cellBit && namedIn t (contentsOf t v) locals)
+
+abbrev pub isMember : Tables → Locals → (bit kind name : ℕ) → Bool
+isMember t l = inGroup t (localsIn t l)
 
 unfoldable pub groupFrom : Tables → (locals : List ℕ) → (bit : ℕ) → (kinds names : List ℕ) → List ℕ
 groupFrom t locals bit [] names = []

@@ -8,8 +8,8 @@ use mathlib.Core.List.{List, []}
 use Rattle.grammar.specs.Letters.{isBytes, isString}
 use lib.Dec.{eqb}
 use Rattle.grammar.specs.State.{nodeAt, entryAt}
-use Rattle.grammar.specs.Steps.{rules, codeParts, asNames}
-use Rattle.grammar.specs.Record.{Tables, tablesOf, Looked, holds, faulty, look, chain, nodeOf, soundAt, whole, suited, badString, badPart}
+use Rattle.grammar.specs.Steps.{Rule, rules, codeParts, asNames}
+use Rattle.grammar.specs.Record.{Tables, tablesOf, holds, faulty, look, chain, nodeOf, soundAt, whole, suited, badString, badPart}
 use Rattle.tables.specs.declared.Used.{Used}
 
 -- the stores that are lent
@@ -23,6 +23,10 @@ isSome (some a) = true
 abbrev pub isNone : {A : Type 0} → Option A → Bool
 isNone none = true
 isNone (some a) = false
+
+-- a part of a code is what a rule asks
+abbrev pub fits : Tables → Rule → ℕ → Bool
+fits t rule v = isNone (suited t rule v (whole t v))
 
 -- a sound node has these children, which are its chain; a faulty one is refused at its own number
 pub record Held (t : Tables) (n : ℕ) : Type 0 where

@@ -11,9 +11,28 @@ ghost use Rattle.grammar.specs.Steps.{rules, whatever, asTuple, asNames, codePa
 ghost use Rattle.grammar.specs.Record;
 ghost use Rattle.grammar.specs.Fields.{contents};
 ghost use Rattle.localsplus.specs.Kind;
-ghost use Rattle.writing.specs.Names.{contentsOf, sameBytes, namedIn};
-ghost use Rattle.tables.specs.Groups.{localsIn, inGroup, Listed};
-ghost use Rattle.tables.specs.Looking.{lent, links, isSome, isNone, bytesAt, stringAt, Straight, Names, NamesFit, Parts, after, partOf, evenly, Looks};
+ghost use Rattle.writing.specs.Names.{sameBytes};
+ghost use Rattle.tables.specs.Groups.{sameAs, isLocal, isMember, Listed};
+ghost use Rattle.tables.specs.Looking.{lent, links, isSome, fits, bytesAt, stringAt, Straight, Names, NamesFit, Parts, after, partOf, evenly, Looks};
+use grammar::ASCII_INTERNED_LETTER;
+use grammar::ASCII_LETTER;
+use grammar::BYTES_LETTER;
+use grammar::CODE_LETTER;
+use grammar::CODE_PART;
+use grammar::CODE_PARTS;
+use grammar::CONSTANTS_PART;
+use grammar::FILE_PART;
+use grammar::INTERNED_LETTER;
+use grammar::KINDS_PART;
+use grammar::LOCALS_PART;
+use grammar::NAME_PART;
+use grammar::NAMES_PART;
+use grammar::QUALIFIED_NAME_PART;
+use grammar::SHORT_INTERNED_LETTER;
+use grammar::SHORT_LETTER;
+use grammar::SMALL_TUPLE_LETTER;
+use grammar::TUPLE_LETTER;
+use grammar::UNICODE_LETTER;
 
 // The bits of a kind.
 pub const LOCAL: u32 = localsplus::LOCAL as u32;
@@ -73,7 +92,7 @@ fn is_bytes(letter: u32) -> bool
     ensures { λ r. ⌜ r ≡ Letters.isBytes letter ⌝ }
 {
     match letter {
-        grammar::BYTES_LETTER => true,
+        BYTES_LETTER => true,
         _ => false,
     }
 }
@@ -83,8 +102,8 @@ fn is_tuple(letter: u32) -> bool
     ensures { λ r. ⌜ r ≡ Letters.isTuple letter ⌝ }
 {
     match letter {
-        grammar::TUPLE_LETTER => true,
-        grammar::SMALL_TUPLE_LETTER => true,
+        TUPLE_LETTER => true,
+        SMALL_TUPLE_LETTER => true,
         _ => false,
     }
 }
@@ -94,12 +113,12 @@ pub fn is_string(letter: u32) -> bool
     ensures { λ r. ⌜ r ≡ Letters.isString letter ⌝ }
 {
     match letter {
-        grammar::UNICODE_LETTER => true,
-        grammar::INTERNED_LETTER => true,
-        grammar::ASCII_LETTER => true,
-        grammar::ASCII_INTERNED_LETTER => true,
-        grammar::SHORT_LETTER => true,
-        grammar::SHORT_INTERNED_LETTER => true,
+        UNICODE_LETTER => true,
+        INTERNED_LETTER => true,
+        ASCII_LETTER => true,
+        ASCII_INTERNED_LETTER => true,
+        SHORT_LETTER => true,
+        SHORT_INTERNED_LETTER => true,
         _ => false,
     }
 }
@@ -185,7 +204,7 @@ fn names_fit(s: &[u8], nodes: &[u32], entries: &[u32], used: Used, node: u32) ->
 // Whether a part of a code is a sound tuple.
 fn tuple_fits(s: &[u8], nodes: &[u32], entries: &[u32], used: Used, node: u32) -> bool
     requires { ⌜ length (now s) ≤ mostBytes ⌝ }
-    ensures { λ r. ⌜ r ≡ isNone (Record.suited (lent (now (s .entry)) (now (nodes .entry)) (now (entries .entry)) used) asTuple node (Record.whole (lent (now (s .entry)) (now (nodes .entry)) (now (entries .entry)) used) node)) ⌝ }
+    ensures { λ r. ⌜ r ≡ fits (lent (now (s .entry)) (now (nodes .entry)) (now (entries .entry)) used) asTuple node ⌝ }
 {
     if !whole(s, nodes, entries, used, node) {
         return false;
@@ -196,7 +215,7 @@ fn tuple_fits(s: &[u8], nodes: &[u32], entries: &[u32], used: Used, node: u32) -
 // Whether a part of a code is a sound tuple of sound strings.
 fn whole_names_fit(s: &[u8], nodes: &[u32], entries: &[u32], used: Used, node: u32) -> bool
     requires { ⌜ length (now s) ≤ mostBytes ⌝ }
-    ensures { λ r. ⌜ r ≡ isNone (Record.suited (lent (now (s .entry)) (now (nodes .entry)) (now (entries .entry)) used) asNames node (Record.whole (lent (now (s .entry)) (now (nodes .entry)) (now (entries .entry)) used) node)) ⌝ }
+    ensures { λ r. ⌜ r ≡ fits (lent (now (s .entry)) (now (nodes .entry)) (now (entries .entry)) used) asNames node ⌝ }
 {
     if !whole(s, nodes, entries, used, node) {
         return false;
@@ -207,15 +226,15 @@ fn whole_names_fit(s: &[u8], nodes: &[u32], entries: &[u32], used: Used, node: u
 // Whether a part of a code is what its rule asks.
 fn part_fits(s: &[u8], nodes: &[u32], entries: &[u32], used: Used, part: u32, node: u32) -> bool
     requires { ⌜ (length (now s) ≤ mostBytes) × (part < codeParts) ⌝ }
-    ensures { λ r. ⌜ r ≡ isNone (Record.suited (lent (now (s .entry)) (now (nodes .entry)) (now (entries .entry)) used) (getD rules part whatever) node (Record.whole (lent (now (s .entry)) (now (nodes .entry)) (now (entries .entry)) used) node)) ⌝ }
+    ensures { λ r. ⌜ r ≡ fits (lent (now (s .entry)) (now (nodes .entry)) (now (entries .entry)) used) (getD rules part whatever) node ⌝ }
 {
     match part {
-        grammar::CONSTANTS_PART => tuple_fits(s, nodes, entries, used, node),
-        grammar::NAMES_PART => whole_names_fit(s, nodes, entries, used, node),
-        grammar::LOCALS_PART => whole_names_fit(s, nodes, entries, used, node),
-        grammar::FILE_PART => string_at(s, nodes, used.nodes, node),
-        grammar::NAME_PART => string_at(s, nodes, used.nodes, node),
-        grammar::QUALIFIED_NAME_PART => string_at(s, nodes, used.nodes, node),
+        CONSTANTS_PART => tuple_fits(s, nodes, entries, used, node),
+        NAMES_PART => whole_names_fit(s, nodes, entries, used, node),
+        LOCALS_PART => whole_names_fit(s, nodes, entries, used, node),
+        FILE_PART => string_at(s, nodes, used.nodes, node),
+        NAME_PART => string_at(s, nodes, used.nodes, node),
+        QUALIFIED_NAME_PART => string_at(s, nodes, used.nodes, node),
         _ => bytes_at(s, nodes, used.nodes, node),
     }
 }
@@ -227,7 +246,7 @@ fn parts_fit(s: &[u8], nodes: &[u32], entries: &[u32], used: Used, first: u32) -
 {
     let mut e = first;
     let mut part = 0u32;
-    while part < grammar::CODE_PARTS {
+    while part < CODE_PARTS {
         if !part_fits(s, nodes, entries, used, part, stores::child_of(entries, e)) {
             return false;
         }
@@ -254,9 +273,9 @@ pub fn part_at(entries: &[u32], first: u32, part: u32) -> u32
 fn ends_fit(nodes: &[u32], entries: &[u32], first: u32) -> bool
     ensures { λ r. ⌜ r ≡ evenly (now (nodes .entry)) (partOf (now (entries .entry)) first codePart) (partOf (now (entries .entry)) first localsPart) (partOf (now (entries .entry)) first kindsPart) ⌝ }
 {
-    let code = stores::node_of(nodes, part_at(entries, first, grammar::CODE_PART));
-    let locals = stores::node_of(nodes, part_at(entries, first, grammar::LOCALS_PART));
-    let kinds = stores::node_of(nodes, part_at(entries, first, grammar::KINDS_PART));
+    let code = stores::node_of(nodes, part_at(entries, first, CODE_PART));
+    let locals = stores::node_of(nodes, part_at(entries, first, LOCALS_PART));
+    let kinds = stores::node_of(nodes, part_at(entries, first, KINDS_PART));
     if locals.count != kinds.size {
         return false;
     }
@@ -272,7 +291,7 @@ pub fn look(s: &[u8], nodes: &[u32], entries: &[u32], used: Used, node: u32) -> 
         return false;
     }
     let n = stores::node_of(nodes, node);
-    if n.letter != grammar::CODE_LETTER {
+    if n.letter != CODE_LETTER {
         return true;
     }
     if !parts_fit(s, nodes, entries, used, n.first) {
@@ -306,7 +325,7 @@ fn same_bytes(s: &[u8], a: usize, b: usize, size: usize) -> bool
 // Whether a part of the input and a sound string are the same.
 fn same_name(s: &[u8], nodes: &[u32], used: u32, place: u32, size: u32, name: u32) -> bool
     requires { ⌜ (place + size ≤ length (now s)) × (stringAt (now s) (now nodes) used name ≡ true) ⌝ }
-    ensures { λ r. ⌜ r ≡ sameBytes (contents (now (s .entry)) place size) (contents (now (s .entry)) (nodeAt (now (nodes .entry)) name .place) (nodeAt (now (nodes .entry)) name .size)) ⌝ }
+    ensures { λ r. ⌜ r ≡ sameAs (now (s .entry)) (now (nodes .entry)) name place size ⌝ }
 {
     let n = stores::node_at(nodes, name);
     if size != n.size {
@@ -325,7 +344,7 @@ fn has(bit: u32, kind: u8) -> bool
 // Whether a name of a kind is Local and the same as a part of the input.
 fn local_is(s: &[u8], nodes: &[u32], used: u32, kind: u8, name: u32, place: u32, size: u32) -> bool
     requires { ⌜ (place + size ≤ length (now s)) × (stringAt (now s) (now nodes) used name ≡ true) ⌝ }
-    ensures { λ r. ⌜ r ≡ (Kind.has Kind.localBit kind && sameBytes (contents (now (s .entry)) place size) (contents (now (s .entry)) (nodeAt (now (nodes .entry)) name .place) (nodeAt (now (nodes .entry)) name .size))) ⌝ }
+    ensures { λ r. ⌜ r ≡ (Kind.has Kind.localBit kind && sameAs (now (s .entry)) (now (nodes .entry)) name place size) ⌝ }
 {
     if !has(LOCAL, kind) {
         return false;
@@ -336,7 +355,7 @@ fn local_is(s: &[u8], nodes: &[u32], used: u32, kind: u8, name: u32, place: u32,
 // Whether a name equals a Local name.
 fn is_local(s: &[u8], nodes: &[u32], entries: &[u32], used: Used, locals: Locals, node: u32) -> bool
     requires { ⌜ Listed (lent (now s) (now nodes) (now entries) used) locals × (stringAt (now s) (now nodes) (used .nodes) node ≡ true) ⌝ }
-    ensures { λ r. ⌜ r ≡ namedIn (lent (now (s .entry)) (now (nodes .entry)) (now (entries .entry)) used) (contentsOf (lent (now (s .entry)) (now (nodes .entry)) (now (entries .entry)) used) node) (localsIn (lent (now (s .entry)) (now (nodes .entry)) (now (entries .entry)) used) locals) ⌝ }
+    ensures { λ r. ⌜ r ≡ isLocal (lent (now (s .entry)) (now (nodes .entry)) (now (entries .entry)) used) locals node ⌝ }
 {
     let own = stores::node_at(nodes, node);
     let kinds = locals.kinds as usize;
@@ -367,7 +386,7 @@ pub fn belongs(
     node: u32,
 ) -> bool
     requires { ⌜ Listed (lent (now s) (now nodes) (now entries) used) locals × (stringAt (now s) (now nodes) (used .nodes) node ≡ true) × (0 < bit) ⌝ }
-    ensures { λ r. ⌜ r ≡ inGroup (lent (now (s .entry)) (now (nodes .entry)) (now (entries .entry)) used) (localsIn (lent (now (s .entry)) (now (nodes .entry)) (now (entries .entry)) used) locals) bit kind node ⌝ }
+    ensures { λ r. ⌜ r ≡ isMember (lent (now (s .entry)) (now (nodes .entry)) (now (entries .entry)) used) locals bit kind node ⌝ }
 {
     if !has(bit, kind) {
         return false;

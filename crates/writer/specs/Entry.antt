@@ -4,7 +4,8 @@ use Prim.Native.Nat.{ℕ}
 use mathlib.Core.List.{List}
 use lib.ListN.{length}
 use Rattle.grammar.specs.Reading.{Answer, gives, stops}
-use Rattle.writing.specs.Answer.{outputHeld}
+use Rattle.grammar.specs.Record.{Tables}
+use Rattle.writing.specs.Answer.{written, outputHeld}
 use Rattle.puts.specs.declared.Wrote.{Wrote}
 use Rattle.puts.specs.declared.Wrote.the-variants as wrote
 
@@ -16,3 +17,7 @@ wroteOf (stops number place) = wrote.Refused number place
 pub record Serialized (answer : Answer (List ℕ)) (room : ℕ) (r : Wrote) (output : List ℕ) : Type 0 where
   pub answers : r ≡ wroteOf answer
   pub holds : output ≡ outputHeld room answer
+
+-- of these stores, this node, and an output of so many bytes
+abbrev pub Serializes : Tables → (root nesting room : ℕ) → Wrote → (output : List ℕ) → Type 0
+Serializes t root nesting room = Serialized (written t root nesting room) room

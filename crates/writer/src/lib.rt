@@ -3,9 +3,9 @@
 ghost use mathlib.Core.Path.{_≡_};
 ghost use Prim.Native.Nat.{_≤_, min};
 ghost use lib.ListN.{length};
-ghost use Rattle.grammar.specs.Record;
-ghost use Rattle.writing.specs.Answer.{mostOutput, written};
-ghost use Rattle.writer.specs.Entry.{Serialized};
+ghost use Rattle.grammar.specs.Record.{tablesOf};
+ghost use Rattle.writing.specs.Answer.{mostOutput};
+ghost use Rattle.writer.specs.Entry.{Serializes};
 
 // How many bytes of an output count.
 fn counted(room: usize) -> usize
@@ -29,7 +29,7 @@ pub fn serialize_value(
     nesting: u32,
     out: &mut [u8],
 ) -> puts::Wrote
-    ensures { λ r. ⌜ Serialized (written (Record.tablesOf (now (input .entry)) (now (nodes .entry)) (now (entries .entry)) «used_nodes» «used_entries») root nesting (length (now (out .entry)))) (length (now (out .entry))) r (now (out .exit)) ⌝ }
+    ensures { λ r. ⌜ Serializes (tablesOf (now (input .entry)) (now (nodes .entry)) (now (entries .entry)) «used_nodes» «used_entries») root nesting (length (now (out .entry))) r (now (out .exit)) ⌝ }
 {
     if (refusals::MOST_BYTES as usize) < input.len() {
         lent::clear_bytes(out);

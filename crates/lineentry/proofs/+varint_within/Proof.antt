@@ -12,7 +12,7 @@ use borrow.Fn.PlainCycle.{Measures, is, falls, and}
 use Rattle.lineentry.proofs.varint_within.Reads as varint-within
 use Rattle.lineentry.proofs.varint_within.Kinds as varint-within-kinds
 use Rattle.lineentry.proofs.+varint_within.Lts-varint_within as varint-within-lts
-use Rattle.lineentry.proofs.wide.Reads as wide-reads
+use Rattle.signed.proofs.wide.Reads as wide-reads
 use Rattle.lineentry.proofs.+varint_within.{statement}
 use Rattle.lineentry.proofs.+varint_within.Tie.{close}
 
