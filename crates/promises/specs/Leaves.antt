@@ -47,6 +47,7 @@ singleTold letter =
     (cond (eqb letter 0x53) (told Stop 0 0)
     (told NotLeaf 0 0)))))
 
+-- the integer of a sign and a magnitude
 abbrev pub numberOf : Integer → ℤ
 numberOf z = cond (z .negative) (negℤ (pos (z .magnitude))) (pos (z .magnitude))
 
