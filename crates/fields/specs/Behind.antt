@@ -1,3 +1,4 @@
+-- No export and no promise rests on this page.
 -- What stands behind a header, for any class that is kept, and what the code's answers say of it.
 use mathlib.Core.Path.{_≡_}
 use Prim.Native.Nat.{ℕ, _+_, _*_, _≤_}

@@ -1,3 +1,4 @@
+-- No export and no promise rests on this page.
 -- The classes of 01's letters ('Reading a value', as grammar's Letters has them) by number, so that a header's class can be carried as one.
 -- 0 to 8 are the forms whose place is the byte after the header, 9 to 11 those whose place is their contents, 12 is the code, 13 the
 -- reference, and 14 + n is refused with n.

@@ -1,3 +1,4 @@
+-- No export and no promise rests on this page.
 -- What is answered of a long number's digits: the number that they stand for, unless it is above 2^63.
 -- 01, 'What is lent and what is kept': "wide" (a long outside signed 64 bits).
 use mathlib.Core.Path.{_≡_}

@@ -1,3 +1,4 @@
+-- No export and no promise rests on this page.
 -- What is written of any value, also of one out of name order: its canonical bytes, but for the local names of its codes, which come in
 -- their groups. 01, 'Writing it back': "Local names are written as all Local, then Cell whose name equals no Local name, then Free; kinds as
 -- stored".

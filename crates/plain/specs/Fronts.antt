@@ -1,3 +1,4 @@
+-- No export and no promise rests on this page.
 -- What is said of a plain value's front: where it is taken, it is the front that the definitions give.
 -- Of what is left to others nothing is said.
 use Prim.Native.Nat.{ℕ, _<_}

@@ -1,3 +1,4 @@
+-- No export and no promise rests on this page.
 -- What the members of the cycle ensure: their answer, and where they read on the three stores, are those of the plain reading within the
 -- capacities and the levels that the depth and the allowance make. What the stores hold on an inner refusal is not said: the entry clears.
 -- 01, 'Reading a value': "A reader of values and a reader of containers call one another".

@@ -1,3 +1,4 @@
+-- No export and no promise rests on this page.
 -- What holds at the head of the loop over a node's children, by the kind of these: what is still to be read comes to the same answer as
 -- the whole. And what is said of a plain value, of a plain child, and of a loop over plain children: it keeps what holds there.
 use mathlib.Core.Path.{_≡_}

@@ -1,3 +1,4 @@
+-- No export and no promise rests on this page.
 -- A node's five numbers as the code carries them, in the words of the grammar. 01, 'What is lent and what is kept': "Node: five numbers".
 use Prim.Native.Nat.{ℕ}
 use mathlib.Core.Bool.{Bool, false, cond}

@@ -1,3 +1,4 @@
+-- No export and no promise rests on this page.
 -- What the code carries and what the stores hold, against the state of the definitions; and the bounds that every step keeps.
 -- A node that is claimed and not complete is a record of zeros, so that claiming writes nothing. The records are those of 01, 'What is lent
 -- and what is kept'.

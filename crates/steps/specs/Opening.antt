@@ -1,3 +1,4 @@
+-- No export and no promise rests on this page.
 -- What the code answers of a header and its fields, against `front` of the definitions: 01, 'Reading a value', steps 1 to 3.
 use mathlib.Core.Path.{_≡_}
 use Prim.Native.Nat.{ℕ, _+_, _≤_, _<_}

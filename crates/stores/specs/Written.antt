@@ -1,3 +1,4 @@
+-- No export and no promise rests on this page.
 -- What a store holds once a record in it is written: the record's numbers, from its first on, in the order of `nodeCells` and `entryCells`.
 -- 01, 'What is lent and what is kept'.
 use Prim.Native.Nat.{ℕ, _+_, _*_}

@@ -1,3 +1,4 @@
+-- No export and no promise rests on this page.
 -- What the parts of the writer answer: a leaf, the front of a node, and the parts of a code. 01, 'Writing it back': "Node by node in writing
 -- order", "its own bytes as they come".
 use mathlib.Core.Path.{_≡_}

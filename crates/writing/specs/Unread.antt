@@ -1,3 +1,4 @@
+-- No export and no promise rests on this page.
 -- Two lendings to the writer that differ only in what it does not read.
 -- 01, 'Writing it back': "Links past the count and bytes before the place are not read."
 use mathlib.Core.Path.{_≡_}

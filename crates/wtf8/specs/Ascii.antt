@@ -1,3 +1,4 @@
+-- No export and no promise rests on this page.
 -- What it is that bytes are ASCII, and the greatest of bytes, by which the code finds it out.
 use mathlib.Core.Path.{_≡_}
 use mathlib.Core.Bool.{Bool, true}

@@ -1,5 +1,7 @@
+-- No export and no promise rests on this page.
 -- UTF-8 with surrogate code points allowed, as the Unicode Standard writes it: the encodings, one after another, of a list of code points.
 -- 01, 'Reading a value': "All strings, ASCII letters too, are UTF-8 with surrogate code points allowed (9)."
+-- They rest on Forms, which may be left unread for this page: `proofs/Exactly` shows that it allows just these bytes.
 use mathlib.Core.Path.{_≡_}
 use Prim.Native.Nat.{ℕ, _+_, _/_, _%_, _≤_}
 use mathlib.Core.Bool.{cond}

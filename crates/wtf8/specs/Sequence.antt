@@ -1,4 +1,5 @@
--- What the private functions promise of one sequence, in the words of Forms. Nothing outside this crate rests on this page.
+-- No export and no promise rests on this page.
+-- What the private functions promise of one sequence, in the words of Forms.
 use mathlib.Core.Path.{_≡_}
 use Prim.Native.Nat.{ℕ, _+_, _≤_}
 use mathlib.Core.Bool.{Bool, false, cond}
