@@ -1,5 +1,10 @@
 -- 01, 'Locals, numbers and locations': one entry of a location table, for all sixteen codes.
 -- "An entry starts with 0x80 | code x 8 | (length - 1)". What an entry covers, a stop, or 18.
+-- CPython, InternalDocs/code_objects.md, 'Source code locations': an entry's first byte has bit 7 set, the code in bits 3 to 6 and the length
+-- in code units less one in bits 0 to 2. Codes 0 to 9 are its short form (`shortForm`), 10 to 12 the one line form (`oneLine`), 13 no column
+-- info (`noColumns`), 14 the long form (`longForm`) and 15 no location (`byCode`). A start line is a step from the line before, an end line a
+-- step from the start line. There the short form's column is code * 8 plus bits 4 to 6 of the second byte; only an entry's first byte has bit 7
+-- set, and where that holds 01's OR of bits 4 to 7 is the same.
 use mathlib.Core.Bool.{Bool, false, cond}
 use mathlib.Core.List.{List}
 use Prim.Native.Nat.{ℕ, _+_, _-_, _*_, _/_, _%_, max}

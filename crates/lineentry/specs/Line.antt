@@ -1,5 +1,6 @@
 -- 01, 'Locals, numbers and locations': lines. A line, or a step from line to line, is kept as the signed 32-bit number plus 2^31,
--- so that every one is a number below 2^32.
+-- so that every one is a number below 2^32. That lines come as steps, the first from the code's first line, is CPython's
+-- InternalDocs/code_objects.md, 'Source code locations'.
 use mathlib.Core.Bool.{cond}
 use Prim.Native.Nat.{ℕ, _+_, _-_, _^_, max}
 use lib.Dec.{ltb}

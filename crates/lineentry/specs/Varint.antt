@@ -1,5 +1,7 @@
 -- 01, 'Locals, numbers and locations': the bytes and the little-endian varints of a location table.
 -- "Varints hold six bits a byte, 0x40 meaning more." "Missing bytes are 0."
+-- CPython, InternalDocs/code_objects.md, 'Source code locations': a varint is chunks of six bits, the least significant first, with bit 6 set on
+-- each but the last (`number`, `more`); of a signed varint the lowest bit is the sign and the others are the magnitude (`signedOf`).
 use mathlib.Core.Bool.{Bool, true, false, cond, _&&_}
 use mathlib.Core.List.{List, [], _∷_}
 use Prim.Native.Nat.{ℕ, _+_, _-_, _*_, _/_, _%_, _^_}

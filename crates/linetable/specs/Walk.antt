@@ -1,5 +1,7 @@
 -- 01, 'Locals, numbers and locations': the walk over a location table, entry by entry.
 -- It gives one location an instruction, how many of them came from entries, and whether the table was whole; or a refusal.
+-- CPython, InternalDocs/code_objects.md, 'Source code locations': a table is a row of entries, each for as many code units as its length says,
+-- and each line counts from the entry before. That document says nothing of a cut table or of a wrong total; 01 does.
 use mathlib.Core.Bool.{Bool, false, not, _&&_, cond}
 use mathlib.Core.List.{List, [], _++_}
 use Prim.Native.Nat.{ℕ, zero, suc, _+_, _-_}
