@@ -1,4 +1,3 @@
--- No export and no promise rests on this page.
 -- Which values there are to write: those whose numbers, lengths, texts and code parts 01's reading allows. Every value read is one.
 use mathlib.Core.Path.{_≡_}
 use Prim.Native.Nat.{ℕ, _+_, _%_, _<_}

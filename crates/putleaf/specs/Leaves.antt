@@ -1,3 +1,4 @@
+-- No export and no promise rests on this page.
 -- A node without children whose record is sound is written at once: which of the common kinds it is, and its bytes; and a row of
 -- children as far as they are such leaves. Nothing is said of a node that is left to the writer of values.
 use mathlib.Core.Path.{_≡_}

@@ -1,3 +1,4 @@
+-- No export and no promise rests on this page.
 -- Names that are written one after another and counted, as the tuple of local names asks it. 01, 'Writing it back': "Local names are written
 -- as all Local, then Cell whose name equals no Local name, then Free".
 use mathlib.Core.Path.{_≡_}

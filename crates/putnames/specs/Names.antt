@@ -1,3 +1,4 @@
+-- No export and no promise rests on this page.
 -- What is asked of names, as a code has tested them, and their writings: the names of a chain, a tuple of names, and the tuple of local names.
 -- 01, 'Writing it back': "Code strings are `z` if ASCII and under 256 bytes, else `u`."
 use mathlib.Core.Path.{_≡_}

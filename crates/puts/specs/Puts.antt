@@ -1,3 +1,4 @@
+-- No export and no promise rests on this page.
 -- What a put does with the output: the bytes of a writing come behind those that are written, or it is refused.
 -- 01, 'Writing it back': "then room for its own bytes as they come (17)".
 use mathlib.Core.Path.{_≡_}

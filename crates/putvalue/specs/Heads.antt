@@ -1,3 +1,4 @@
+-- No export and no promise rests on this page.
 -- What the parts of the writer of values answer: the front of a node, and a node that is opened. 01, 'Writing it back': "Node by node in writing
 -- order", "its own bytes as they come".
 use mathlib.Core.Path.{_≡_}

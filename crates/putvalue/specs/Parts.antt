@@ -1,3 +1,4 @@
+-- No export and no promise rests on this page.
 -- The row of a container and the parts of a code, in the order in which they are written. 01, 'Writing it back': "a first line of 0 or less
 -- as 0".
 use mathlib.Core.Path.{_≡_}

@@ -1,3 +1,4 @@
+-- No export and no promise rests on this page.
 -- What the input holds at the place of a sound long number: its count, its digits, and a last digit that is not zero.
 -- 01, 'Reading a value': "After the last, a zero last digit is 8."
 use mathlib.Core.Path.{_≡_}

@@ -1,3 +1,4 @@
+-- No export and no promise rests on this page.
 -- How many bytes a string's letter counts, as the code asks it. 01, 'Writing it back': "`z Z` at most 255".
 use Prim.Native.Nat.{ℕ}
 use mathlib.Core.Bool.{Bool, false, cond}

@@ -1,3 +1,4 @@
+-- No export and no promise rests on this page.
 -- What the code makes of a line when a child is complete, of a part by its rule, of the first line, and of a code's end.
 -- 01, 'Reading a value': from "Children get the allowance less one" on, as grammar's Steps says it.
 use mathlib.Core.Path.{_≡_}

@@ -1,3 +1,4 @@
+-- No export and no promise rests on this page.
 -- The local names of a code as the code goes through them: a chain of names, and the kinds that stand beside it.
 -- 01, 'Writing it back': "Local names are written as all Local, then Cell whose name equals no Local name, then Free".
 use mathlib.Core.Path.{_≡_}

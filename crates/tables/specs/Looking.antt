@@ -1,3 +1,4 @@
+-- No export and no promise rests on this page.
 -- The record test of a node with its chain, and of a code with its parts, as the code answers it. 01, 'Writing it back': "16 is given exactly
 -- when ..".
 use mathlib.Core.Path.{_≡_}

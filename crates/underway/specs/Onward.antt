@@ -1,3 +1,4 @@
+-- No export and no promise rests on this page.
 -- A writing under way: what is written so far, and what is left still comes to the same answer. 01, 'Writing it back': "as they come".
 use mathlib.Core.Path.{_≡_}
 use Prim.Native.Nat.{ℕ, _≤_}

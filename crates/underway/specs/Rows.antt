@@ -1,3 +1,4 @@
+-- No export and no promise rests on this page.
 -- A node's row of children and what closes it, a code's first line, and the levels that are left for a node: the words in which the crates
 -- that write say what is still to come. 01, 'Writing it back': "Node by node in writing order".
 use Prim.Native.Nat.{ℕ, zero, suc, _+_}
