@@ -28,36 +28,36 @@ pub enum Judged {
     Refused(u32, u32),
 }
 
-// The number of each class, as `specs/Classes` counts them. From REFUSED on, a class is its refusal's number above REFUSED.
-pub const SINGLE: u32 = 0;
+// The number of each class, as `specs/Classes` counts them. From REFUSED_CLASS on, a class is its refusal's number above REFUSED_CLASS.
+pub const SINGLE_CLASS: u32 = 0;
 
-pub const FIXED4: u32 = 1;
+pub const FIXED4_CLASS: u32 = 1;
 
-pub const FIXED8: u32 = 2;
+pub const FIXED8_CLASS: u32 = 2;
 
-pub const DOUBLE: u32 = 3;
+pub const DOUBLE_CLASS: u32 = 3;
 
-pub const LONG: u32 = 4;
+pub const LONG_CLASS: u32 = 4;
 
-pub const SEQUENCE: u32 = 5;
+pub const SEQUENCE_CLASS: u32 = 5;
 
-pub const FEW: u32 = 6;
+pub const FEW_CLASS: u32 = 6;
 
-pub const SLICE: u32 = 7;
+pub const SLICE_CLASS: u32 = 7;
 
-pub const DICT: u32 = 8;
+pub const DICT_CLASS: u32 = 8;
 
-pub const BYTES: u32 = 9;
+pub const BYTES_CLASS: u32 = 9;
 
-pub const TEXT: u32 = 10;
+pub const TEXT_CLASS: u32 = 10;
 
-pub const SHORT: u32 = 11;
+pub const SHORT_CLASS: u32 = 11;
 
-pub const CODE: u32 = 12;
+pub const CODE_CLASS: u32 = 12;
 
-pub const REFERENCE: u32 = 13;
+pub const REFERENCE_CLASS: u32 = 13;
 
-pub const REFUSED: u32 = 14;
+pub const REFUSED_CLASS: u32 = 14;
 
 fn word(byte: u8) -> u32
     ensures { λ r. ⌜ (r ≡ byte) × (r < 256) ⌝ }
@@ -111,36 +111,36 @@ pub fn class_of(letter: u32) -> u32
     ensures { λ r. ⌜ classAt r ≡ classOf letter ⌝ }
 {
     match letter {
-        grammar::NONE_LETTER => SINGLE,
-        grammar::FALSE_LETTER => SINGLE,
-        grammar::TRUE_LETTER => SINGLE,
-        grammar::STOP_LETTER => SINGLE,
-        grammar::ELLIPSIS_LETTER => SINGLE,
-        grammar::INT_LETTER => FIXED4,
-        grammar::INT64_LETTER => FIXED8,
-        grammar::FLOAT_LETTER => FIXED8,
-        grammar::COMPLEX_LETTER => DOUBLE,
-        grammar::LONG_LETTER => LONG,
-        grammar::BYTES_LETTER => BYTES,
-        grammar::UNICODE_LETTER => TEXT,
-        grammar::INTERNED_LETTER => TEXT,
-        grammar::ASCII_LETTER => TEXT,
-        grammar::ASCII_INTERNED_LETTER => TEXT,
-        grammar::SHORT_LETTER => SHORT,
-        grammar::SHORT_INTERNED_LETTER => SHORT,
-        grammar::TUPLE_LETTER => SEQUENCE,
-        grammar::LIST_LETTER => SEQUENCE,
-        grammar::SET_LETTER => SEQUENCE,
-        grammar::FROZENSET_LETTER => SEQUENCE,
-        grammar::SMALL_TUPLE_LETTER => FEW,
-        grammar::SLICE_LETTER => SLICE,
-        grammar::DICT_LETTER => DICT,
-        grammar::CODE_LETTER => CODE,
-        grammar::REFERENCE_LETTER => REFERENCE,
-        grammar::NULL_LETTER => REFUSED + refusals::NULL_OBJECT,
-        grammar::TEXT_FLOAT_LETTER => REFUSED + refusals::NOT_CARRIED,
-        grammar::TEXT_COMPLEX_LETTER => REFUSED + refusals::NOT_CARRIED,
-        _ => REFUSED + refusals::UNKNOWN_TYPE,
+        grammar::NONE_LETTER => SINGLE_CLASS,
+        grammar::FALSE_LETTER => SINGLE_CLASS,
+        grammar::TRUE_LETTER => SINGLE_CLASS,
+        grammar::STOP_LETTER => SINGLE_CLASS,
+        grammar::ELLIPSIS_LETTER => SINGLE_CLASS,
+        grammar::INT_LETTER => FIXED4_CLASS,
+        grammar::INT64_LETTER => FIXED8_CLASS,
+        grammar::FLOAT_LETTER => FIXED8_CLASS,
+        grammar::COMPLEX_LETTER => DOUBLE_CLASS,
+        grammar::LONG_LETTER => LONG_CLASS,
+        grammar::BYTES_LETTER => BYTES_CLASS,
+        grammar::UNICODE_LETTER => TEXT_CLASS,
+        grammar::INTERNED_LETTER => TEXT_CLASS,
+        grammar::ASCII_LETTER => TEXT_CLASS,
+        grammar::ASCII_INTERNED_LETTER => TEXT_CLASS,
+        grammar::SHORT_LETTER => SHORT_CLASS,
+        grammar::SHORT_INTERNED_LETTER => SHORT_CLASS,
+        grammar::TUPLE_LETTER => SEQUENCE_CLASS,
+        grammar::LIST_LETTER => SEQUENCE_CLASS,
+        grammar::SET_LETTER => SEQUENCE_CLASS,
+        grammar::FROZENSET_LETTER => SEQUENCE_CLASS,
+        grammar::SMALL_TUPLE_LETTER => FEW_CLASS,
+        grammar::SLICE_LETTER => SLICE_CLASS,
+        grammar::DICT_LETTER => DICT_CLASS,
+        grammar::CODE_LETTER => CODE_CLASS,
+        grammar::REFERENCE_LETTER => REFERENCE_CLASS,
+        grammar::NULL_LETTER => REFUSED_CLASS + refusals::NULL_OBJECT,
+        grammar::TEXT_FLOAT_LETTER => REFUSED_CLASS + refusals::NOT_CARRIED,
+        grammar::TEXT_COMPLEX_LETTER => REFUSED_CLASS + refusals::NOT_CARRIED,
+        _ => REFUSED_CLASS + refusals::UNKNOWN_TYPE,
     }
 }
 
@@ -370,18 +370,18 @@ pub fn read_fields(s: &[u8], class: u32, at: u32) -> Behind
     ensures { λ r. ⌜ Reads (now (s .entry)) (classAt class) at r ⌝ }
 {
     match class {
-        SINGLE => Behind::Span(at, 0, Kids::Items(0)),
-        FIXED4 => read_fixed(s, at, 4),
-        FIXED8 => read_fixed(s, at, 8),
-        DOUBLE => read_double(s, at),
-        LONG => read_pylong(s, at),
-        SEQUENCE => read_sequence(s, at),
-        FEW => read_few(s, at),
-        SLICE => Behind::Span(at, 0, Kids::Items(3)),
-        DICT => Behind::Span(at, 0, Kids::Pairs),
-        BYTES => read_bytes(s, at),
-        TEXT => read_text(s, at),
-        SHORT => read_short(s, at),
+        SINGLE_CLASS => Behind::Span(at, 0, Kids::Items(0)),
+        FIXED4_CLASS => read_fixed(s, at, 4),
+        FIXED8_CLASS => read_fixed(s, at, 8),
+        DOUBLE_CLASS => read_double(s, at),
+        LONG_CLASS => read_pylong(s, at),
+        SEQUENCE_CLASS => read_sequence(s, at),
+        FEW_CLASS => read_few(s, at),
+        SLICE_CLASS => Behind::Span(at, 0, Kids::Items(3)),
+        DICT_CLASS => Behind::Span(at, 0, Kids::Pairs),
+        BYTES_CLASS => read_bytes(s, at),
+        TEXT_CLASS => read_text(s, at),
+        SHORT_CLASS => read_short(s, at),
         _ => read_numbers(s, at),
     }
 }

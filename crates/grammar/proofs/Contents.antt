@@ -10,7 +10,7 @@ use lib.Dec.{ltb}
 use borrow.Author.Tests.{ltb-false}
 use Rattle.refusals.specs.Numbers.{inputTooLong}
 use Rattle.refusals.specs.Limits.{mostBytes}
-use Rattle.lent.specs.Lent.{zeros, padded}
+use Rattle.clearing.specs.Lent.{zeros, padded}
 use Rattle.grammar.specs.Reading.{node, entry, slot, Answer, gives, stops}
 use Rattle.grammar.specs.Room.{run}
 use Rattle.grammar.specs.State.{Node, Entry, State, nodeWidth, entryWidth, nodeCells, entryCells}

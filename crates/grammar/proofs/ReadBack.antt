@@ -9,8 +9,8 @@ use mathlib.Core.List.{List, [], _∷_, _++_}
 use lib.ListN.{length, getD}
 use borrow.Author.Tests.{lt-ltb, le-ltb}
 use Rattle.refusals.specs.Limits.{mostBytes}
-use Rattle.lent.specs.Lent.{padded}
-use Rattle.lent.proofs.Laws.{length-padded}
+use Rattle.clearing.specs.Lent.{padded}
+use Rattle.clearing.proofs.Laws.{length-padded}
 use Rattle.grammar.specs.Input.{Bytes}
 use Rattle.grammar.specs.Reading.{node, entry, gives}
 use Rattle.grammar.specs.State.{Node, Entry, State, blank, unlinked, nodeWidth, entryWidth, nodeCells, entryCells, nodeAt, entryAt}

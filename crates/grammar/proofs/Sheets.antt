@@ -6,7 +6,7 @@ use mathlib.Core.Bool.{true}
 use mathlib.Core.List.{List, [], _∷_}
 use Rattle.refusals.specs.Numbers.{eofObject, nullObject, invalidRef, badSize, invalidBytecode, tooDeep}
 use Rattle.refusals.specs.Limits.{nothing}
-use Rattle.lent.specs.Lent.{zeros, padded}
+use Rattle.clearing.specs.Lent.{zeros, padded}
 use Rattle.grammar.specs.Reading.{gives, stops, bind}
 use Rattle.grammar.specs.Room.{run}
 use Rattle.grammar.specs.Letters.{letters, found, classOf}

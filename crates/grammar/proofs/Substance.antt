@@ -7,7 +7,7 @@ use mathlib.Core.Bool.{Bool, true, false, _&&_}
 use mathlib.Core.List.{List, [], _∷_}
 use lib.ListN.{length, getD}
 use lib.Dec.{leb}
-use Rattle.lent.specs.Lent.{zeros, padded}
+use Rattle.clearing.specs.Lent.{zeros, padded}
 use Rattle.grammar.specs.Input.{Bytes}
 use Rattle.grammar.specs.Reading.{level, node, entry, slot, gives}
 use Rattle.grammar.specs.Letters.{letters, found, classOf}

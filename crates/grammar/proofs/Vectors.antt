@@ -6,7 +6,7 @@ use mathlib.Core.Bool.{false}
 use mathlib.Core.List.{List, [], _∷_}
 use Rattle.refusals.specs.Numbers.{eofObject, dataTooShort, unknownType, nullObject, invalidRef, badSize, badType, invalidBytecode, invalidUtf8, tooDeep, noNode, noEntry, noSlot, notCarried, numberRange}
 use Rattle.refusals.specs.Limits.{nothing}
-use Rattle.lent.specs.Lent.{zeros, padded}
+use Rattle.clearing.specs.Lent.{zeros, padded}
 use Rattle.wtf8.specs.Forms.{afterLead, after as afterByte, allows}
 use Rattle.grammar.specs.Reading.{gives, stops, bind}
 use Rattle.grammar.specs.Room.{run}

@@ -7,7 +7,7 @@ use lib.ListN.{length}
 use lib.Dec.{ltb}
 use Rattle.refusals.specs.Numbers.{inputTooLong}
 use Rattle.refusals.specs.Limits.{mostBytes, mostNesting}
-use Rattle.lent.specs.Lent.{zeros, padded}
+use Rattle.clearing.specs.Lent.{zeros, padded}
 use Rattle.grammar.specs.Reading.{Reading, Answer, gives, stops}
 use Rattle.grammar.specs.Room.{Rooms, run}
 use Rattle.grammar.specs.State.{State, start, nodeCells, entryCells, nodeCapacity, entryCapacity, slotCapacity}

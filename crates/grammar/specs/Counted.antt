@@ -7,7 +7,7 @@ use mathlib.Core.Bool.{Bool, true, false, cond}
 use mathlib.Core.List.{List, _∷_, _++_}
 use lib.Dec.{eqb}
 use Rattle.refusals.specs.Numbers.{eofObject, dataTooShort, tooDeep, noSlot}
-use Rattle.lent.specs.Lent.{zeros}
+use Rattle.clearing.specs.Lent.{zeros}
 use Rattle.grammar.specs.Reading.{Kind, Answer, stops}
 use Rattle.grammar.specs.Room.{Rooms, roomFor, Claim, claims, most, AllFit}
 use Rattle.grammar.specs.Answer.{plain, Outcome}

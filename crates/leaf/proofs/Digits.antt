@@ -10,7 +10,7 @@ use lib.Dec.{leb, ltb}
 use borrow.Author.Tests.{leb-true, leb-false, lt-leb, lt-ltb, le-ltb}
 use Rattle.grammar.specs.Fields.{le16, le32, notNegative, digitCount}
 use Rattle.grammar.specs.Leaf.{wide, magnitude, longOf, longLeaf}
-use Rattle.records.specs.Held.{LongAt}
+use Rattle.soundness.specs.Held.{LongAt}
 use Rattle.leaf.specs.Longs.{Measures}
 use Rattle.leaf.specs.declared.Measured.{Measured}
 use Rattle.leaf.specs.declared.Measured.the-variants as measured

@@ -9,7 +9,7 @@ ghost use Rattle.refusals.specs.Limits.{mostBytes};
 ghost use Rattle.grammar.specs.Leaf as definition;
 ghost use Rattle.grammar.specs.Record;
 ghost use Rattle.stores.specs.Written.{nodeOf};
-ghost use Rattle.records.specs.Held.{LongAt};
+ghost use Rattle.soundness.specs.Held.{LongAt};
 ghost use Rattle.leaf.specs.Answers.{kindOf, plainly, toldOf, answeredOf};
 ghost use Rattle.leaf.specs.Longs.{Measures};
 
@@ -219,7 +219,7 @@ pub fn leaf_of(input: &[u8], nodes: &[u32], used: u32, node: u32) -> Answered
     if (refusals::MOST_BYTES as usize) < input.len() {
         return Answered::Refused(refusals::INPUT_TOO_LONG, 0);
     }
-    if !records::sound_at(input, nodes, used, node) {
+    if !soundness::sound_at(input, nodes, used, node) {
         return Answered::Refused(refusals::BAD_TABLE, node);
     }
     Answered::Told(leaf_as(input, stores::node_at(nodes, node)))

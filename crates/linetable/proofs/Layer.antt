@@ -5,7 +5,7 @@ use mathlib.Core.List.{List, []}
 use Prim.Native.Nat.{ℕ, _-_, _/_, min}
 use native.Mathlib.Omega.{arith}
 use lib.ListN.{length}
-use Rattle.lent.specs.Lent.{padded}
+use Rattle.clearing.specs.Lent.{padded}
 use Rattle.lineentry.specs.declared.Location.{Location}
 use Rattle.linetable.specs.Walk.{Reading, done, refused}
 use Rattle.linetable.specs.Answer.{numbers, located, recordsOf, locationsOf, locationsFrom}

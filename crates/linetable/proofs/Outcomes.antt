@@ -8,7 +8,7 @@ use lib.ListN.{length}
 use borrow.Author.Tests.{lt-ltb, le-ltb}
 use Rattle.refusals.specs.Numbers.{inputTooLong, noRoom}
 use Rattle.refusals.specs.Limits.{mostBytes}
-use Rattle.lent.specs.Lent.{zeros}
+use Rattle.clearing.specs.Lent.{zeros}
 use Rattle.lineentry.specs.Entry.{atLine}
 use Rattle.linetable.specs.declared.Located.{Located}
 use Rattle.linetable.specs.declared.Located.the-variants.{Refused}

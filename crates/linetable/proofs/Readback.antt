@@ -9,7 +9,7 @@ use lib.ListN.{length, replicate, getD, set, length-set, length-append, length-r
 use lib.Seq.{getD-set-same, getD-set-other, ext-getD}
 use lib.Dec.{ltb, eqb, leb·suc-suc}
 use borrow.Author.Tests.{lt-ltb, eqb-true, eqb-false}
-use Rattle.lent.specs.Lent.{zeros}
+use Rattle.clearing.specs.Lent.{zeros}
 use Rattle.lineentry.specs.declared.Location.{Location}
 use Rattle.lineentry.specs.Entry.{location}
 use Rattle.linetable.specs.Answer.{numbers, blank, locationAt, locationsFrom}

@@ -4,7 +4,7 @@ use mathlib.Core.Path.{_≡_, refl}
 use mathlib.Core.Bool.{false}
 use mathlib.Core.List.{[], _∷_}
 use lib.IntN.{pos}
-use Rattle.lent.specs.Lent.{padded}
+use Rattle.clearing.specs.Lent.{padded}
 use Rattle.lineentry.specs.Varint.{varintWithin, signedAt}
 use Rattle.lineentry.specs.Line.{asSigned, moved}
 use Rattle.lineentry.specs.Entry.{location, noColumns, byCode, entryOf}

@@ -8,7 +8,7 @@ use native.Mathlib.Numerals.{add-one, sub-one, towards-suc}
 use native.Mathlib.Omega.{arith}
 use lib.ListN.{length, replicate, set, take, length-append, length-replicate, drop-of-length-le}
 use lib.Seq.{sets, sets-eq, drop-at, length-take-le}
-use Rattle.lent.specs.Lent.{zeros, padded}
+use Rattle.clearing.specs.Lent.{zeros, padded}
 use Rattle.lineentry.specs.declared.Location.{Location}
 use Rattle.linetable.specs.Answer.{numbers}
 

@@ -11,7 +11,7 @@ use lib.Seq.{sets, length-sets}
 use lib.Dec.{leb, eqb}
 use borrow.Author.Tests.{le-leb, lt-leb, eq-eqb, ne-eqb}
 use Rattle.refusals.specs.Numbers.{numberRange}
-use Rattle.lent.specs.Lent.{zeros, padded}
+use Rattle.clearing.specs.Lent.{zeros, padded}
 use Rattle.lineentry.specs.declared.Location.{Location}
 use Rattle.lineentry.specs.declared.Span.{Span}
 use Rattle.lineentry.specs.declared.Entry.{Entry}

@@ -10,7 +10,7 @@ use mir.Syntax.{w32}
 use mir.Val.{ofZ}
 use Rattle.refusals.specs.Numbers.{inputTooLong, noRoom}
 use Rattle.refusals.specs.Limits.{mostBytes}
-use Rattle.lent.specs.Lent.{zeros, padded}
+use Rattle.clearing.specs.Lent.{zeros, padded}
 use Rattle.lineentry.specs.declared.Location.{Location}
 use Rattle.lineentry.specs.Line.{asSigned}
 use Rattle.lineentry.specs.Entry.{location, atLine}

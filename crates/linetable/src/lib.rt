@@ -7,7 +7,7 @@ ghost use lib.ListN.{length, replicate};
 ghost use lib.Seq.{sets};
 ghost use lib.Dec.{eqb};
 ghost use Rattle.refusals.specs.Limits.{mostBytes};
-ghost use Rattle.lent.specs.Lent.{zeros};
+ghost use Rattle.clearing.specs.Lent.{zeros};
 ghost use Rattle.lineentry.specs.Entry.{atLine};
 ghost use Rattle.linetable.specs.Walk.{walk};
 ghost use Rattle.linetable.specs.Answer.{firstLine, located, answer, numbers, recordsOf, locationsOf, locationAt, locationsFrom};

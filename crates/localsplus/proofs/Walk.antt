@@ -9,8 +9,8 @@ use native.Mathlib.Omega.{arith}
 use lib.ListN.{length, set, length-set, length-replicate}
 use lib.Seq.{sets}
 use Rattle.refusals.specs.Limits.{mostBytes}
-use Rattle.lent.specs.Lent.{zeros, padded}
-use Rattle.lent.proofs.Laws.{sets-padded}
+use Rattle.clearing.specs.Lent.{zeros, padded}
+use Rattle.clearing.proofs.Laws.{sets-padded}
 
 -- i kind bytes are passed and n numbers written; rest is left of the whole list.
 pub record Walk (whole kinds : List ℕ) (room : ℕ) (out : List ℕ) (n i : ℕ) (rest : List ℕ) : Type 0 where

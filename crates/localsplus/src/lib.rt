@@ -4,7 +4,7 @@ ghost use mathlib.Core.Path.{_≡_};
 ghost use Prim.Native.Nat.{_+_, _≤_, _<_};
 ghost use lib.ListN.{length};
 ghost use Rattle.refusals.specs.Limits.{mostBytes, nothing};
-ghost use Rattle.lent.specs.Lent.{padded};
+ghost use Rattle.clearing.specs.Lent.{padded};
 ghost use Rattle.localsplus.specs.Sum.{argumentSum};
 ghost use Rattle.localsplus.specs.Kind.{has};
 ghost use Rattle.localsplus.specs.Lists.{positions, mapped, counted, mapFrom, argumentOf, cellArgsFrom, present, cellToArgument};
@@ -103,7 +103,7 @@ fn write_positions(kinds: &[u8], bit: u8, out: &mut [u32]) -> u32
     ensures { λ r. ⌜ (r ≡ length (positions bit (now (kinds .entry)))) × (r ≤ mostBytes)
         × (now (out .exit) ≡ padded (length (now (out .entry))) (positions bit (now (kinds .entry)))) ⌝ }
 {
-    lent::clear_words(out);
+    clearing::clear_words(out);
     let mut n = 0;
     let mut i = 0;
     while i < kinds.len() {
@@ -142,7 +142,7 @@ fn write_map(kinds: &[u8], cells: u32, map: &mut [u32])
     requires { ⌜ (cells ≤ mostBytes) × (length (now kinds) ≤ mostBytes) × (length (now kinds) ≤ length (now map)) ⌝ }
     ensures { λ _. ⌜ now (map .exit) ≡ padded (length (now (map .entry))) (mapFrom 0 cells (now (kinds .entry))) ⌝ }
 {
-    lent::clear_words(map);
+    clearing::clear_words(map);
     let mut cell = 0;
     let mut free = cells;
     let mut i = 0;
@@ -189,7 +189,7 @@ fn write_arguments(kinds: &[u8], sum: u32, out: &mut [u32])
     requires { ⌜ (length (now kinds) ≤ mostBytes) × (length (now kinds) ≤ length (now out)) ⌝ }
     ensures { λ _. ⌜ now (out .exit) ≡ padded (length (now (out .entry))) (cellArgsFrom sum 0 (now (kinds .entry))) ⌝ }
 {
-    lent::clear_words(out);
+    clearing::clear_words(out);
     let mut n = 0;
     let mut i = 0;
     while i < kinds.len() {
@@ -212,7 +212,7 @@ fn cell_to_argument(kinds: &[u8], sum: u32, out: &mut [u32]) -> bool
         write_arguments(kinds, sum, out);
         return true;
     }
-    lent::clear_words(out);
+    clearing::clear_words(out);
     false
 }
 
@@ -244,11 +244,11 @@ pub fn split_localplus(
     let sum = argument_sum(args, kwonly, flags);
     match check(kinds.len(), names, sum, rooms) {
         Checked::Fails(number, place) => {
-            lent::clear_words(locals);
-            lent::clear_words(cells);
-            lent::clear_words(frees);
-            lent::clear_words(map);
-            lent::clear_words(arguments);
+            clearing::clear_words(locals);
+            clearing::clear_words(cells);
+            clearing::clear_words(frees);
+            clearing::clear_words(map);
+            clearing::clear_words(arguments);
             Split::Refused(number, place)
         }
         Checked::Fits(sum) => {

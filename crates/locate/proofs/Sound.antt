@@ -12,7 +12,7 @@ use Rattle.grammar.specs.Fields.{contents}
 use Rattle.grammar.specs.State.{nodeAt}
 use Rattle.grammar.specs.Record.{soundAt}
 use Rattle.grammar.proofs.Passed.{sound-ruled}
-use Rattle.records.proofs.Soundness.{sound-node}
+use Rattle.soundness.proofs.Soundness.{sound-node}
 use Rattle.linetable.specs.Walk.{refused}
 use Rattle.linetable.specs.Answer.{located}
 use Rattle.locate.specs.Part.{locatedAt}

@@ -22,7 +22,7 @@ pub fn locate_node(
     if (refusals::MOST_BYTES as usize) < input.len() {
         return linetable::refuse(records, refusals::INPUT_TOO_LONG, 0);
     }
-    if !records::sound_at(input, nodes, used, node) {
+    if !soundness::sound_at(input, nodes, used, node) {
         return linetable::refuse(records, refusals::BAD_TABLE, node);
     }
     let found = stores::node_at(nodes, node);

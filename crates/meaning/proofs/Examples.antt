@@ -7,7 +7,7 @@ use mathlib.Core.Option.{Option, none, some}
 use mathlib.Core.List.{List, [], _∷_}
 use lib.ListN.{length}
 use Rattle.refusals.specs.Numbers.{invalidBytecode}
-use Rattle.lent.specs.Lent.{padded}
+use Rattle.clearing.specs.Lent.{padded}
 use Rattle.wtf8.specs.Forms.{afterLead, after as afterByte, allows}
 use Rattle.localsplus.specs.Kind.{has}
 use Rattle.grammar.specs.Reading.{Answer, gives, stops, bind}

@@ -30,7 +30,7 @@ use Rattle.varint.specs.declared.Written.{Written}
 use Rattle.varint.specs.declared.Written.the-variants as varint
 use Rattle.varint.specs.Writing.{littleEndian, bigEndian, bigEndianWithStart}
 use Rattle.varint.specs.Answers.{stored, storedSigned}
-use Rattle.puts.specs.declared.Wrote.the-variants as wrote
+use Rattle.output.specs.declared.Wrote.the-variants as wrote
 use Rattle.sillgarland.specs.Leaves.{leafStruct}
 use Rattle.sillgarland.specs.Locals.{splitStruct}
 use Rattle.sillgarland.specs.Locations.{locatedStruct}

@@ -6,7 +6,7 @@ use native.Mathlib.Omega.{arith}
 use lib.ListN.{length, take}
 use lib.Seq.{take-append-seam}
 use Rattle.refusals.specs.Limits.{mostBytes, mostNesting}
-use Rattle.lent.specs.Lent.{zeros, padded}
+use Rattle.clearing.specs.Lent.{zeros, padded}
 use Rattle.grammar.specs.Input.{Bytes}
 use Rattle.grammar.specs.Reading.{gives}
 use Rattle.grammar.specs.Answer.{Counts, readOf}

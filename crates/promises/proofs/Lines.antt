@@ -16,7 +16,7 @@ use contract.Monad.{fact-mono}
 use denote.Ref.{now}
 use Rattle.refusals.specs.Numbers.{accepted, inputTooLong, badTable}
 use Rattle.refusals.specs.Limits.{mostBytes}
-use Rattle.lent.specs.Lent.{zeros, padded}
+use Rattle.clearing.specs.Lent.{zeros, padded}
 use Rattle.lineentry.specs.declared.Location.{Location}
 use Rattle.lineentry.specs.Entry.{location, atLine}
 use Rattle.grammar.specs.Letters.{isBytes}

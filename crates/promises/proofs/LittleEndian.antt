@@ -13,7 +13,7 @@ use borrow.Author.Tests.{eqb-false}
 use mir.Syntax.{w32}
 use mir.Val.{SFits, ofZ}
 use denote.Ref.{now}
-use Rattle.lent.specs.Lent.{zeros, padded}
+use Rattle.clearing.specs.Lent.{zeros, padded}
 use Rattle.lineentry.specs.declared.Varint.the-variants.{Value}
 use Rattle.lineentry.specs.Line.{asSigned}
 use Rattle.lineentry.specs.Varint.{varintAt, signedAt}

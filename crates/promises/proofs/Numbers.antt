@@ -10,7 +10,7 @@ use lib.Dec.{leb, ltb, eqb}
 use borrow.Author.Tests.{eqb-true, leb-true, ltb-true, ltb-false}
 use Rattle.refusals.specs.Numbers.{accepted, tooDeep, lastNumber}
 use Rattle.refusals.specs.Limits.{mostBytes, mostNesting}
-use Rattle.lent.specs.Lent.{zeros}
+use Rattle.clearing.specs.Lent.{zeros}
 use Rattle.grammar.specs.Reading.{Kind, level, node, entry, slot, Answer, gives, stops}
 use Rattle.grammar.specs.Letters.{among}
 use Rattle.grammar.specs.Room.{Rooms, numberOf}

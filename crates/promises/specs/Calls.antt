@@ -16,8 +16,8 @@ use Rattle.grammar.specs.Answer.{Counts, Outcome}
 use Rattle.grammar.specs.Record.{Tables, tablesOf}
 use Rattle.reader.specs.Delivered.{answerOf}
 use Rattle.reader.proofs as reader
-use Rattle.puts.specs.declared.Wrote.{Wrote}
-use Rattle.puts.specs.declared.Wrote.the-variants as wrote
+use Rattle.output.specs.declared.Wrote.{Wrote}
+use Rattle.output.specs.declared.Wrote.the-variants as wrote
 use Rattle.writer.proofs as writer
 use Rattle.sillgarland.specs.declared.values.SillRead.{SillRead}
 use Rattle.sillgarland.specs.declared.varints.SillWritten.{SillWritten}

@@ -17,14 +17,14 @@ use denote.Ref.{now}
 use denote.Triple.Entry.{Args, Res}
 use denote.Triple.Clauses.{Ended, Lasts, atExit}
 use Rattle.refusals.specs.Numbers.{accepted, lastNumber}
-use Rattle.lent.specs.Lent.{zeros}
+use Rattle.clearing.specs.Lent.{zeros}
 use Rattle.grammar.specs.Reading.{gives, stops}
 use Rattle.leaf.specs.declared.Answered.the-variants as leaf
 use Rattle.linetable.specs.declared.Located.the-variants as lines
 use Rattle.linetable.specs.Answer.{blank}
 use Rattle.localsplus.specs.declared.Split.the-variants as split
 use Rattle.varint.specs.declared.Written.the-variants as varint
-use Rattle.puts.specs.declared.Wrote.the-variants as wrote
+use Rattle.output.specs.declared.Wrote.the-variants as wrote
 use Rattle.sillgarland.specs.Leaves.{leafStruct}
 use Rattle.sillgarland.specs.Locals.{splitStruct}
 use Rattle.sillgarland.specs.Locations.{locatedStruct}

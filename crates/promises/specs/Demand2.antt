@@ -6,7 +6,7 @@ use Prim.Native.Nat.{ℕ, _≤_, _<_, min}
 use mathlib.Core.Option.{some}
 use lib.ListN.{length, take}
 use Rattle.refusals.specs.Limits.{mostBytes, mostNesting}
-use Rattle.lent.specs.Lent.{padded}
+use Rattle.clearing.specs.Lent.{padded}
 use Rattle.grammar.specs.Reading.{gives}
 use Rattle.grammar.specs.State.{nodeCapacity, entryCapacity}
 use Rattle.grammar.specs.Answer.{Counts}

@@ -8,7 +8,7 @@ use mathlib.Core.List.{List, _++_}
 use lib.ListN.{length}
 use Rattle.refusals.specs.Numbers.{inputTooLong}
 use Rattle.refusals.specs.Limits.{mostBytes}
-use Rattle.lent.specs.Lent.{zeros}
+use Rattle.clearing.specs.Lent.{zeros}
 use Rattle.grammar.specs.Reading.{stops}
 use Rattle.grammar.specs.Room.{Rooms, numberOf, plainly}
 use Rattle.grammar.specs.Answer.{plain, roomsOf, Outcome, outcomeOf}

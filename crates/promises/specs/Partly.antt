@@ -1,7 +1,7 @@
 -- The contracts that leave a part open, and what any two ends of a call then have in common. docs/EXCEPTIONS.md lists the functions, and why.
 use mathlib.Core.Path.{_≡_}
-use Rattle.puts.specs.declared.Wrote.{Wrote}
-use Rattle.puts.specs.declared.Wrote.the-variants as wrote
+use Rattle.output.specs.declared.Wrote.{Wrote}
+use Rattle.output.specs.declared.Wrote.the-variants as wrote
 
 -- A put: the same answer; and the same output, where it accepts.
 abbrev pub Accepted : Wrote → Type 0

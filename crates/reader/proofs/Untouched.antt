@@ -18,7 +18,7 @@ use Rattle.grammar.specs.Fields.{fields, contained, codeFields, le32}
 use Rattle.grammar.specs.State.{start, nodeCapacity}
 use Rattle.grammar.specs.Steps.{Front, stored, reference, reserving, opened, header, front, after, one, value}
 use Rattle.grammar.specs.Answer.{plain, roomsOf, reading, readOf}
-use Rattle.steps.proofs.Runs.{onto, run-bind, run-reads}
+use Rattle.readsteps.proofs.Runs.{onto, run-bind, run-reads}
 use Rattle.reader.specs.declared.Outcome.{Outcome}
 use Rattle.reader.specs.Delivered.{Delivers}
 

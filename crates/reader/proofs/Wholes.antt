@@ -9,22 +9,22 @@ use lib.ListN.{length, length-replicate}
 use borrow.Author.Tests.{lt-ltb, le-ltb}
 use Rattle.refusals.specs.Numbers.{inputTooLong}
 use Rattle.refusals.specs.Limits.{mostBytes, mostNesting}
-use Rattle.lent.specs.Lent.{zeros, padded}
-use Rattle.lent.proofs.Laws.{padded-none}
+use Rattle.clearing.specs.Lent.{zeros, padded}
+use Rattle.clearing.proofs.Laws.{padded-none}
 use Rattle.grammar.specs.Reading.{gives, stops}
 use Rattle.grammar.specs.Room.{run}
 use Rattle.grammar.specs.State.{start, nodeCells, entryCells, nodeCapacity, entryCapacity, slotCapacity}
 use Rattle.grammar.specs.Steps.{value}
 use Rattle.grammar.specs.Answer.{plain, roomsOf, reading, readOf}
 use Rattle.stores.specs.Written.{Keeps}
-use Rattle.steps.specs.declared.Room.{Room}
-use Rattle.steps.specs.declared.Walk.{Walk}
-use Rattle.steps.specs.declared.Step.{Step}
-use Rattle.steps.specs.declared.Step.the-variants as step
-use Rattle.steps.specs.Held.{rooms, Holds}
+use Rattle.readsteps.specs.declared.Room.{Room}
+use Rattle.readsteps.specs.declared.Walk.{Walk}
+use Rattle.readsteps.specs.declared.Step.{Step}
+use Rattle.readsteps.specs.declared.Step.the-variants as step
+use Rattle.readsteps.specs.Held.{rooms, Holds}
 use Rattle.reader.specs.declared.Outcome.the-variants as outcome
 use Rattle.reader.specs.Delivered.{Delivers}
-use Rattle.plain.specs.Readings.{ReadsValue, Agrees}
+use Rattle.readleaves.specs.Readings.{ReadsValue, Agrees}
 
 -- a store that is cleared keeps nothing
 keeps-nothing : (store : List ℕ) (n : ℕ) → store ≡ zeros n → Keeps store []

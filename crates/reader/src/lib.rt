@@ -6,8 +6,8 @@ ghost use lib.ListN.{length, getD};
 ghost use Rattle.grammar.specs.Fields.{parts, codeNumbers};
 ghost use Rattle.grammar.specs.Answer.{readOf};
 ghost use Rattle.fields.specs.Behind.{childrenOf};
-ghost use Rattle.steps.specs.Held.{Safe, LineIn};
-ghost use Rattle.plain.specs.Readings.{ReadsValue, ReadsBody, ReadsChild};
+ghost use Rattle.readsteps.specs.Held.{Safe, LineIn};
+ghost use Rattle.readleaves.specs.Readings.{ReadsValue, ReadsBody, ReadsChild};
 ghost use Rattle.reader.specs.Delivered.{Delivers};
 
 // A value, the Rust's deserialize_value_depth: what stands before its children, then these, then its record and its slot, which are
@@ -17,35 +17,35 @@ fn value(
     nodes: &mut [u32],
     entries: &mut [u32],
     slots: &mut [u32],
-    room: steps::Room,
+    room: readsteps::Room,
     allowance: u32,
-    w: steps::Walk,
-) -> steps::Step
+    w: readsteps::Walk,
+) -> readsteps::Step
     requires { ⌜ Safe (now s) room w (now nodes) (now entries) (now slots) ⌝ }
     ensures { λ r. ⌜ ReadsValue (now (s .entry)) room allowance w (now (nodes .entry)) (now (entries .entry)) (now (slots .entry)) r (now (nodes .exit)) (now (entries .exit)) (now (slots .exit)) ⌝ }
 {
-    let o = steps::front(s, slots, room, allowance, w);
+    let o = readsteps::front(s, slots, room, allowance, w);
     match o {
-        steps::Opened::Refused(number, place) => steps::Step::Refused(number, place),
-        steps::Opened::Known(v, at) => steps::Step::Value(
+        readsteps::Opened::Refused(number, place) => readsteps::Step::Refused(number, place),
+        readsteps::Opened::Known(v, at) => readsteps::Step::Value(
             v,
-            steps::Walk {
+            readsteps::Walk {
                 at,
                 nodes: w.nodes,
                 entries: w.entries,
                 slots: w.slots,
             },
         ),
-        steps::Opened::Node(h, kids) => {
+        readsteps::Opened::Node(h, kids) => {
             let node = w.nodes;
             let slot = w.slots;
-            let inside = steps::Walk {
+            let inside = readsteps::Walk {
                 at: h.place + h.size,
                 nodes: node + 1,
                 entries: w.entries,
                 slots: slot + h.flag,
             };
-            let line = steps::Line {
+            let line = readsteps::Line {
                 first: refusals::NOTHING,
                 last: refusals::NOTHING,
                 count: 0,
@@ -67,9 +67,12 @@ fn value(
                 w.at,
             );
             match k {
-                steps::Linked::Refused(number, place) => steps::Step::Refused(number, place),
-                steps::Linked::Line(l) => {
-                    let size = steps::node_size(kids, h.place, h.size, l.line);
+                readsteps::Linked::Refused(number, place) => readsteps::Step::Refused(
+                    number,
+                    place,
+                ),
+                readsteps::Linked::Line(l) => {
+                    let size = readsteps::node_size(kids, h.place, h.size, l.line);
                     let record = stores::Node {
                         letter: h.letter,
                         place: h.place,
@@ -80,7 +83,7 @@ fn value(
                     stores::write_node(nodes, node, record);
                     stores::fill_slot(slots, h.flag, slot, node);
                     let after = l.walk;
-                    steps::Step::Value(node, after)
+                    readsteps::Step::Value(node, after)
                 }
             }
         }
@@ -89,39 +92,39 @@ fn value(
 
 // The children of a container, or the parts of a code, one after another; the Rust's deserialize_value_typed and
 // deserialize_code_value_inner. It has the value's allowance less one, and hands it on to children; a code's body hands its parts one
-// less again. `plain::run` reads those that are plain, `child` any other.
+// less again. `readleaves::run` reads those that are plain, `child` any other.
 fn typed(
     s: &[u8],
     nodes: &mut [u32],
     entries: &mut [u32],
     slots: &mut [u32],
-    room: steps::Room,
+    room: readsteps::Room,
     allowance: u32,
-    line: steps::Line,
+    line: readsteps::Line,
     kids: fields::Kids,
     header: u32,
-) -> steps::Linked
+) -> readsteps::Linked
     requires { ⌜ Safe (now s) room (line .walk) (now nodes) (now entries) (now slots) × LineIn line × (line .count ≡ 0) × (childrenOf kids ≡ parts → (0 < allowance) × (header + 1 + codeNumbers ≤ length (now s))) ⌝ }
     ensures { λ r. ⌜ ReadsBody kids header (now (s .entry)) room allowance line (now (nodes .entry)) (now (entries .entry)) (now (slots .entry)) r (now (nodes .exit)) (now (entries .exit)) (now (slots .exit)) ⌝ }
 {
-    let below = steps::below(kids, allowance);
+    let below = readsteps::below(kids, allowance);
     let mut l = line;
     loop {
-        let n = plain::run(s, nodes, entries, slots, room, below, l, kids, header);
+        let n = readleaves::run(s, nodes, entries, slots, room, below, l, kids, header);
         match n {
-            steps::Next::Refused(number, place) => {
-                return steps::Linked::Refused(number, place);
+            readsteps::Next::Refused(number, place) => {
+                return readsteps::Linked::Refused(number, place);
             }
-            steps::Next::Done(m) => {
-                return steps::Linked::Line(m);
+            readsteps::Next::Done(m) => {
+                return readsteps::Linked::Line(m);
             }
-            steps::Next::Child(m, rule) => {
+            readsteps::Next::Child(m, rule) => {
                 let r = child(s, nodes, entries, slots, room, below, m, rule);
                 match r {
-                    steps::Linked::Refused(number, place) => {
-                        return steps::Linked::Refused(number, place);
+                    readsteps::Linked::Refused(number, place) => {
+                        return readsteps::Linked::Refused(number, place);
                     }
-                    steps::Linked::Line(k) => {
+                    readsteps::Linked::Line(k) => {
                         l = k;
                     }
                 }
@@ -136,23 +139,23 @@ fn child(
     nodes: &mut [u32],
     entries: &mut [u32],
     slots: &mut [u32],
-    room: steps::Room,
+    room: readsteps::Room,
     allowance: u32,
-    line: steps::Line,
+    line: readsteps::Line,
     rule: u32,
-) -> steps::Linked
+) -> readsteps::Linked
     requires { ⌜ Safe (now s) room (line .walk) (now nodes) (now entries) (now slots) × LineIn line ⌝ }
     ensures { λ r. ⌜ ReadsChild rule (now (s .entry)) room allowance line (now (nodes .entry)) (now (entries .entry)) (now (slots .entry)) r (now (nodes .exit)) (now (entries .exit)) (now (slots .exit)) ⌝ }
 {
     let from = line.walk;
     let c = value(s, nodes, entries, slots, room, allowance, from);
     match c {
-        steps::Step::Refused(number, place) => steps::Linked::Refused(number, place),
-        steps::Step::Value(v, after) => {
-            if !steps::suits(rule, nodes, entries, v) {
-                return steps::Linked::Refused(refusals::BAD_TYPE, from.at);
+        readsteps::Step::Refused(number, place) => readsteps::Linked::Refused(number, place),
+        readsteps::Step::Value(v, after) => {
+            if !readsteps::suits(rule, nodes, entries, v) {
+                return readsteps::Linked::Refused(refusals::BAD_TYPE, from.at);
             }
-            steps::attach(entries, room.entries, line, from.at, v, after)
+            readsteps::attach(entries, room.entries, line, from.at, v, after)
         }
     }
 }
@@ -178,19 +181,19 @@ pub fn deserialize_value(
 ) -> Outcome
     ensures { λ r. ⌜ Delivers (readOf (now (input .entry)) (length (now (nodes .entry))) (length (now (entries .entry))) (length (now (slots .entry))) nesting) r (now (nodes .exit)) (now (entries .exit)) (now (slots .exit)) ⌝ }
 {
-    lent::clear_words(nodes);
-    lent::clear_words(entries);
-    lent::clear_words(slots);
+    clearing::clear_words(nodes);
+    clearing::clear_words(entries);
+    clearing::clear_words(slots);
     if (refusals::MOST_BYTES as usize) < input.len() {
         return Outcome::Refused(refusals::INPUT_TOO_LONG, 0);
     }
-    let room = steps::Room {
+    let room = readsteps::Room {
         nodes: stores::node_capacity(nodes.len()),
         entries: stores::entry_capacity(entries.len()),
         slots: stores::at_most(slots.len(), refusals::MOST_RECORDS),
     };
     let allowance = stores::at_most(nesting as usize, refusals::MOST_NESTING);
-    let start = steps::Walk {
+    let start = readsteps::Walk {
         at: 0,
         nodes: 0,
         entries: 0,
@@ -198,16 +201,16 @@ pub fn deserialize_value(
     };
     let r = value(input, nodes, entries, slots, room, allowance, start);
     match r {
-        steps::Step::Value(_, w) => Outcome::Read {
+        readsteps::Step::Value(_, w) => Outcome::Read {
             consumed: w.at,
             nodes: w.nodes,
             entries: w.entries,
             slots: w.slots,
         },
-        steps::Step::Refused(number, place) => {
-            lent::clear_words(nodes);
-            lent::clear_words(entries);
-            lent::clear_words(slots);
+        readsteps::Step::Refused(number, place) => {
+            clearing::clear_words(nodes);
+            clearing::clear_words(entries);
+            clearing::clear_words(slots);
             Outcome::Refused(number, place)
         }
     }

@@ -4,7 +4,7 @@ use mathlib.Core.Path.{_≡_, ap, _∙_}
 use Prim.Native.Nat.{ℕ}
 use mathlib.Core.List.{List}
 use Rattle.grammar.specs.Reading.{Answer}
-use Rattle.puts.specs.declared.Wrote.{Wrote}
+use Rattle.output.specs.declared.Wrote.{Wrote}
 use Rattle.writer.specs.Entry.{Serialized}
 use Rattle.sillgarland.specs.declared.varints.SillWritten.{SillWritten}
 use Rattle.sillgarland.specs.Values.{wroteStruct, WroteAs}

@@ -6,8 +6,8 @@ use Rattle.refusals.specs.Numbers.{accepted}
 use Rattle.grammar.specs.Reading.{Answer, gives, stops}
 use Rattle.grammar.specs.Answer.{Counts, Outcome}
 use Rattle.writing.specs.Answer.{outputHeld}
-use Rattle.puts.specs.declared.Wrote.{Wrote}
-use Rattle.puts.specs.declared.Wrote.the-variants as wrote
+use Rattle.output.specs.declared.Wrote.{Wrote}
+use Rattle.output.specs.declared.Wrote.the-variants as wrote
 use Rattle.writer.specs.Entry.{wroteOf}
 use Rattle.sillgarland.specs.declared.values.SillRead.{SillRead}
 use Rattle.sillgarland.specs.declared.varints.SillWritten.{SillWritten}

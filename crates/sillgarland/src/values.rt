@@ -1,6 +1,6 @@
 // Reading and writing a value for C and Rust callers. See include/sillgarland.h for what a caller owes.
 use crate::varints::SillWritten;
-use puts::Wrote;
+use output::Wrote;
 use reader::Outcome;
 ghost use mathlib.Core.Path.{_≡_};
 ghost use lib.ListN.{length};

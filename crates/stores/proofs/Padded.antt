@@ -6,7 +6,7 @@ use native.Mathlib.Omega.{arith}
 use mathlib.Core.List.{List, [], _∷_, _++_, append-assoc}
 use lib.ListN.{length, getD, set, length-append, length-set, length-replicate, replicate-append-replicate}
 use lib.Seq.{sets, set-append-left}
-use Rattle.lent.specs.Lent.{zeros, padded}
+use Rattle.clearing.specs.Lent.{zeros, padded}
 
 -- a number stored among those that were written
 pub set-padded : (n : ℕ) (xs : List ℕ) (i v : ℕ) → i < length xs → set (padded n xs) i v ≡ padded n (set xs i v)

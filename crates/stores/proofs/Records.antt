@@ -7,7 +7,7 @@ use mathlib.Core.List.{List, [], _∷_, _++_}
 use lib.ListN.{length, getD, set, length-append, length-set}
 use lib.Seq.{sets, length-sets, set-at}
 use Rattle.refusals.specs.Limits.{nothing}
-use Rattle.lent.specs.Lent.{padded}
+use Rattle.clearing.specs.Lent.{padded}
 use Rattle.grammar.specs.State.{Node, Entry, blank, unlinked, nodeWidth, entryWidth, nodeCells, entryCells}
 use Rattle.grammar.specs.Steps.{reserve, fill}
 use Rattle.grammar.proofs.Contents.{length-nodeCells, length-entryCells}

@@ -6,7 +6,7 @@ use mathlib.Core.Path.{_≡_}
 use mathlib.Core.List.{List, [], _∷_}
 use lib.ListN.{length, set}
 use lib.Seq.{sets}
-use Rattle.lent.specs.Lent.{padded}
+use Rattle.clearing.specs.Lent.{padded}
 use Rattle.grammar.specs.State.{Entry, nodeWidth, entryWidth, nodeCells, entryCells}
 use Rattle.grammar.specs.State as state
 use Rattle.stores.specs.declared.Node.{Node}

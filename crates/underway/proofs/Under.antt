@@ -13,13 +13,13 @@ use Rattle.grammar.specs.Record.{Tables, chain}
 use Rattle.writing.specs.Writing.{Writing, ended, refused, then, each, into}
 use Rattle.writing.specs.Answer.{mostOutput}
 use Rattle.writing.proofs.Into.{then-ended, into-then, into-stops}
-use Rattle.puts.specs.declared.Wrote.{Wrote}
-use Rattle.puts.specs.declared.Wrote.the-variants as wrote
-use Rattle.puts.specs.Puts.{Open, Agrees, Puts}
+use Rattle.output.specs.declared.Wrote.{Wrote}
+use Rattle.output.specs.declared.Wrote.the-variants as wrote
+use Rattle.output.specs.Puts.{Open, Agrees, Puts}
 use Rattle.stores.specs.Written.{EntryIn}
-use Rattle.tables.specs.Looking.{isSome}
-use Rattle.tables.proofs.Groups.{some-of}
-use Rattle.tables.proofs.Chains.{onto, headed, entry-in, chain-none}
+use Rattle.writecheck.specs.Looking.{isSome}
+use Rattle.writecheck.proofs.Groups.{some-of}
+use Rattle.writecheck.proofs.Chains.{onto, headed, entry-in, chain-none}
 use Rattle.underway.specs.Onward.{Onward}
 use Rattle.underway.specs.Rows.{kidsFrom}
 

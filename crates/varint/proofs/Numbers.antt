@@ -6,7 +6,7 @@ use Prim.Native.Nat.{ℕ, _+_, _^_, _≤_, _<_}
 use lib.ListN.{length}
 use borrow.Author.Tests.{le-leb, lt-leb, le-ltb}
 use Rattle.refusals.specs.Numbers.{accepted, noRoom, numberRange}
-use Rattle.lent.specs.Lent.{zeros}
+use Rattle.clearing.specs.Lent.{zeros}
 use Rattle.varint.specs.Writing.{bigEndian}
 use Rattle.varint.specs.Reading.{readVarint}
 use Rattle.varint.specs.Answers.{stored, storedSigned, writtenNumbers, foundNumbers}

@@ -10,8 +10,8 @@ use borrow.Author.Tests.{le-leb, lt-leb}
 use lib.ListN.{length, take, drop, set, getD, length-set, length-append, length-replicate, length-drop, drop-of-length-le}
 use lib.Seq.{sets, take-all, take-suc-set, drop-cons, drop-set-lt, getD-set-same, getD-drop}
 use Rattle.refusals.specs.Numbers.{noRoom}
-use Rattle.lent.specs.Lent.{zeros, padded}
-use Rattle.lent.proofs.Laws.{sets-padded}
+use Rattle.clearing.specs.Lent.{zeros, padded}
+use Rattle.clearing.proofs.Laws.{sets-padded}
 use Rattle.varint.specs.Writing.{littleEndian, bigEndian, started}
 use Rattle.varint.specs.Answers.{stored}
 use Rattle.varint.specs.declared.Written.the-variants.{Done, Refused}

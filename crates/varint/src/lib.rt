@@ -40,7 +40,7 @@ pub fn write_signed_varint(out: &mut [u8], val: i32) -> Written
 {
     let bits = signed::bits32(val);
     if bits == 0x8000_0000 {
-        lent::clear_bytes(out);
+        clearing::clear_bytes(out);
         return Written::Refused(refusals::NUMBER_RANGE, 0);
     }
     write_varint(out, signed_code(bits))
@@ -155,7 +155,7 @@ fn store(out: &mut [u8], bytes: &[u8]) -> Written
     requires { ⌜ length (now bytes) ≤ 6 ⌝ }
     ensures { λ r. ⌜ (r, now (out .exit)) ≡ stored (length (now (out .entry))) (now (bytes .entry)) ⌝ }
 {
-    lent::clear_bytes(out);
+    clearing::clear_bytes(out);
     if out.len() < bytes.len() {
         return Written::Refused(refusals::NO_ROOM, out.len() as u32);
     }

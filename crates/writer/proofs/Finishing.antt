@@ -10,15 +10,15 @@ use borrow.Author.Tests.{lt-ltb, le-ltb}
 use borrow.Rule.Slice.PartMut.{midOf, postOf, putMid, mid-len, post-is}
 use Rattle.refusals.specs.Numbers.{inputTooLong}
 use Rattle.refusals.specs.Limits.{mostBytes, mostNesting}
-use Rattle.lent.specs.Lent.{zeros, padded}
+use Rattle.clearing.specs.Lent.{zeros, padded}
 use Rattle.grammar.specs.Reading.{Answer, stops}
 use Rattle.grammar.specs.Record.{Tables}
 use Rattle.writing.specs.Writing.{Writing, into}
 use Rattle.writing.specs.Steps.{writing}
 use Rattle.writing.specs.Answer.{mostOutput, written, outputHeld}
-use Rattle.puts.specs.declared.Wrote.{Wrote}
-use Rattle.puts.specs.declared.Wrote.the-variants as wrote
-use Rattle.puts.specs.Puts.{Agrees, Puts}
+use Rattle.output.specs.declared.Wrote.{Wrote}
+use Rattle.output.specs.declared.Wrote.the-variants as wrote
+use Rattle.output.specs.Puts.{Agrees, Puts}
 use Rattle.writer.specs.Entry.{wroteOf, Serialized}
 
 -- the output, where an answer is known

@@ -6,8 +6,8 @@ use lib.ListN.{length}
 use Rattle.grammar.specs.Reading.{Answer, gives, stops}
 use Rattle.grammar.specs.Record.{Tables}
 use Rattle.writing.specs.Answer.{written, outputHeld}
-use Rattle.puts.specs.declared.Wrote.{Wrote}
-use Rattle.puts.specs.declared.Wrote.the-variants as wrote
+use Rattle.output.specs.declared.Wrote.{Wrote}
+use Rattle.output.specs.declared.Wrote.the-variants as wrote
 
 -- 01's number and values for each case: how many bytes were written, or the refusal's number and place
 abbrev pub wroteOf : Answer (List ℕ) → Wrote

@@ -28,20 +28,20 @@ pub fn serialize_value(
     root: u32,
     nesting: u32,
     out: &mut [u8],
-) -> puts::Wrote
+) -> output::Wrote
     ensures { λ r. ⌜ Serializes (tablesOf (now (input .entry)) (now (nodes .entry)) (now (entries .entry)) «used_nodes» «used_entries») root nesting (length (now (out .entry))) r (now (out .exit)) ⌝ }
 {
     if (refusals::MOST_BYTES as usize) < input.len() {
-        lent::clear_bytes(out);
-        return puts::Wrote::Refused(refusals::INPUT_TOO_LONG, 0);
+        clearing::clear_bytes(out);
+        return output::Wrote::Refused(refusals::INPUT_TOO_LONG, 0);
     }
-    let used = tables::Used {
+    let used = writecheck::Used {
         nodes: used_nodes,
         entries: used_entries,
     };
     let allowance = stores::at_most(nesting as usize, refusals::MOST_NESTING);
     let room = counted(out.len());
-    match putvalue::write_value(
+    match writevalue::write_value(
         input,
         nodes,
         entries,
@@ -51,13 +51,13 @@ pub fn serialize_value(
         root,
         0,
     ) {
-        puts::Wrote::Done(a) => {
-            lent::clear_bytes(&mut out[a as usize..]);
-            puts::Wrote::Done(a)
+        output::Wrote::Done(a) => {
+            clearing::clear_bytes(&mut out[a as usize..]);
+            output::Wrote::Done(a)
         }
-        puts::Wrote::Refused(number, place) => {
-            lent::clear_bytes(out);
-            puts::Wrote::Refused(number, place)
+        output::Wrote::Refused(number, place) => {
+            clearing::clear_bytes(out);
+            output::Wrote::Refused(number, place)
         }
     }
 }

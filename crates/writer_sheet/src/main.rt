@@ -1,11 +1,11 @@
 // Written values, a line each: a value is read, its root written from the stores, as they are or with one number of a node damaged. A line
 // has the answer and the whole output, which holds EE before each call, so that what the writer clears is seen.
 ghost use Prim.Native.Nat.{_<_};
+use output::Wrote;
 use printing::say;
 use printing::say_bytes;
 use printing::say_number;
 use printing::say_refused;
-use puts::Wrote;
 use reader::Outcome;
 
 // How many numbers the nodes of the longest value take.

@@ -6,7 +6,7 @@ use borrow.Author.Tests.{ne-eqb}
 use Rattle.grammar.specs.Letters.{letters, found, classOf}
 use Rattle.grammar.specs.Leaf as definition
 use Rattle.stores.specs.Written.{nodeOf}
-use Rattle.records.proofs.Soundness.{fixed-held, double-held, long-held}
+use Rattle.soundness.proofs.Soundness.{fixed-held, double-held, long-held}
 use Rattle.leaf.specs.Answers.{toldOf}
 use native.Mathlib.Omega.{arith}
 use Rattle.leaf.proofs.leaf_as.Statement.{statement}

@@ -6,7 +6,7 @@ use borrow.Author.Tests.{lt-ltb, le-ltb, not-true, not-false}
 use Rattle.grammar.specs.Leaf as definition
 use Rattle.grammar.specs.Record.{sound}
 use Rattle.grammar.specs.State.{Node}
-use Rattle.records.proofs.Soundness.{in-store, sound-node}
+use Rattle.soundness.proofs.Soundness.{in-store, sound-node}
 use Rattle.leaf.specs.Answers.{toldOf}
 use Rattle.leaf.specs.declared.Answered.the-variants as answered
 use Rattle.leaf.proofs.leaf_of.Statement.{statement}

@@ -4,7 +4,7 @@ use mathlib.Core.Path.{_≡_, sym, _∙_}
 use Prim.Native.Nat.{_-_}
 use lib.ListN.{length, length-set}
 use lib.Seq.{sets}
-use Rattle.lent.specs.Lent.{zeros}
+use Rattle.clearing.specs.Lent.{zeros}
 use Rattle.linetable.proofs.Stores.{clear-turn, clear-done}
 use borrow.Author.Needs.{needs}
 use Rattle.linetable.proofs.clear_from.Statement.{statement}

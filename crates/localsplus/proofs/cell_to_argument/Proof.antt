@@ -2,7 +2,7 @@
 -- Assumes nothing.
 use mathlib.Core.Path.{sym, _∙_}
 use borrow.Author.Needs.{needs}
-use Rattle.lent.proofs.Laws.{padded-none}
+use Rattle.clearing.proofs.Laws.{padded-none}
 use Rattle.localsplus.proofs.cell_to_argument.Statement.{statement}
 use Rattle.localsplus.proofs.cell_to_argument.Tie as tie
 

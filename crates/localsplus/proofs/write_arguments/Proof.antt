@@ -5,7 +5,7 @@ use mathlib.Core.Logic.{⊎-elim}
 use mathlib.Core.Path.{sym, ap, _∙_}
 use lib.ListN.{length, drop}
 use borrow.Author.Needs.{needs}
-use Rattle.lent.specs.Lent.{zeros}
+use Rattle.clearing.specs.Lent.{zeros}
 use Rattle.localsplus.specs.Lists.{cellArgsFrom}
 use Rattle.localsplus.proofs.Turns.{arguments-has, arguments-lacks, arguments-end}
 use Rattle.localsplus.proofs.Walk.{Walk, walk-start, walk-put, walk-pass, walk-done}

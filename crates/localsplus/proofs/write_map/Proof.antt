@@ -4,7 +4,7 @@ use Prim.Native.Nat.{_+_, _≤_, _-_}
 use mathlib.Core.Path.{refl, sym, ap, _∙_}
 use lib.ListN.{length, drop}
 use borrow.Author.Needs.{needs}
-use Rattle.lent.specs.Lent.{zeros}
+use Rattle.clearing.specs.Lent.{zeros}
 use Rattle.localsplus.specs.Lists.{mapFrom}
 use Rattle.localsplus.proofs.Turns.{map-one, map-end}
 use Rattle.localsplus.proofs.Walk.{Walk, walk-start, walk-put, walk-done}

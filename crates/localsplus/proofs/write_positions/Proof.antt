@@ -5,7 +5,7 @@ use mathlib.Core.Path.{sym, ap, _∙_}
 use mathlib.Core.Logic.{⊎-elim}
 use lib.ListN.{length, drop}
 use borrow.Author.Needs.{needs}
-use Rattle.lent.specs.Lent.{zeros}
+use Rattle.clearing.specs.Lent.{zeros}
 use Rattle.localsplus.specs.Lists.{positionsFrom, positions}
 use Rattle.localsplus.proofs.Turns.{positions-has, positions-lacks, positions-end}
 use Rattle.localsplus.proofs.Walk.{Walk, walk-start, walk-put, walk-pass, walk-done}

@@ -8,7 +8,7 @@ use mir.Facts.{toZ-ofZ}
 use Rattle.grammar.specs.State.{Node}
 use Rattle.linetable.specs.Answer.{firstLine, recordsOf}
 use Rattle.fields.proofs.Laws.{part}
-use Rattle.records.proofs.Soundness.{in-store}
+use Rattle.soundness.proofs.Soundness.{in-store}
 use Rattle.locate.proofs.Sound.{sound-span, too-long, unsound, other, table}
 use borrow.Author.Needs.{needs}
 use borrow.Author.Tests.{not-true, not-false}

@@ -3,12 +3,12 @@
 use lib.ListN.{length}
 use native.Mathlib.Omega.{arith}
 use mathlib.Core.Path.{refl, _∙_}
-use Rattle.plain.proofs.Chains.{stands-safe}
-use Rattle.plain.proofs.Values.{head-in, inside-safe, inside-line, value-refused, value-known, value-cut, value-whole}
-use Rattle.plain.proofs.Children.{child-cut, child-unfit, child-linked, attach-asks}
-use Rattle.plain.specs.Turns.{InvBody}
-use Rattle.plain.proofs.Bodies.{below-le, body-start}
-use Rattle.plain.proofs.Running.{ran-done, ran-refused, ran-stands, ran-cut, ran-next, ran-less}
+use Rattle.readleaves.proofs.Chains.{stands-safe}
+use Rattle.readleaves.proofs.Values.{head-in, inside-safe, inside-line, value-refused, value-known, value-cut, value-whole}
+use Rattle.readleaves.proofs.Children.{child-cut, child-unfit, child-linked, attach-asks}
+use Rattle.readleaves.specs.Turns.{InvBody}
+use Rattle.readleaves.proofs.Bodies.{below-le, body-start}
+use Rattle.readleaves.proofs.Running.{ran-done, ran-refused, ran-stands, ran-cut, ran-next, ran-less}
 use borrow.Author.Needs.{needs}
 use Prim.Native.Nat.{ℕ, _+_, _-_, _*_, _<_}
 use borrow.Fn.Kinds.{In}
@@ -22,12 +22,12 @@ use Rattle.reader.proofs.+child+typed+value.Lts-typed as typed-lts
 use Rattle.reader.proofs.value.Reads as value
 use Rattle.reader.proofs.value.Kinds as value-kinds
 use Rattle.reader.proofs.+child+typed+value.Lts-value as value-lts
-use Rattle.steps.proofs.attach.Reads as attach-reads
-use Rattle.steps.proofs.below.Reads as below-reads
-use Rattle.steps.proofs.front.Reads as front-reads
-use Rattle.plain.proofs.run.Reads as run-reads
-use Rattle.steps.proofs.node_size.Reads as node-size-reads
-use Rattle.steps.proofs.suits.Reads as suits-reads
+use Rattle.readsteps.proofs.attach.Reads as attach-reads
+use Rattle.readsteps.proofs.below.Reads as below-reads
+use Rattle.readsteps.proofs.front.Reads as front-reads
+use Rattle.readleaves.proofs.run.Reads as run-reads
+use Rattle.readsteps.proofs.node_size.Reads as node-size-reads
+use Rattle.readsteps.proofs.suits.Reads as suits-reads
 use Rattle.stores.proofs.fill_slot.Reads as fill-slot-reads
 use Rattle.stores.proofs.write_node.Reads as write-node-reads
 use Rattle.reader.proofs.+child+typed+value.{statement}

@@ -2,7 +2,7 @@
 -- Assumes nothing.
 use lib.ListN.{length}
 use mathlib.Core.Path.{ap, _∙_}
-use Rattle.lent.specs.Lent.{zeros}
+use Rattle.clearing.specs.Lent.{zeros}
 use Rattle.reader.proofs.Wholes.{whole-long, whole-refused, whole-read}
 use borrow.Author.Needs.{needs}
 use Rattle.reader.proofs.deserialize_value.Statement.{statement}

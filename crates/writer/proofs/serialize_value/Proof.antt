@@ -1,7 +1,7 @@
 -- The value is written into what counts of the output; behind it, or where it is refused everywhere, the output is cleared. Assumes nothing.
 use Rattle.writer.proofs.Finishing.{fits-behind, behind-cleared, finish-long, finish-done, finish-refused}
 use Rattle.grammar.specs.Record.{tablesOf}
-use Rattle.lent.specs.Lent.{zeros}
+use Rattle.clearing.specs.Lent.{zeros}
 use lib.Seq.{length-front, length-take-le}
 use lib.ListN.{length, drop}
 use mathlib.Core.List.{_++_}

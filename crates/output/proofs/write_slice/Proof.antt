@@ -1,0 +1,57 @@
+-- Carried by the laws of room. Assumes nothing.
+use Rattle.output.proofs.Laws.{slice-full, slice-placed}
+use lib.ListN.{length-set}
+use native.Mathlib.Omega.{arith}
+use mathlib.Core.Path.{_∙_}
+use borrow.Author.Needs.{needs}
+use Rattle.output.proofs.write_slice.Statement.{statement}
+use Rattle.output.proofs.write_slice.Tie as tie
+
+sub-if1 : tie.Need-sub-if1
+sub-if1 c = search needs
+
+add-if1 : tie.Need-add-if1
+add-if1 c = search needs
+
+cast-t13 : tie.Need-cast-t13
+cast-t13 c = search needs
+
+returns : tie.Need-returns
+returns c = slice-full (c .before .before .before .args .out .now) (c .before .before .before .args .at) (c .before .before .before .args .letter) (c .before .before .before .args .s .now) (c .before .before .before .args .from) (c .before .before .before .args .size) (c .before .before .before .pre .1) (omega arith) (omega arith) (omega arith)
+
+slice-write-out : tie.Need-slice-write-out
+slice-write-out c = search needs
+
+add-store-slice : tie.Need-add-store-slice
+add-store-slice c = search needs
+
+store-slice-requires : tie.Need-store-slice-requires
+store-slice-requires c κs = simp length-set (omega arith)
+
+add-t18 : tie.Need-add-t18
+add-t18 c = search needs
+
+add-t19 : tie.Need-add-t19
+add-t19 c = search needs
+
+same-length : tie.Need-same-length
+same-length c = c .before .before .store-slice .kept .0 ∙ simp length-set
+
+returns-2 : tie.Need-returns-2
+returns-2 c = slice-placed (c .before .before .before .before .before .before .before .args .out .now) (c .before .before .before .before .before .before .before .args .at) (c .before .before .before .before .before .before .before .args .letter) (c .before .before .before .before .before .before .before .args .s .now) (c .before .before .before .before .before .before .before .args .from) (c .before .before .before .before .before .before .before .args .size) (c .before .before .before .before .before .before .before .pre .1) (omega arith) (c .before .before .store-slice .ensures)
+
+pub write-slice-spec : {M : Type 1} → statement M
+write-slice-spec =
+    tie.close
+    (tie.spec
+    sub-if1
+    add-if1
+    cast-t13
+    returns
+    slice-write-out
+    add-store-slice
+    store-slice-requires
+    add-t18
+    add-t19
+    same-length
+    returns-2)

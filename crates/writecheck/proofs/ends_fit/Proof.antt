@@ -1,0 +1,46 @@
+-- Three parts' numbers, compared. Assumes nothing.
+use Rattle.writecheck.proofs.Codes.{ends-not, ends-so}
+use Rattle.grammar.specs.State.{Node}
+use borrow.Author.Tests.{eq-eqb, ne-eqb}
+use native.Mathlib.Omega.{arith}
+use mathlib.Core.Path.{ap, sym, _∙_}
+use borrow.Author.Needs.{needs}
+use Rattle.writecheck.proofs.ends_fit.Statement.{statement}
+use Rattle.writecheck.proofs.ends_fit.Tie as tie
+
+part-at-requires : tie.Need-part-at-requires
+part-at-requires c κs = search needs
+
+node-of-requires : tie.Need-node-of-requires
+node-of-requires c κs = search needs
+
+part-at-requires-2 : tie.Need-part-at-requires-2
+part-at-requires-2 c κs = search needs
+
+node-of-requires-2 : tie.Need-node-of-requires-2
+node-of-requires-2 c κs = search needs
+
+part-at-requires-3 : tie.Need-part-at-requires-3
+part-at-requires-3 c κs = search needs
+
+node-of-requires-3 : tie.Need-node-of-requires-3
+node-of-requires-3 c κs = search needs
+
+returns : tie.Need-returns
+returns c = ends-not (c .before .before .before .before .before .before .before .before .before .before .before .args .nodes .now) (c .before .before .before .before .before .before .before .before .part-at .ensures) (c .before .before .before .before .before .before .part-at2 .ensures) (c .before .before .before .before .part-at3 .ensures) (ap (λ (m : Node). m .count) (c .before .before .before .before .before .node-of2 .ensures)) (ap (λ (m : Node). m .size) (c .before .before .before .node-of3 .ensures)) (λ e. omega arith)
+
+returns-2 : tie.Need-returns-2
+returns-2 c = ends-so (c .before .before .before .before .before .before .before .before .before .before .before .before .args .nodes .now) (c .before .before .before .before .before .before .before .before .before .part-at .ensures) (c .before .before .before .before .before .before .before .part-at2 .ensures) (c .before .before .before .before .before .part-at3 .ensures) (ap (λ (m : Node). m .size) (c .before .before .before .before .before .before .before .before .node-of .ensures)) (ap (λ (m : Node). m .count) (c .before .before .before .before .before .before .node-of2 .ensures)) (ap (λ (m : Node). m .size) (c .before .before .before .before .node-of3 .ensures)) (omega arith)
+
+pub ends-fit-spec : {M : Type 1} → statement M
+ends-fit-spec =
+    tie.close
+    (tie.spec
+    part-at-requires
+    node-of-requires
+    part-at-requires-2
+    node-of-requires-2
+    part-at-requires-3
+    node-of-requires-3
+    returns
+    returns-2)

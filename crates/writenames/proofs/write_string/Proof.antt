@@ -1,0 +1,32 @@
+-- The level, then the string. Assumes nothing.
+use Rattle.writing.specs.Names.{contentsOf}
+use Rattle.writing.specs.Canonical.{codeString}
+use Rattle.writing.specs.Writing.{emit, ended}
+use Rattle.writenames.proofs.Naming.{no-level, string-put}
+use Rattle.writecheck.proofs.Groups.{string-within}
+use Rattle.writecheck.specs.Looking.{lent}
+use Rattle.grammar.specs.State.{Node}
+use native.Mathlib.Omega.{arith}
+use mathlib.Core.Path.{ap}
+use borrow.Author.Needs.{needs}
+use Rattle.writenames.proofs.write_string.Statement.{statement}
+use Rattle.writenames.proofs.write_string.Tie as tie
+
+returns : tie.Need-returns
+returns c = no-level (c .before .before .before .before .before .args .allowance) (c .before .before .before .before .before .args .node) (emit (codeString (contentsOf (lent (c .before .before .before .before .before .args .s .now) (c .before .before .before .before .before .args .nodes .now) (c .before .before .before .before .before .args .entries .now) (c .before .before .before .before .before .args .used)) (c .before .before .before .before .before .args .node))) ended) (omega arith)
+
+node-of-requires : tie.Need-node-of-requires
+node-of-requires c κs = search needs
+
+write-marshal-str-requires : tie.Need-write-marshal-str-requires
+write-marshal-str-requires c κs = let p = (ap (λ (m : Node). m .place) (c .before .node-of .ensures)) in let m = (ap (λ (m : Node). m .size) (c .before .node-of .ensures)) in (c .before .before .before .before .before .before .before .pre .0, omega (arith, string-within (c .before .before .before .before .before .before .before .args .s .now) (c .before .before .before .before .before .before .before .args .nodes .now) (c .before .before .before .before .before .before .before .args .used .nodes) (c .before .before .before .before .before .before .before .args .node) (c .before .before .before .before .before .before .before .pre .1)))
+
+same-length : tie.Need-same-length
+same-length c = search needs
+
+returns-2 : tie.Need-returns-2
+returns-2 c = string-put (lent (c .before .before .before .before .before .before .before .before .before .before .args .s .now) (c .before .before .before .before .before .before .before .before .before .before .args .nodes .now) (c .before .before .before .before .before .before .before .before .before .before .args .entries .now) (c .before .before .before .before .before .before .before .before .before .before .args .used)) (c .before .before .before .before .before .before .before .before .before .before .args .allowance) (c .before .before .before .before .before .before .before .before .before .before .args .node) (omega arith) (ap (λ (m : Node). m .place) (c .before .before .before .before .node-of .ensures)) (ap (λ (m : Node). m .size) (c .before .before .before .before .node-of .ensures)) (c .before .before .write-marshal-str .ensures)
+
+pub write-string-spec : {M : Type 1} → statement M
+write-string-spec =
+    tie.close (tie.spec returns node-of-requires write-marshal-str-requires same-length returns-2)

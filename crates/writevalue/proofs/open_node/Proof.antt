@@ -1,0 +1,52 @@
+-- Levels, record, front. Assumes nothing.
+use Rattle.writevalue.proofs.Opening.{open-deep, open-bad, open-front, held-node, looks-bad, looks-held}
+use Rattle.writecheck.specs.Looking.{lent}
+use Rattle.grammar.specs.Record.{sound}
+use Rattle.grammar.specs.State.{Node}
+use borrow.Author.Tests.{not-true, not-false}
+use mathlib.Core.Bool.{true}
+use mathlib.Core.Path.{_≡_, refl, ap, sym, subst, _∙_}
+use borrow.Author.Needs.{needs}
+use Rattle.writevalue.proofs.open_node.Statement.{statement}
+use Rattle.writevalue.proofs.open_node.Tie as tie
+
+too-deep-requires : tie.Need-too-deep-requires
+too-deep-requires c κs = search needs
+
+returns : tie.Need-returns
+returns c = open-deep (lent (c .before .before .before .before .before .before .args .s .now) (c .before .before .before .before .before .before .args .nodes .now) (c .before .before .before .before .before .before .args .entries .now) (c .before .before .before .before .before .before .args .used)) (c .before .before .before .before .before .before .args .allowance) (c .before .before .before .before .before .before .args .node) (c .before .too-deep .ensures .tells (lent (c .before .before .before .before .before .before .args .s .now) (c .before .before .before .before .before .before .args .nodes .now) (c .before .before .before .before .before .before .args .entries .now) (c .before .before .before .before .before .before .args .used)) refl refl) (c .if1 .taken) (c .before .before .before .before .before .before .pre .0 .inside)
+
+look-requires : tie.Need-look-requires
+look-requires c κs = search needs
+
+returns-2 : tie.Need-returns-2
+returns-2 c = open-bad (lent (c .before .before .before .before .before .before .before .before .args .s .now) (c .before .before .before .before .before .before .before .before .args .nodes .now) (c .before .before .before .before .before .before .before .before .args .entries .now) (c .before .before .before .before .before .before .before .before .args .used)) (c .before .before .before .before .before .before .before .before .args .allowance) (c .before .before .before .before .before .before .before .before .args .node) (c .before .before .before .too-deep .ensures .tells (lent (c .before .before .before .before .before .before .before .before .args .s .now) (c .before .before .before .before .before .before .before .before .args .nodes .now) (c .before .before .before .before .before .before .before .before .args .entries .now) (c .before .before .before .before .before .before .before .before .args .used)) refl refl) (c .before .before .if1 .left) (looks-bad (lent (c .before .before .before .before .before .before .before .before .args .s .now) (c .before .before .before .before .before .before .before .before .args .nodes .now) (c .before .before .before .before .before .before .before .before .args .entries .now) (c .before .before .before .before .before .before .before .before .args .used)) (c .before .before .before .before .before .before .before .before .args .node) (c .before .look .result) (c .before .look .ensures) (not-true _ (c .if2 .taken))) (c .before .before .before .before .before .before .before .before .pre .0 .inside)
+
+node-of-requires : tie.Need-node-of-requires
+node-of-requires c κs = search needs
+
+class-of-requires : tie.Need-class-of-requires
+class-of-requires c κs = search needs
+
+write-front-requires : tie.Need-write-front-requires
+write-front-requires c κs = (c .before .before .before .before .before .before .before .before .before .before .before .pre .0, c .before .before .before .before .before .before .before .before .before .before .before .pre .1, subst (λ (m : Node). sound (c .before .before .before .before .before .before .before .before .before .before .before .args .s .now) m ≡ true) (sym (c .before .before .node-of .ensures)) (held-node (lent (c .before .before .before .before .before .before .before .before .before .before .before .args .s .now) (c .before .before .before .before .before .before .before .before .before .before .before .args .nodes .now) (c .before .before .before .before .before .before .before .before .before .before .before .args .entries .now) (c .before .before .before .before .before .before .before .before .before .before .before .args .used)) (c .before .before .before .before .before .before .before .before .before .before .before .args .node) (looks-held (lent (c .before .before .before .before .before .before .before .before .before .before .before .args .s .now) (c .before .before .before .before .before .before .before .before .before .before .before .args .nodes .now) (c .before .before .before .before .before .before .before .before .before .before .before .args .entries .now) (c .before .before .before .before .before .before .before .before .before .before .before .args .used)) (c .before .before .before .before .before .before .before .before .before .before .before .args .node) (c .before .before .before .before .look .result) (c .before .before .before .before .look .ensures) (not-false _ (c .before .before .before .if2 .left)))), c .class-of .ensures)
+
+same-length : tie.Need-same-length
+same-length c = c .before .before .write-front .kept .1 .0
+
+returns-3 : tie.Need-returns-3
+returns-3 c = open-front (lent (c .before .before .before .before .before .before .before .before .before .before .before .before .before .before .args .s .now) (c .before .before .before .before .before .before .before .before .before .before .before .before .before .before .args .nodes .now) (c .before .before .before .before .before .before .before .before .before .before .before .before .before .before .args .entries .now) (c .before .before .before .before .before .before .before .before .before .before .before .before .before .before .args .used)) (c .before .before .before .before .before .before .before .before .before .before .before .before .before .before .args .allowance) (c .before .before .before .before .before .before .before .before .before .before .before .before .before .before .args .node) (c .before .before .before .before .before .before .before .before .before .too-deep .ensures .tells (lent (c .before .before .before .before .before .before .before .before .before .before .before .before .before .before .args .s .now) (c .before .before .before .before .before .before .before .before .before .before .before .before .before .before .args .nodes .now) (c .before .before .before .before .before .before .before .before .before .before .before .before .before .before .args .entries .now) (c .before .before .before .before .before .before .before .before .before .before .before .before .before .before .args .used)) refl refl) (c .before .before .before .before .before .before .before .before .if1 .left) (looks-held (lent (c .before .before .before .before .before .before .before .before .before .before .before .before .before .before .args .s .now) (c .before .before .before .before .before .before .before .before .before .before .before .before .before .before .args .nodes .now) (c .before .before .before .before .before .before .before .before .before .before .before .before .before .before .args .entries .now) (c .before .before .before .before .before .before .before .before .before .before .before .before .before .before .args .used)) (c .before .before .before .before .before .before .before .before .before .before .before .before .before .before .args .node) (c .before .before .before .before .before .before .before .look .result) (c .before .before .before .before .before .before .before .look .ensures) (not-false _ (c .before .before .before .before .before .before .if2 .left))) (c .before .before .before .before .before .node-of .ensures) (c .before .before .write-front .kept .1 .0) (c .before .before .write-front .ensures)
+
+pub open-node-spec : {M : Type 1} → statement M
+open-node-spec =
+    tie.close
+    (tie.spec
+    too-deep-requires
+    returns
+    look-requires
+    returns-2
+    node-of-requires
+    class-of-requires
+    write-front-requires
+    same-length
+    returns-3)
