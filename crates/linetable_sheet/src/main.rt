@@ -63,10 +63,16 @@ fn run(name: &[u8], table: &[u8], first_line: i32, count: u32, shown: u32) {
     say_records(&records, shown);
 }
 
+// What is answered for the table of a node that was read, and its records.
+fn show_node(input: &[u8], nodes: &[u32], used: u32, node: u32, count: u32) {
+    let mut records = [7u32; 16];
+    say_answer(locate::locate_node(input, nodes, used, node, 10, count, &mut records));
+    say_records(&records, count);
+}
+
 // A table in the middle of an input, which is asked for by its node.
 fn run_in(name: &[u8], input: &[u8], node: u32, count: u32) {
     let mut nodes = [0u32; 15];
-    let mut records = [7u32; 16];
     say(name);
     say(b": ");
     match reader::deserialize_value(input, &mut nodes, &mut [0; 4], &mut [0; 1], 2) {
@@ -79,10 +85,9 @@ fn run_in(name: &[u8], input: &[u8], node: u32, count: u32) {
             entries: _,
             slots: _,
         } => {
-            say_answer(locate::locate_node(input, &nodes, used, node, 10, count, &mut records));
+            show_node(input, &nodes, used, node, count);
         }
     }
-    say_records(&records, count);
 }
 
 fn sheet() {
