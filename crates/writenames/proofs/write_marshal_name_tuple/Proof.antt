@@ -20,7 +20,10 @@ use Rattle.writenames.proofs.write_marshal_name_tuple.Statement.{statem
 use Rattle.writenames.proofs.write_marshal_name_tuple.Tie as tie
 
 returns : tie.Need-returns
-returns c = no-level (c .before .before .before .before .before .args .allowance) (c .before .before .before .before .before .args .node) (emit (0x28 ∷ bytes32 (length (kidsOf (lent (c .before .before .before .before .before .args .s .now) (c .before .before .before .before .before .args .nodes .now) (c .before .before .before .before .before .args .entries .now) (c .before .before .before .before .before .args .used)) (c .before .before .before .before .before .args .node)))) (each (stringPart (lent (c .before .before .before .before .before .args .s .now) (c .before .before .before .before .before .args .nodes .now) (c .before .before .before .before .before .args .entries .now) (c .before .before .before .before .before .args .used)) (c .before .before .before .before .before .args .allowance - 1)) (kidsOf (lent (c .before .before .before .before .before .args .s .now) (c .before .before .before .before .before .args .nodes .now) (c .before .before .before .before .before .args .entries .now) (c .before .before .before .before .before .args .used)) (c .before .before .before .before .before .args .node)))) (omega arith)
+returns c =
+    let a = c .before .before .before .before .before .args in
+    let t = lent (a .s .now) (a .nodes .now) (a .entries .now) (a .used) in
+    no-level (a .allowance) (a .node) (emit (0x28 ∷ bytes32 (length (kidsOf t (a .node)))) (each (stringPart t (a .allowance - 1)) (kidsOf t (a .node)))) (omega arith)
 
 node-of-requires : tie.Need-node-of-requires
 node-of-requires c κs = search needs
@@ -38,19 +41,34 @@ sub-write-names : tie.Need-sub-write-names
 sub-write-names c = search needs
 
 write-names-requires : tie.Need-write-names-requires
-write-names-requires c κs = (opens (written-in (tuple-way (lent (c .before .before .before .before .before .before .before .before .before .before .before .before .before .before .args .s .now) (c .before .before .before .before .before .before .before .before .before .before .before .before .before .before .args .nodes .now) (c .before .before .before .before .before .before .before .before .before .before .before .before .before .before .args .entries .now) (c .before .before .before .before .before .before .before .before .before .before .before .before .before .before .args .used)) (c .before .before .before .before .before .before .before .before .before .before .before .before .before .before .args .allowance) (c .before .before .before .before .before .before .before .before .before .before .before .before .before .before .args .node) (omega arith) (tuple-at (lent (c .before .before .before .before .before .before .before .before .before .before .before .before .before .before .args .s .now) (c .before .before .before .before .before .before .before .before .before .before .before .before .before .before .args .nodes .now) (c .before .before .before .before .before .before .before .before .before .before .before .before .before .before .args .entries .now) (c .before .before .before .before .before .before .before .before .before .before .before .before .before .before .args .used)) (c .before .before .before .before .before .before .before .before .before .before .before .before .before .before .args .node) (c .before .before .before .before .before .before .before .before .before .before .before .before .before .before .pre .1) (ap (λ (m : Node). m .count) (c .before .before .before .before .before .before .before .before .node-of .ensures)) (ap (λ (m : Node). m .first) (c .before .before .before .before .before .before .before .before .node-of .ensures))) (c .before .before .before .before .before .before .before .before .before .before .before .before .before .before .pre .0 .inside)) (c .before .before .before .before .before .before .write-len .ensures) (c .before .before .a .given .1)) (c .before .before .before .before .before .before .before .before .before .before .before .before .before .before .pre .0 .counts), (tuple-at (lent (c .before .before .before .before .before .before .before .before .before .before .before .before .before .before .args .s .now) (c .before .before .before .before .before .before .before .before .before .before .before .before .before .before .args .nodes .now) (c .before .before .before .before .before .before .before .before .before .before .before .before .before .before .args .entries .now) (c .before .before .before .before .before .before .before .before .before .before .before .before .before .before .args .used)) (c .before .before .before .before .before .before .before .before .before .before .before .before .before .before .args .node) (c .before .before .before .before .before .before .before .before .before .before .before .before .before .before .pre .1) (ap (λ (m : Node). m .count) (c .before .before .before .before .before .before .before .before .node-of .ensures)) (ap (λ (m : Node). m .first) (c .before .before .before .before .before .before .before .before .node-of .ensures))) .chained, (tuple-at (lent (c .before .before .before .before .before .before .before .before .before .before .before .before .before .before .args .s .now) (c .before .before .before .before .before .before .before .before .before .before .before .before .before .before .args .nodes .now) (c .before .before .before .before .before .before .before .before .before .before .before .before .before .before .args .entries .now) (c .before .before .before .before .before .before .before .before .before .before .before .before .before .before .args .used)) (c .before .before .before .before .before .before .before .before .before .before .before .before .before .before .args .node) (c .before .before .before .before .before .before .before .before .before .before .before .before .before .before .pre .1) (ap (λ (m : Node). m .count) (c .before .before .before .before .before .before .before .before .node-of .ensures)) (ap (λ (m : Node). m .first) (c .before .before .before .before .before .before .before .before .node-of .ensures))) .texts)
+write-names-requires c κs =
+    let a = c .before .before .before .before .before .before .before .before .before .before .before .before .before .before .args in
+    let t = lent (a .s .now) (a .nodes .now) (a .entries .now) (a .used) in
+    let asked = c .before .before .before .before .before .before .before .before .before .before .before .before .before .before .pre in
+    let node-of = c .before .before .before .before .before .before .before .before .node-of .ensures in
+    (opens (written-in (tuple-way t (a .allowance) (a .node) (omega arith) (tuple-at t (a .node) (asked .1) (ap (λ (m : Node). m .count) node-of) (ap (λ (m : Node). m .first) node-of)) (asked .0 .inside)) (c .before .before .before .before .before .before .write-len .ensures) (c .before .before .a .given .1)) (asked .0 .counts), (tuple-at t (a .node) (asked .1) (ap (λ (m : Node). m .count) node-of) (ap (λ (m : Node). m .first) node-of)) .chained, (tuple-at t (a .node) (asked .1) (ap (λ (m : Node). m .count) node-of) (ap (λ (m : Node). m .first) node-of)) .texts)
 
 same-length : tie.Need-same-length
 same-length c = c .before .before .before .before .before .write-len .kept .0
 
 returns-2 : tie.Need-returns-2
-returns-2 c = refused-in (each (stringPart (lent (c .before .before .before .before .before .before .before .before .before .before .before .before .before .args .s .now) (c .before .before .before .before .before .before .before .before .before .before .before .before .before .args .nodes .now) (c .before .before .before .before .before .before .before .before .before .before .before .before .before .args .entries .now) (c .before .before .before .before .before .before .before .before .before .before .before .before .before .args .used)) (c .before .before .before .before .before .before .before .before .before .before .before .before .before .args .allowance - 1)) (kidsFrom (lent (c .before .before .before .before .before .before .before .before .before .before .before .before .before .args .s .now) (c .before .before .before .before .before .before .before .before .before .before .before .before .before .args .nodes .now) (c .before .before .before .before .before .before .before .before .before .before .before .before .before .args .entries .now) (c .before .before .before .before .before .before .before .before .before .before .before .before .before .args .used)) (c .before .before .before .before .before .before .before .node-of .result .count) (c .before .before .before .before .before .before .before .node-of .result .first))) (tuple-way (lent (c .before .before .before .before .before .before .before .before .before .before .before .before .before .args .s .now) (c .before .before .before .before .before .before .before .before .before .before .before .before .before .args .nodes .now) (c .before .before .before .before .before .before .before .before .before .before .before .before .before .args .entries .now) (c .before .before .before .before .before .before .before .before .before .before .before .before .before .args .used)) (c .before .before .before .before .before .before .before .before .before .before .before .before .before .args .allowance) (c .before .before .before .before .before .before .before .before .before .before .before .before .before .args .node) (omega arith) (tuple-at (lent (c .before .before .before .before .before .before .before .before .before .before .before .before .before .args .s .now) (c .before .before .before .before .before .before .before .before .before .before .before .before .before .args .nodes .now) (c .before .before .before .before .before .before .before .before .before .before .before .before .before .args .entries .now) (c .before .before .before .before .before .before .before .before .before .before .before .before .before .args .used)) (c .before .before .before .before .before .before .before .before .before .before .before .before .before .args .node) (c .before .before .before .before .before .before .before .before .before .before .before .before .before .pre .1) (ap (λ (m : Node). m .count) (c .before .before .before .before .before .before .before .node-of .ensures)) (ap (λ (m : Node). m .first) (c .before .before .before .before .before .before .before .node-of .ensures))) (c .before .before .before .before .before .before .before .before .before .before .before .before .before .pre .0 .inside)) (c .before .before .before .before .before .write-len .ensures) (c .before .number .given .1)
+returns-2 c =
+    let a = c .before .before .before .before .before .before .before .before .before .before .before .before .before .args in
+    let t = lent (a .s .now) (a .nodes .now) (a .entries .now) (a .used) in
+    let asked = c .before .before .before .before .before .before .before .before .before .before .before .before .before .pre in
+    let node-of = c .before .before .before .before .before .before .before .node-of .ensures in
+    refused-in (each (stringPart t (a .allowance - 1)) (kidsFrom t (c .before .before .before .before .before .before .before .node-of .result .count) (c .before .before .before .before .before .before .before .node-of .result .first))) (tuple-way t (a .allowance) (a .node) (omega arith) (tuple-at t (a .node) (asked .1) (ap (λ (m : Node). m .count) node-of) (ap (λ (m : Node). m .first) node-of)) (asked .0 .inside)) (c .before .before .before .before .before .write-len .ensures) (c .before .number .given .1)
 
 same-length-2 : tie.Need-same-length-2
 same-length-2 c = c .before .before .write-names .kept .1 .1 .1 .0 ∙ c .before .before .before .before .before .before .before .before .before .write-len .kept .0
 
 returns-3 : tie.Need-returns-3
-returns-3 c = last (written-in (tuple-way (lent (c .before .before .before .before .before .before .before .before .before .before .before .before .before .before .before .before .before .args .s .now) (c .before .before .before .before .before .before .before .before .before .before .before .before .before .before .before .before .before .args .nodes .now) (c .before .before .before .before .before .before .before .before .before .before .before .before .before .before .before .before .before .args .entries .now) (c .before .before .before .before .before .before .before .before .before .before .before .before .before .before .before .before .before .args .used)) (c .before .before .before .before .before .before .before .before .before .before .before .before .before .before .before .before .before .args .allowance) (c .before .before .before .before .before .before .before .before .before .before .before .before .before .before .before .before .before .args .node) (omega arith) (tuple-at (lent (c .before .before .before .before .before .before .before .before .before .before .before .before .before .before .before .before .before .args .s .now) (c .before .before .before .before .before .before .before .before .before .before .before .before .before .before .before .before .before .args .nodes .now) (c .before .before .before .before .before .before .before .before .before .before .before .before .before .before .before .before .before .args .entries .now) (c .before .before .before .before .before .before .before .before .before .before .before .before .before .before .before .before .before .args .used)) (c .before .before .before .before .before .before .before .before .before .before .before .before .before .before .before .before .before .args .node) (c .before .before .before .before .before .before .before .before .before .before .before .before .before .before .before .before .before .pre .1) (ap (λ (m : Node). m .count) (c .before .before .before .before .before .before .before .before .before .before .before .node-of .ensures)) (ap (λ (m : Node). m .first) (c .before .before .before .before .before .before .before .before .before .before .before .node-of .ensures))) (c .before .before .before .before .before .before .before .before .before .before .before .before .before .before .before .before .before .pre .0 .inside)) (c .before .before .before .before .before .before .before .before .before .write-len .ensures) (c .before .before .before .before .before .a .given .1)) (c .before .before .write-names .ensures)
+returns-3 c =
+    let a = c .before .before .before .before .before .before .before .before .before .before .before .before .before .before .before .before .before .args in
+    let t = lent (a .s .now) (a .nodes .now) (a .entries .now) (a .used) in
+    let asked = c .before .before .before .before .before .before .before .before .before .before .before .before .before .before .before .before .before .pre in
+    let node-of = c .before .before .before .before .before .before .before .before .before .before .before .node-of .ensures in
+    last (written-in (tuple-way t (a .allowance) (a .node) (omega arith) (tuple-at t (a .node) (asked .1) (ap (λ (m : Node). m .count) node-of) (ap (λ (m : Node). m .first) node-of)) (asked .0 .inside)) (c .before .before .before .before .before .before .before .before .before .write-len .ensures) (c .before .before .before .before .before .a .given .1)) (c .before .before .write-names .ensures)
 
 pub write-marshal-name-tuple-spec : {M : Type 1} → statement M
 write-marshal-name-tuple-spec =

@@ -19,13 +19,22 @@ node-of-requires : tie.Need-node-of-requires
 node-of-requires c κs = search needs
 
 write-marshal-str-requires : tie.Need-write-marshal-str-requires
-write-marshal-str-requires c κs = let p = (ap (λ (m : Node). m .place) (c .before .node-of .ensures)) in let m = (ap (λ (m : Node). m .size) (c .before .node-of .ensures)) in (c .before .before .before .before .before .before .before .pre .0, omega (arith, string-within (c .before .before .before .before .before .before .before .args .s .now) (c .before .before .before .before .before .before .before .args .nodes .now) (c .before .before .before .before .before .before .before .args .used .nodes) (c .before .before .before .before .before .before .before .args .node) (c .before .before .before .before .before .before .before .pre .1)))
+write-marshal-str-requires c κs =
+    let a = c .before .before .before .before .before .before .before .args in
+    let asked = c .before .before .before .before .before .before .before .pre in
+    let p = (ap (λ (m : Node). m .place) (c .before .node-of .ensures)) in
+    let m = (ap (λ (m : Node). m .size) (c .before .node-of .ensures)) in
+    (asked .0, omega (arith, string-within (a .s .now) (a .nodes .now) (a .used .nodes) (a .node) (asked .1)))
 
 same-length : tie.Need-same-length
 same-length c = search needs
 
 returns-2 : tie.Need-returns-2
-returns-2 c = string-put (lent (c .before .before .before .before .before .before .before .before .before .before .args .s .now) (c .before .before .before .before .before .before .before .before .before .before .args .nodes .now) (c .before .before .before .before .before .before .before .before .before .before .args .entries .now) (c .before .before .before .before .before .before .before .before .before .before .args .used)) (c .before .before .before .before .before .before .before .before .before .before .args .allowance) (c .before .before .before .before .before .before .before .before .before .before .args .node) (omega arith) (ap (λ (m : Node). m .place) (c .before .before .before .before .node-of .ensures)) (ap (λ (m : Node). m .size) (c .before .before .before .before .node-of .ensures)) (c .before .before .write-marshal-str .ensures)
+returns-2 c =
+    let a = c .before .before .before .before .before .before .before .before .before .before .args in
+    let t = lent (a .s .now) (a .nodes .now) (a .entries .now) (a .used) in
+    let node-of = c .before .before .before .before .node-of .ensures in
+    string-put t (a .allowance) (a .node) (omega arith) (ap (λ (m : Node). m .place) node-of) (ap (λ (m : Node). m .size) node-of) (c .before .before .write-marshal-str .ensures)
 
 pub write-string-spec : {M : Type 1} → statement M
 write-string-spec =

@@ -14,13 +14,19 @@ too-deep-requires : tie.Need-too-deep-requires
 too-deep-requires c κs = search needs
 
 returns : tie.Need-returns
-returns c = open-deep (lent (c .before .before .before .before .before .before .args .s .now) (c .before .before .before .before .before .before .args .nodes .now) (c .before .before .before .before .before .before .args .entries .now) (c .before .before .before .before .before .before .args .used)) (c .before .before .before .before .before .before .args .allowance) (c .before .before .before .before .before .before .args .node) (c .before .too-deep .ensures .tells (lent (c .before .before .before .before .before .before .args .s .now) (c .before .before .before .before .before .before .args .nodes .now) (c .before .before .before .before .before .before .args .entries .now) (c .before .before .before .before .before .before .args .used)) refl refl) (c .if1 .taken) (c .before .before .before .before .before .before .pre .0 .inside)
+returns c =
+    let a = c .before .before .before .before .before .before .args in
+    let t = lent (a .s .now) (a .nodes .now) (a .entries .now) (a .used) in
+    open-deep t (a .allowance) (a .node) (c .before .too-deep .ensures .tells t refl refl) (c .if1 .taken) (c .before .before .before .before .before .before .pre .0 .inside)
 
 look-requires : tie.Need-look-requires
 look-requires c κs = search needs
 
 returns-2 : tie.Need-returns-2
-returns-2 c = open-bad (lent (c .before .before .before .before .before .before .before .before .args .s .now) (c .before .before .before .before .before .before .before .before .args .nodes .now) (c .before .before .before .before .before .before .before .before .args .entries .now) (c .before .before .before .before .before .before .before .before .args .used)) (c .before .before .before .before .before .before .before .before .args .allowance) (c .before .before .before .before .before .before .before .before .args .node) (c .before .before .before .too-deep .ensures .tells (lent (c .before .before .before .before .before .before .before .before .args .s .now) (c .before .before .before .before .before .before .before .before .args .nodes .now) (c .before .before .before .before .before .before .before .before .args .entries .now) (c .before .before .before .before .before .before .before .before .args .used)) refl refl) (c .before .before .if1 .left) (looks-bad (lent (c .before .before .before .before .before .before .before .before .args .s .now) (c .before .before .before .before .before .before .before .before .args .nodes .now) (c .before .before .before .before .before .before .before .before .args .entries .now) (c .before .before .before .before .before .before .before .before .args .used)) (c .before .before .before .before .before .before .before .before .args .node) (c .before .look .result) (c .before .look .ensures) (not-true _ (c .if2 .taken))) (c .before .before .before .before .before .before .before .before .pre .0 .inside)
+returns-2 c =
+    let a = c .before .before .before .before .before .before .before .before .args in
+    let t = lent (a .s .now) (a .nodes .now) (a .entries .now) (a .used) in
+    open-bad t (a .allowance) (a .node) (c .before .before .before .too-deep .ensures .tells t refl refl) (c .before .before .if1 .left) (looks-bad t (a .node) (c .before .look .result) (c .before .look .ensures) (not-true _ (c .if2 .taken))) (c .before .before .before .before .before .before .before .before .pre .0 .inside)
 
 node-of-requires : tie.Need-node-of-requires
 node-of-requires c κs = search needs
@@ -29,13 +35,20 @@ class-of-requires : tie.Need-class-of-requires
 class-of-requires c κs = search needs
 
 write-front-requires : tie.Need-write-front-requires
-write-front-requires c κs = (c .before .before .before .before .before .before .before .before .before .before .before .pre .0, c .before .before .before .before .before .before .before .before .before .before .before .pre .1, subst (λ (m : Node). sound (c .before .before .before .before .before .before .before .before .before .before .before .args .s .now) m ≡ true) (sym (c .before .before .node-of .ensures)) (held-node (lent (c .before .before .before .before .before .before .before .before .before .before .before .args .s .now) (c .before .before .before .before .before .before .before .before .before .before .before .args .nodes .now) (c .before .before .before .before .before .before .before .before .before .before .before .args .entries .now) (c .before .before .before .before .before .before .before .before .before .before .before .args .used)) (c .before .before .before .before .before .before .before .before .before .before .before .args .node) (looks-held (lent (c .before .before .before .before .before .before .before .before .before .before .before .args .s .now) (c .before .before .before .before .before .before .before .before .before .before .before .args .nodes .now) (c .before .before .before .before .before .before .before .before .before .before .before .args .entries .now) (c .before .before .before .before .before .before .before .before .before .before .before .args .used)) (c .before .before .before .before .before .before .before .before .before .before .before .args .node) (c .before .before .before .before .look .result) (c .before .before .before .before .look .ensures) (not-false _ (c .before .before .before .if2 .left)))), c .class-of .ensures)
+write-front-requires c κs =
+    let a = c .before .before .before .before .before .before .before .before .before .before .before .args in
+    let t = lent (a .s .now) (a .nodes .now) (a .entries .now) (a .used) in
+    let asked = c .before .before .before .before .before .before .before .before .before .before .before .pre in
+    (asked .0, asked .1, subst (λ (m : Node). sound (a .s .now) m ≡ true) (sym (c .before .before .node-of .ensures)) (held-node t (a .node) (looks-held t (a .node) (c .before .before .before .before .look .result) (c .before .before .before .before .look .ensures) (not-false _ (c .before .before .before .if2 .left)))), c .class-of .ensures)
 
 same-length : tie.Need-same-length
 same-length c = c .before .before .write-front .kept .1 .0
 
 returns-3 : tie.Need-returns-3
-returns-3 c = open-front (lent (c .before .before .before .before .before .before .before .before .before .before .before .before .before .before .args .s .now) (c .before .before .before .before .before .before .before .before .before .before .before .before .before .before .args .nodes .now) (c .before .before .before .before .before .before .before .before .before .before .before .before .before .before .args .entries .now) (c .before .before .before .before .before .before .before .before .before .before .before .before .before .before .args .used)) (c .before .before .before .before .before .before .before .before .before .before .before .before .before .before .args .allowance) (c .before .before .before .before .before .before .before .before .before .before .before .before .before .before .args .node) (c .before .before .before .before .before .before .before .before .before .too-deep .ensures .tells (lent (c .before .before .before .before .before .before .before .before .before .before .before .before .before .before .args .s .now) (c .before .before .before .before .before .before .before .before .before .before .before .before .before .before .args .nodes .now) (c .before .before .before .before .before .before .before .before .before .before .before .before .before .before .args .entries .now) (c .before .before .before .before .before .before .before .before .before .before .before .before .before .before .args .used)) refl refl) (c .before .before .before .before .before .before .before .before .if1 .left) (looks-held (lent (c .before .before .before .before .before .before .before .before .before .before .before .before .before .before .args .s .now) (c .before .before .before .before .before .before .before .before .before .before .before .before .before .before .args .nodes .now) (c .before .before .before .before .before .before .before .before .before .before .before .before .before .before .args .entries .now) (c .before .before .before .before .before .before .before .before .before .before .before .before .before .before .args .used)) (c .before .before .before .before .before .before .before .before .before .before .before .before .before .before .args .node) (c .before .before .before .before .before .before .before .look .result) (c .before .before .before .before .before .before .before .look .ensures) (not-false _ (c .before .before .before .before .before .before .if2 .left))) (c .before .before .before .before .before .node-of .ensures) (c .before .before .write-front .kept .1 .0) (c .before .before .write-front .ensures)
+returns-3 c =
+    let a = c .before .before .before .before .before .before .before .before .before .before .before .before .before .before .args in
+    let t = lent (a .s .now) (a .nodes .now) (a .entries .now) (a .used) in
+    open-front t (a .allowance) (a .node) (c .before .before .before .before .before .before .before .before .before .too-deep .ensures .tells t refl refl) (c .before .before .before .before .before .before .before .before .if1 .left) (looks-held t (a .node) (c .before .before .before .before .before .before .before .look .result) (c .before .before .before .before .before .before .before .look .ensures) (not-false _ (c .before .before .before .before .before .before .if2 .left))) (c .before .before .before .before .before .node-of .ensures) (c .before .before .write-front .kept .1 .0) (c .before .before .write-front .ensures)
 
 pub open-node-spec : {M : Type 1} → statement M
 open-node-spec =

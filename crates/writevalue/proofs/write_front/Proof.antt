@@ -114,7 +114,10 @@ same-length-2 c = search needs
 
 returns-2 : tie.Need-returns-2
 unfolding classAt classes
-returns-2 c = front-whole (λ f g kids. as-four (c .before .before .before .before .before .before .before .before .args .s .now) (λ i. omega (arith, c .before .before .before .before .before .before .before .shared-slice-known .given i)) (nodeOf (c .before .before .before .before .before .before .before .before .args .n)) f g kids (sym (c .before .before .before .before .before .before .before .before .pre .3) ∙ ap classAt (c .before .before .before .before .before .match .keys2)) (fixed-held (c .before .before .before .before .before .before .before .before .args .s .now) (nodeOf (c .before .before .before .before .before .before .before .before .args .n)) (c .before .before .before .before .before .before .before .before .pre .2) 4 (sym (c .before .before .before .before .before .before .before .before .pre .3) ∙ ap classAt (c .before .before .before .before .before .match .keys2)))) (c .before .before .before .write-slice .ensures) (c .whole2 .ensures)
+returns-2 c =
+    let a = c .before .before .before .before .before .before .before .before .args in
+    let asked = c .before .before .before .before .before .before .before .before .pre in
+    front-whole (λ f g kids. as-four (a .s .now) (λ i. omega (arith, c .before .before .before .before .before .before .before .shared-slice-known .given i)) (nodeOf (a .n)) f g kids (sym (asked .3) ∙ ap classAt (c .before .before .before .before .before .match .keys2)) (fixed-held (a .s .now) (nodeOf (a .n)) (asked .2) 4 (sym (asked .3) ∙ ap classAt (c .before .before .before .before .before .match .keys2)))) (c .before .before .before .write-slice .ensures) (c .whole2 .ensures)
 
 same-length-3 : tie.Need-same-length-3
 same-length-3 c = search needs
@@ -128,7 +131,11 @@ same-length-4 c = search needs
 
 returns-4 : tie.Need-returns-4
 unfolding classAt classes
-returns-4 c = let h = double-held (c .before .before .before .before .before .before .before .before .args .s .now) (nodeOf (c .before .before .before .before .before .before .before .before .args .n)) (c .before .before .before .before .before .before .before .before .pre .2) (sym (c .before .before .before .before .before .before .before .before .pre .3) ∙ ap classAt (c .before .before .before .before .before .match .keys4)) in front-whole (λ f g kids. as-double (c .before .before .before .before .before .before .before .before .args .s .now) (λ i. omega (arith, c .before .before .before .before .before .before .before .shared-slice-known .given i)) (nodeOf (c .before .before .before .before .before .before .before .before .args .n)) f g kids (sym (c .before .before .before .before .before .before .before .before .pre .3) ∙ ap classAt (c .before .before .before .before .before .match .keys4)) (omega (arith, h))) (c .before .before .before .write-slice2 .ensures) (c .whole4 .ensures)
+returns-4 c =
+    let a = c .before .before .before .before .before .before .before .before .args in
+    let asked = c .before .before .before .before .before .before .before .before .pre in
+    let h = double-held (a .s .now) (nodeOf (a .n)) (asked .2) (sym (asked .3) ∙ ap classAt (c .before .before .before .before .before .match .keys4)) in
+    front-whole (λ f g kids. as-double (a .s .now) (λ i. omega (arith, c .before .before .before .before .before .before .before .shared-slice-known .given i)) (nodeOf (a .n)) f g kids (sym (asked .3) ∙ ap classAt (c .before .before .before .before .before .match .keys4)) (omega (arith, h))) (c .before .before .before .write-slice2 .ensures) (c .whole4 .ensures)
 
 same-length-5 : tie.Need-same-length-5
 same-length-5 c = search needs
@@ -142,28 +149,40 @@ same-length-6 c = search needs
 
 returns-6 : tie.Need-returns-6
 unfolding classAt classes
-returns-6 c = front-row (c .before .before .before .before .before .before .before .before .before .pre .0 .inside) (λ f g kids l. as-sequence (c .before .before .before .before .before .before .before .before .before .args .s .now) (λ i. omega (arith, c .before .before .before .before .before .before .before .before .shared-slice-known .given i)) (nodeOf (c .before .before .before .before .before .before .before .before .before .args .n)) f g kids (sym (c .before .before .before .before .before .before .before .before .before .pre .3) ∙ ap classAt (c .before .before .before .before .before .before .match .keys6)) l) (c .before .before .before .write-len .ensures) (c .with-row .ensures)
+returns-6 c =
+    let a = c .before .before .before .before .before .before .before .before .before .args in
+    let asked = c .before .before .before .before .before .before .before .before .before .pre in
+    front-row (asked .0 .inside) (λ f g kids l. as-sequence (a .s .now) (λ i. omega (arith, c .before .before .before .before .before .before .before .before .shared-slice-known .given i)) (nodeOf (a .n)) f g kids (sym (asked .3) ∙ ap classAt (c .before .before .before .before .before .before .match .keys6)) l) (c .before .before .before .write-len .ensures) (c .with-row .ensures)
 
 same-length-7 : tie.Need-same-length-7
 same-length-7 c = search needs
 
 returns-7 : tie.Need-returns-7
 unfolding classAt classes
-returns-7 c = front-row (c .before .before .before .before .before .before .before .before .pre .0 .inside) (λ f g kids l. as-few (c .before .before .before .before .before .before .before .before .args .s .now) (λ i. omega (arith, c .before .before .before .before .before .before .before .shared-slice-known .given i)) (nodeOf (c .before .before .before .before .before .before .before .before .args .n)) f g kids (sym (c .before .before .before .before .before .before .before .before .pre .3) ∙ ap classAt (c .before .before .before .before .before .match .keys7)) l) (c .before .before .before .write-len2 .ensures) (c .with-row2 .ensures)
+returns-7 c =
+    let a = c .before .before .before .before .before .before .before .before .args in
+    let asked = c .before .before .before .before .before .before .before .before .pre in
+    front-row (asked .0 .inside) (λ f g kids l. as-few (a .s .now) (λ i. omega (arith, c .before .before .before .before .before .before .before .shared-slice-known .given i)) (nodeOf (a .n)) f g kids (sym (asked .3) ∙ ap classAt (c .before .before .before .before .before .match .keys7)) l) (c .before .before .before .write-len2 .ensures) (c .with-row2 .ensures)
 
 same-length-8 : tie.Need-same-length-8
 same-length-8 c = search needs
 
 returns-8 : tie.Need-returns-8
 unfolding classAt classes
-returns-8 c = front-row (c .before .before .before .before .before .before .before .before .pre .0 .inside) (λ f g kids l. as-slice (c .before .before .before .before .before .before .before .before .args .s .now) (λ i. omega (arith, c .before .before .before .before .before .before .before .shared-slice-known .given i)) (nodeOf (c .before .before .before .before .before .before .before .before .args .n)) f g kids (sym (c .before .before .before .before .before .before .before .before .pre .3) ∙ ap classAt (c .before .before .before .before .before .match .keys8))) (c .before .before .before .write-u82 .ensures) (c .with-row3 .ensures)
+returns-8 c =
+    let a = c .before .before .before .before .before .before .before .before .args in
+    let asked = c .before .before .before .before .before .before .before .before .pre in
+    front-row (asked .0 .inside) (λ f g kids l. as-slice (a .s .now) (λ i. omega (arith, c .before .before .before .before .before .before .before .shared-slice-known .given i)) (nodeOf (a .n)) f g kids (sym (asked .3) ∙ ap classAt (c .before .before .before .before .before .match .keys8))) (c .before .before .before .write-u82 .ensures) (c .with-row3 .ensures)
 
 same-length-9 : tie.Need-same-length-9
 same-length-9 c = search needs
 
 returns-9 : tie.Need-returns-9
 unfolding classAt classes
-returns-9 c = front-pairs (c .before .before .before .before .before .before .before .before .pre .0 .inside) (λ f g kids l. as-dict (c .before .before .before .before .before .before .before .before .args .s .now) (λ i. omega (arith, c .before .before .before .before .before .before .before .shared-slice-known .given i)) (nodeOf (c .before .before .before .before .before .before .before .before .args .n)) f g kids (sym (c .before .before .before .before .before .before .before .before .pre .3) ∙ ap classAt (c .before .before .before .before .before .match .keys9))) (c .before .before .before .write-u83 .ensures) (c .with-row4 .ensures)
+returns-9 c =
+    let a = c .before .before .before .before .before .before .before .before .args in
+    let asked = c .before .before .before .before .before .before .before .before .pre in
+    front-pairs (asked .0 .inside) (λ f g kids l. as-dict (a .s .now) (λ i. omega (arith, c .before .before .before .before .before .before .before .shared-slice-known .given i)) (nodeOf (a .n)) f g kids (sym (asked .3) ∙ ap classAt (c .before .before .before .before .before .match .keys9))) (c .before .before .before .write-u83 .ensures) (c .with-row4 .ensures)
 
 same-length-10 : tie.Need-same-length-10
 same-length-10 c = search needs
@@ -190,7 +209,10 @@ same-length-13 : tie.Need-same-length-13
 same-length-13 c = search needs
 
 returns-13 : tie.Need-returns-13
-returns-13 c = front-parts (c .before .before .before .before .before .before .before .before .pre .0 .inside) (code-else (c .before .before .before .before .before .before .before .before .args .s .now) (nodeOf (c .before .before .before .before .before .before .before .before .args .n)) (c .before .before .before .before .before .before .before .before .pre .2) (c .before .before .before .before .before .before .before .before .args .class) (avoids (c .before .before .before .before .before .before .before .before .args .class) 12 (c .before .before .before .before .before .match .rest)) (c .before .before .before .before .before .before .before .before .pre .3)) (λ f g kids. as-code (c .before .before .before .before .before .before .before .before .args .s .now) (λ i. omega (arith, c .before .before .before .before .before .before .before .shared-slice-known .given i)) (nodeOf (c .before .before .before .before .before .before .before .before .args .n)) f g kids (code-else (c .before .before .before .before .before .before .before .before .args .s .now) (nodeOf (c .before .before .before .before .before .before .before .before .args .n)) (c .before .before .before .before .before .before .before .before .pre .2) (c .before .before .before .before .before .before .before .before .args .class) (avoids (c .before .before .before .before .before .before .before .before .args .class) 12 (c .before .before .before .before .before .match .rest)) (c .before .before .before .before .before .before .before .before .pre .3)) (code-numbers (c .before .before .before .before .before .before .before .before .args .s .now) (nodeOf (c .before .before .before .before .before .before .before .before .args .n)) (c .before .before .before .before .before .before .before .before .pre .2) (code-else (c .before .before .before .before .before .before .before .before .args .s .now) (nodeOf (c .before .before .before .before .before .before .before .before .args .n)) (c .before .before .before .before .before .before .before .before .pre .2) (c .before .before .before .before .before .before .before .before .args .class) (avoids (c .before .before .before .before .before .before .before .before .args .class) 12 (c .before .before .before .before .before .match .rest)) (c .before .before .before .before .before .before .before .before .pre .3)))) (c .before .before .before .write-slice3 .ensures) (c .with-parts .ensures)
+returns-13 c =
+    let a = c .before .before .before .before .before .before .before .before .args in
+    let asked = c .before .before .before .before .before .before .before .before .pre in
+    front-parts (asked .0 .inside) (code-else (a .s .now) (nodeOf (a .n)) (asked .2) (a .class) (avoids (a .class) 12 (c .before .before .before .before .before .match .rest)) (asked .3)) (λ f g kids. as-code (a .s .now) (λ i. omega (arith, c .before .before .before .before .before .before .before .shared-slice-known .given i)) (nodeOf (a .n)) f g kids (code-else (a .s .now) (nodeOf (a .n)) (asked .2) (a .class) (avoids (a .class) 12 (c .before .before .before .before .before .match .rest)) (asked .3)) (code-numbers (a .s .now) (nodeOf (a .n)) (asked .2) (code-else (a .s .now) (nodeOf (a .n)) (asked .2) (a .class) (avoids (a .class) 12 (c .before .before .before .before .before .match .rest)) (asked .3)))) (c .before .before .before .write-slice3 .ensures) (c .with-parts .ensures)
 
 pub write-front-spec : {M : Type 1} → statement M
 write-front-spec =
