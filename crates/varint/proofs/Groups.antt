@@ -43,6 +43,14 @@ size-last n h = ap length (groups-last n h)
 pub size-more : (n : ℕ) → 64 ≤ n → size n ≡ 1 + size (n / 64)
 size-more n h = ap length (groups-more n h) ∙ omega arith
 
+-- every number takes a byte
+pub size-some : (n : ℕ) → 1 ≤ size n
+size-some n = go (ltb n 64) refl
+  where
+    go : (t : Bool) → ltb n 64 ≡ t → 1 ≤ size n
+    go true e = omega (arith, size-last n (ltb-true n 64 e))
+    go false e = omega (arith, size-more n (ltb-false n 64 e))
+
 -- a smaller number takes no more bytes
 mono : (f m n : ℕ) → n ≤ f → m ≤ n → size m ≤ size n
 mono zero m n k h =

@@ -1,4 +1,5 @@
 pub mod Groups
+pub mod Count
 pub mod Bytes
 pub mod WriteLoops
 pub mod ReadLoop

@@ -1,11 +1,12 @@
 // All of `varint.rs`: numbers of 32 bits as groups of six, little-endian for line tables, big-endian for exception tables.
-// A writer encodes into six bytes of its own, the most that 32 bits take, and one function clears, tests the room and stores.
+// A number's leading zeros tell how many bytes it takes; a writer clears what it was lent, tests the room, and stores so many.
 ghost use mathlib.Core.Path.{_≡_};
-ghost use Prim.Native.Nat.{_≤_};
-ghost use lib.ListN.{length, take, drop};
+ghost use Prim.Native.Nat.{_+_, _≤_};
+ghost use lib.ListN.{length};
+ghost use lib.Seq.{sets};
 ghost use mir.Syntax.{w32};
 ghost use mir.Val.{ofZ};
-ghost use Rattle.varint.specs.Writing.{littleEndian, bigEndian, bigEndianWithStart, signedCode};
+ghost use Rattle.varint.specs.Writing.{groups, littleEndian, bigEndian, bigEndianWithStart, signedCode};
 ghost use Rattle.varint.specs.Reading.{readVarint, readVarintWithStart};
 ghost use Rattle.varint.specs.Answers.{stored, storedSigned};
 
@@ -29,9 +30,11 @@ pub enum Found {
 pub fn write_varint(out: &mut [u8], val: u32) -> Written
     ensures { λ r. ⌜ (r, now (out .exit)) ≡ stored (length (now (out .entry))) (littleEndian val) ⌝ }
 {
-    let mut bytes = [0u8; 6];
-    let count = little_endian(&mut bytes, val);
-    store(out, &bytes[..count])
+    clearing::clear_bytes(out);
+    if out.len() < byte_count(val) {
+        return Written::Refused(refusals::NO_ROOM, out.len() as u32);
+    }
+    Written::Done(put_varint(out, val) as u32)
 }
 
 // Writes a little-endian signed varint.
@@ -50,19 +53,56 @@ pub fn write_signed_varint(out: &mut [u8], val: i32) -> Written
 pub fn write_varint_be(out: &mut [u8], val: u32) -> Written
     ensures { λ r. ⌜ (r, now (out .exit)) ≡ stored (length (now (out .entry))) (bigEndian val) ⌝ }
 {
-    let mut bytes = [0u8; 6];
-    let start = big_endian(&mut bytes, val);
-    store(out, &bytes[start..])
+    clearing::clear_bytes(out);
+    if out.len() < byte_count(val) {
+        return Written::Refused(refusals::NO_ROOM, out.len() as u32);
+    }
+    Written::Done(put_varint_be(out, 0, val) as u32)
 }
 
 // Writes a big-endian varint with the start marker (0x80) on the first byte.
 pub fn write_varint_with_start(out: &mut [u8], val: u32) -> Written
     ensures { λ r. ⌜ (r, now (out .exit)) ≡ stored (length (now (out .entry))) (bigEndianWithStart val) ⌝ }
 {
-    let mut bytes = [0u8; 6];
-    let first = big_endian(&mut bytes, val);
-    bytes[first] += 0x80;
-    store(out, &bytes[first..])
+    clearing::clear_bytes(out);
+    if out.len() < byte_count(val) {
+        return Written::Refused(refusals::NO_ROOM, out.len() as u32);
+    }
+    Written::Done(put_varint_with_start(out, 0, val) as u32)
+}
+
+// How many bytes a number takes: its leading zeros tell, and 0 takes one.
+pub fn byte_count(val: u32) -> usize
+    ensures { λ r. ⌜ (r ≡ length (groups val)) × (1 ≤ r) × (r ≤ 6) ⌝ }
+{
+    ((37 - u32::leading_zeros(val | 1)) / 6) as usize
+}
+
+// The bytes of `val`, highest first, over those that stand from `at` on; the answer is the place behind them.
+pub fn put_varint_be(out: &mut [u8], at: usize, val: u32) -> usize
+    requires { ⌜ at + length (groups val) ≤ length (now out) ⌝ }
+    ensures { λ r. ⌜ (r ≡ at + length (groups val)) × (now (out .exit) ≡ sets (now (out .entry)) at (bigEndian val)) ⌝ }
+{
+    let end = at + byte_count(val);
+    let mut i = end - 1;
+    let mut above = val / 64;
+    out[i] = (val % 64) as u8;
+    while at < i {
+        i -= 1;
+        out[i] = 0x40 + (above % 64) as u8;
+        above /= 64;
+    }
+    end
+}
+
+// The same with the start marker (0x80) on the first byte.
+pub fn put_varint_with_start(out: &mut [u8], at: usize, val: u32) -> usize
+    requires { ⌜ at + length (groups val) ≤ length (now out) ⌝ }
+    ensures { λ r. ⌜ (r ≡ at + length (groups val)) × (now (out .exit) ≡ sets (now (out .entry)) at (bigEndianWithStart val)) ⌝ }
+{
+    let end = put_varint_be(out, at, val);
+    out[at] += 0x80;
+    end
 }
 
 // Reads a big-endian varint, at any position.
@@ -106,36 +146,21 @@ pub fn read_varint_with_start(data: &[u8], at: usize) -> Found
     read_varint(data, at)
 }
 
-// The bytes of `val`, lowest first, from the start of six; the answer is their number.
-fn little_endian(bytes: &mut [u8], val: u32) -> usize
-    requires { ⌜ length (now bytes) ≡ 6 ⌝ }
-    ensures { λ r. ⌜ (r ≤ 6) × (take r (now (bytes .exit)) ≡ littleEndian val) ⌝ }
+// The bytes of `val`, lowest first, over the first of those lent; the answer is their number.
+fn put_varint(out: &mut [u8], val: u32) -> usize
+    requires { ⌜ length (groups val) ≤ length (now out) ⌝ }
+    ensures { λ r. ⌜ (r ≡ length (groups val)) × (now (out .exit) ≡ sets (now (out .entry)) 0 (littleEndian val)) ⌝ }
 {
+    let count = byte_count(val);
     let mut i = 0;
     let mut left = val;
-    while 64 <= left {
-        bytes[i] = 0x40 + (left % 64) as u8;
+    while i < count - 1 {
+        out[i] = 0x40 + (left % 64) as u8;
         left /= 64;
         i += 1;
     }
-    bytes[i] = left as u8;
-    i + 1
-}
-
-// The bytes of `val`, highest first, to the end of six; the answer is where they start.
-fn big_endian(bytes: &mut [u8], val: u32) -> usize
-    requires { ⌜ length (now bytes) ≡ 6 ⌝ }
-    ensures { λ r. ⌜ (r ≤ 5) × (drop r (now (bytes .exit)) ≡ bigEndian val) ⌝ }
-{
-    let mut i = 5;
-    let mut above = val / 64;
-    bytes[5] = (val % 64) as u8;
-    while 0 < above {
-        i -= 1;
-        bytes[i] = 0x40 + (above % 64) as u8;
-        above /= 64;
-    }
-    i
+    out[i] = left as u8;
+    count
 }
 
 // What a signed number's bits are written as: the magnitude is zero minus the bits, wrapping.
@@ -148,21 +173,4 @@ fn signed_code(bits: u32) -> u32
     } else {
         std::num::wrapping_sub_u32(0, bits) * 2 + 1
     }
-}
-
-// Clears what was lent, tests the room, and stores the bytes.
-fn store(out: &mut [u8], bytes: &[u8]) -> Written
-    requires { ⌜ length (now bytes) ≤ 6 ⌝ }
-    ensures { λ r. ⌜ (r, now (out .exit)) ≡ stored (length (now (out .entry))) (now (bytes .entry)) ⌝ }
-{
-    clearing::clear_bytes(out);
-    if out.len() < bytes.len() {
-        return Written::Refused(refusals::NO_ROOM, out.len() as u32);
-    }
-    let mut i = 0;
-    while i < bytes.len() {
-        out[i] = bytes[i];
-        i += 1;
-    }
-    Written::Done(i as u32)
 }

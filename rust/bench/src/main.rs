@@ -9,6 +9,8 @@ mod read;
 #[cfg(carried)]
 mod timing;
 #[cfg(carried)]
+mod varint;
+#[cfg(carried)]
 mod write;
 
 use std::process::ExitCode;
@@ -31,6 +33,9 @@ fn main() -> ExitCode {
         }
         Ok((tables, modules)) => {
             let wanted = |part: &str| words.is_empty() || words.iter().any(|word| word == part);
+            if wanted("varint") {
+                varint::run();
+            }
             if wanted("lines") {
                 linetable::run(tables);
             }
@@ -47,7 +52,7 @@ fn main() -> ExitCode {
 
 /// What is timed; all where none is named.
 #[cfg(carried)]
-const PARTS: [&str; 3] = ["lines", "read", "write"];
+const PARTS: [&str; 4] = ["varint", "lines", "read", "write"];
 
 /// The modules of the file, as CPython marshals them.
 #[cfg(carried)]

@@ -1,44 +1,65 @@
--- `varint::write_varint` meets its contract: what `store` says of the first bytes of six, which `little_endian` says are the number's.
+-- `varint::write_varint` meets its contract: what was put over a cleared store, or the room that there was not.
 -- Assumes nothing.
-use mathlib.Core.Path.{sym}
 use native.Mathlib.Omega.{arith}
-use lib.ListN.{length-take}
-use lib.Seq.{length-take-le}
+use lib.ListN.{length}
 use borrow.Author.Needs.{needs}
+use Rattle.varint.specs.Writing.{littleEndian}
+use Rattle.varint.proofs.Groups.{size-six}
+use Rattle.varint.proofs.Bytes.{length-little}
+use Rattle.varint.proofs.WriteLoops.{stored-none, stored-all}
 use Rattle.varint.proofs.write_varint.Statement.{statement}
 use Rattle.varint.proofs.write_varint.Tie as tie
 
-slice-aggregate-little-endian : tie.Need-slice-aggregate-little-endian
-slice-aggregate-little-endian c = search needs
+clear-bytes-requires : tie.Need-clear-bytes-requires
+clear-bytes-requires c κs = search needs
 
-little-endian-requires : tie.Need-little-endian-requires
-little-endian-requires c κs = search needs
+byte-count-requires : tie.Need-byte-count-requires
+byte-count-requires c κs = search needs
 
-array-share-prefix-bytes : tie.Need-array-share-prefix-bytes
-array-share-prefix-bytes c = search needs
-
-slice-aggregate-store : tie.Need-slice-aggregate-store
-slice-aggregate-store c =
-    sym (length-take-le _ _ (omega (arith, c .before .before .before .little-endian .kept .0)))
-
-store-requires : tie.Need-store-requires
-store-requires c κs = simp length-take (omega arith)
+cast-t10 : tie.Need-cast-t10
+cast-t10 c = search needs
 
 same-length : tie.Need-same-length
 same-length c = search needs
 
 returns : tie.Need-returns
 returns c =
-    rw (c .before .before .before .before .before .before .little-endian .ensures .1) at (c .before .before .store .ensures)
+    let start = c .before .before .before .before .before .before .before in
+    let cleared = c .before .before .before .before .clear-bytes in
+    stored-none (length (start .args .out .now)) (littleEndian (start .args .val)) _ (cleared .ensures) (omega (arith, length-little (start .args .val), c .if1 .taken, c .before .byte-count .ensures .0))
+
+put-varint-requires : tie.Need-put-varint-requires
+put-varint-requires c κs = search needs
+
+cast-t13 : tie.Need-cast-t13
+cast-t13 c =
+    let start = c .before .before .before .before .before .before .before .before .before .before .before in
+    let put = c .before .before .put-varint in
+    record { fits = omega (arith, put .ensures .0, size-six (start .args .val) (start .fits .val .fits)) }
+
+same-length-2 : tie.Need-same-length-2
+same-length-2 c = search needs
+
+returns-2 : tie.Need-returns-2
+returns-2 c =
+    let start = c .before .before .before .before .before .before .before .before .before .before .before in
+    let room = c .before .before .before .before in
+    let cleared = room .before .before .before .before .clear-bytes in
+    let put = c .before .before .put-varint in
+    let size = length-little (start .args .val) in
+    stored-all (length (start .args .out .now)) (put .result) (littleEndian (start .args .val)) (cleared .ensures)
+    (omega (arith, size, room .if1 .left, room .before .byte-count .ensures .0)) (omega (arith, size, put .ensures .0)) (put .ensures .1)
 
 pub write-varint-spec : {M : Type 1} → statement M
 write-varint-spec =
     tie.close
     (tie.spec
-    slice-aggregate-little-endian
-    little-endian-requires
-    array-share-prefix-bytes
-    slice-aggregate-store
-    store-requires
+    clear-bytes-requires
+    byte-count-requires
+    cast-t10
     same-length
-    returns)
+    returns
+    put-varint-requires
+    cast-t13
+    same-length-2
+    returns-2)

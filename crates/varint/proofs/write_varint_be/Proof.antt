@@ -1,47 +1,65 @@
--- `varint::write_varint_be` meets its contract: what `store` says of the last bytes of six, which `big_endian` says are the number's.
+-- `varint::write_varint_be` meets its contract: what was put over a cleared store, or the room that there was not.
 -- Assumes nothing.
 use native.Mathlib.Omega.{arith}
-use lib.ListN.{length-take}
+use lib.ListN.{length}
 use borrow.Author.Needs.{needs}
-use Rattle.varint.proofs.WriteLoops.{rest-of-six}
+use Rattle.varint.specs.Writing.{bigEndian}
+use Rattle.varint.proofs.Groups.{size-six}
+use Rattle.varint.proofs.Bytes.{length-big}
+use Rattle.varint.proofs.WriteLoops.{stored-none, stored-all}
 use Rattle.varint.proofs.write_varint_be.Statement.{statement}
 use Rattle.varint.proofs.write_varint_be.Tie as tie
 
-slice-aggregate-big-endian : tie.Need-slice-aggregate-big-endian
-slice-aggregate-big-endian c = search needs
+clear-bytes-requires : tie.Need-clear-bytes-requires
+clear-bytes-requires c κs = search needs
 
-big-endian-requires : tie.Need-big-endian-requires
-big-endian-requires c κs = search needs
+byte-count-requires : tie.Need-byte-count-requires
+byte-count-requires c κs = search needs
 
-sub-store : tie.Need-sub-store
-sub-store c = search needs
-
-part-store-start : tie.Need-part-store-start
-part-store-start c = search needs
-
-part-store-end : tie.Need-part-store-end
-part-store-end c = search needs
-
-store-requires : tie.Need-store-requires
-store-requires c κs = simp length-take (omega arith)
+cast-t10 : tie.Need-cast-t10
+cast-t10 c = search needs
 
 same-length : tie.Need-same-length
 same-length c = search needs
 
 returns : tie.Need-returns
 returns c =
-    let big = c .before .before .before .before .before .before .before .big-endian in
-    rw (rest-of-six (big .last .0) (big .result) (big .kept .0), big .ensures .1) at (c .before .before .store .ensures)
+    let start = c .before .before .before .before .before .before .before in
+    let cleared = c .before .before .before .before .clear-bytes in
+    stored-none (length (start .args .out .now)) (bigEndian (start .args .val)) _ (cleared .ensures) (omega (arith, length-big (start .args .val), c .if1 .taken, c .before .byte-count .ensures .0))
+
+put-varint-be-requires : tie.Need-put-varint-be-requires
+put-varint-be-requires c κs = search needs
+
+cast-t13 : tie.Need-cast-t13
+cast-t13 c =
+    let start = c .before .before .before .before .before .before .before .before .before .before .before in
+    let put = c .before .before .put-varint-be in
+    record { fits = omega (arith, put .ensures .0, size-six (start .args .val) (start .fits .val .fits)) }
+
+same-length-2 : tie.Need-same-length-2
+same-length-2 c = search needs
+
+returns-2 : tie.Need-returns-2
+returns-2 c =
+    let start = c .before .before .before .before .before .before .before .before .before .before .before in
+    let room = c .before .before .before .before in
+    let cleared = room .before .before .before .before .clear-bytes in
+    let put = c .before .before .put-varint-be in
+    let size = length-big (start .args .val) in
+    stored-all (length (start .args .out .now)) (put .result) (bigEndian (start .args .val)) (cleared .ensures)
+    (omega (arith, size, room .if1 .left, room .before .byte-count .ensures .0)) (omega (arith, size, put .ensures .0)) (put .ensures .1)
 
 pub write-varint-be-spec : {M : Type 1} → statement M
 write-varint-be-spec =
     tie.close
     (tie.spec
-    slice-aggregate-big-endian
-    big-endian-requires
-    sub-store
-    part-store-start
-    part-store-end
-    store-requires
+    clear-bytes-requires
+    byte-count-requires
+    cast-t10
     same-length
-    returns)
+    returns
+    put-varint-be-requires
+    cast-t13
+    same-length-2
+    returns-2)

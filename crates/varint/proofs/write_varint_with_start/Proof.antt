@@ -1,64 +1,65 @@
--- `varint::write_varint_with_start` meets its contract: as `write_varint_be`, with 0x80 added to a first byte that had none.
+-- `varint::write_varint_with_start` meets its contract: what was put over a cleared store, or the room that there was not.
 -- Assumes nothing.
 use native.Mathlib.Omega.{arith}
-use lib.ListN.{length-take, length-set}
+use lib.ListN.{length}
 use borrow.Author.Needs.{needs}
 use Rattle.varint.specs.Writing.{bigEndianWithStart}
-use Rattle.varint.proofs.WriteLoops.{first-of-six, started-of-six}
+use Rattle.varint.proofs.Groups.{size-six}
+use Rattle.varint.proofs.Bytes.{length-big-with-start}
+use Rattle.varint.proofs.WriteLoops.{stored-none, stored-all}
 use Rattle.varint.proofs.write_varint_with_start.Statement.{statement}
 use Rattle.varint.proofs.write_varint_with_start.Tie as tie
 
-slice-aggregate-big-endian : tie.Need-slice-aggregate-big-endian
-slice-aggregate-big-endian c = search needs
+clear-bytes-requires : tie.Need-clear-bytes-requires
+clear-bytes-requires c κs = search needs
 
-big-endian-requires : tie.Need-big-endian-requires
-big-endian-requires c κs = search needs
+byte-count-requires : tie.Need-byte-count-requires
+byte-count-requires c κs = search needs
 
-array-read-bytes : tie.Need-array-read-bytes
-array-read-bytes c = search needs
-
-add-bytes : tie.Need-add-bytes
-add-bytes c =
-    let big = c .before .big-endian in
-    record { fits = omega (arith, first-of-six _ (big .last .0) (big .result) (big .ensures .1)) }
-
-array-write-bytes : tie.Need-array-write-bytes
-array-write-bytes c = search needs
-
-sub-store : tie.Need-sub-store
-sub-store c = search needs
-
-part-store-start : tie.Need-part-store-start
-part-store-start c = search needs
-
-part-store-end : tie.Need-part-store-end
-part-store-end c = simp length-set (omega (arith, c .before .before .before .big-endian .kept .0))
-
-store-requires : tie.Need-store-requires
-store-requires c κs = simp length-take (omega arith)
+cast-t10 : tie.Need-cast-t10
+cast-t10 c = search needs
 
 same-length : tie.Need-same-length
 same-length c = search needs
 
 returns : tie.Need-returns
-unfolding bigEndianWithStart
 returns c =
-    let big = c .before .before .before .before .before .before .before .big-endian in
-    rw (started-of-six (big .last .0) (big .result) (big .kept .0) (big .ensures .0), big .ensures .1) at
-    (c .before .before .store .ensures)
+    let start = c .before .before .before .before .before .before .before in
+    let cleared = c .before .before .before .before .clear-bytes in
+    stored-none (length (start .args .out .now)) (bigEndianWithStart (start .args .val)) _ (cleared .ensures) (omega (arith, length-big-with-start (start .args .val), c .if1 .taken, c .before .byte-count .ensures .0))
+
+put-varint-with-start-requires : tie.Need-put-varint-with-start-requires
+put-varint-with-start-requires c κs = search needs
+
+cast-t13 : tie.Need-cast-t13
+cast-t13 c =
+    let start = c .before .before .before .before .before .before .before .before .before .before .before in
+    let put = c .before .before .put-varint-with-start in
+    record { fits = omega (arith, put .ensures .0, size-six (start .args .val) (start .fits .val .fits)) }
+
+same-length-2 : tie.Need-same-length-2
+same-length-2 c = search needs
+
+returns-2 : tie.Need-returns-2
+returns-2 c =
+    let start = c .before .before .before .before .before .before .before .before .before .before .before in
+    let room = c .before .before .before .before in
+    let cleared = room .before .before .before .before .clear-bytes in
+    let put = c .before .before .put-varint-with-start in
+    let size = length-big-with-start (start .args .val) in
+    stored-all (length (start .args .out .now)) (put .result) (bigEndianWithStart (start .args .val)) (cleared .ensures)
+    (omega (arith, size, room .if1 .left, room .before .byte-count .ensures .0)) (omega (arith, size, put .ensures .0)) (put .ensures .1)
 
 pub write-varint-with-start-spec : {M : Type 1} → statement M
 write-varint-with-start-spec =
     tie.close
     (tie.spec
-    slice-aggregate-big-endian
-    big-endian-requires
-    array-read-bytes
-    add-bytes
-    array-write-bytes
-    sub-store
-    part-store-start
-    part-store-end
-    store-requires
+    clear-bytes-requires
+    byte-count-requires
+    cast-t10
     same-length
-    returns)
+    returns
+    put-varint-with-start-requires
+    cast-t13
+    same-length-2
+    returns-2)
