@@ -80,8 +80,8 @@ sill_found_t sill_read_varint_with_start(const uint8_t *data, size_t data_len, s
 
 typedef struct {
     uint32_t refusal; /* 14: the table is too long, at 0; 17: fewer records than instructions, place is the capacity in
-                         records; 18: a line outside signed 32 bits or a number of more than six bytes, place is the
-                         start of its entry, from the table's start */
+                         records; 18: a line outside signed 32 bits, a number of 2^32 or more or one of more than six
+                         bytes, place is the start of its entry, from the table's start */
     uint32_t place;
     uint32_t from_entries; /* how many instructions the entries placed; the others show the first line (1 where that is
                               not positive) and column 1 */

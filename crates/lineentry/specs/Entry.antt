@@ -32,7 +32,7 @@ covers n line at p missing = Covers (record { instructions = n; line = line; loc
 abbrev pub atLine : ℕ → Location
 atLine line = location (shown line) 1 (shown line) 1
 
--- The entry goes on with a number, or with the line after a step; a seventh byte or a line outside 32 bits is 18.
+-- The entry goes on with a number, or with the line after a step; a number of 2^32 or more, a seventh byte or a line outside 32 bits is 18.
 abbrev pub withNumber : Varint → (ℕ → ℕ → Bool → Entry) → Entry
 withNumber (Value v p m) go = go v p m
 withNumber TooLong go = OutOfRange

@@ -37,15 +37,16 @@ abbrev pub cut : List ℕ → Bool
 cut [] = true
 cut (b ∷ s) = more b && cut s
 
--- The varint at p, of at most `most` bytes: its value, the place after it, and whether a byte was missing.
--- "bits above 31 of the sixth byte drop"
+-- The varint at p, of at most `most` bytes: its value, which is the sum of its groups, the place after it, and whether a byte was missing.
+-- 02, K2: "in a line table a varint's value must be under 2^32". A value that is not, whether or not a byte is missing behind it, and a
+-- byte too many are refused alike.
 unfoldable pub varintWithin : ℕ → List ℕ → ℕ → Varint
 varintWithin most s p =
-    cond (leb (length (digits (drop p s))) most)
-    (Value (number (digits (drop p s)) % 2 ^ 32) (p + length (digits (drop p s))) (cut (drop p s)))
+    cond (leb (length (digits (drop p s))) most && ltb (number (digits (drop p s))) (2 ^ 32))
+    (Value (number (digits (drop p s))) (p + length (digits (drop p s))) (cut (drop p s)))
     TooLong
 
--- "a seventh byte is 18"
+-- "a seventh byte is 18"; 02, K2: "18 at the entry, met before a seventh byte"
 abbrev pub varintAt : List ℕ → ℕ → Varint
 varintAt s p = varintWithin 6 s p
 
@@ -58,4 +59,4 @@ signed (Value v p m) = Value (signedOf v) p m
 signed TooLong = TooLong
 
 unfoldable pub signedAt : List ℕ → ℕ → Varint
-signedAt s p = signed (varintAt s p)
+signedAt s p = signed (varintWithin 6 s p)

@@ -16,7 +16,7 @@ pub struct Byte {
     pub missing: bool,
 }
 
-// A number, the place after its bytes, and whether a byte was missing; or more than six bytes.
+// A number, the place after its bytes, and whether a byte was missing; or more than six bytes, or 2^32 or more.
 pub enum Varint {
     Value {
         value: u32,
@@ -103,8 +103,12 @@ fn varint_within(table: &[u8], at: usize, most: usize) -> Varint
             next,
             missing,
         } => {
+            let sum = b % 64 + 64 * (value as u64);
+            if 0x1_0000_0000 <= sum {
+                return Varint::TooLong;
+            }
             Varint::Value {
-                value: ((b % 64 + 64 * (value as u64)) % 0x1_0000_0000) as u32,
+                value: sum as u32,
                 next,
                 missing,
             }

@@ -9,3 +9,4 @@ pub mod Layer
 pub mod Relent
 pub mod Sheet
 pub mod Entered
+pub mod SixthByte

@@ -136,6 +136,52 @@ fn forms() {
     );
 }
 
+// Numbers about 2^32: the sixth byte decides.
+fn sixth_byte() {
+    run(
+        b"a line step of 2^32 and more",
+        b"\xE8\x40\x40\x40\x40\x40\x3F",
+        10,
+        1,
+        1,
+    );
+    run(
+        b"one that would be 0 without its high bits",
+        b"\xE8\x40\x40\x40\x40\x40\x3C",
+        10,
+        1,
+        1,
+    );
+    run(
+        b"2^32 - 1, from the last line",
+        b"\xE8\x7F\x7F\x7F\x7F\x7F\x03",
+        2147483647,
+        1,
+        1,
+    );
+    run(
+        b"below 2^32 and cut",
+        b"\xE8\x40\x40\x40\x40\x40\x43",
+        10,
+        1,
+        1,
+    );
+    run(
+        b"2^32 or more already, and cut",
+        b"\xE8\x40\x40\x40\x40\x40\x7F",
+        10,
+        1,
+        1,
+    );
+    run(
+        b"the end column, 2^32",
+        b"\xF0\x00\x00\x00\x40\x40\x40\x40\x40\x04",
+        10,
+        1,
+        1,
+    );
+}
+
 fn refusals() {
     run(
         b"a seventh byte",
@@ -165,6 +211,7 @@ fn main() {
     sheet();
     whole_or_not();
     forms();
+    sixth_byte();
     refusals();
     parts();
 }

@@ -119,8 +119,7 @@ module _ (before : List ℕ) (n : ℕ) (after : List ℕ) where
   little-endian-reads-back h =
       let i = little-endian-stands n after in
       let six : length (littleEndian n) ≤ 6 = omega (arith, length-little n, size-six n h) in
-      let v : n % 2 ^ 32 ≡ n = omega arith in
-      rw (drop-append-seam before (littleEndian n ++ after), i .its-digits, i .its-number, i .not-cut, le-leb _ 6 six, v)
+      rw (drop-append-seam before (littleEndian n ++ after), i .its-digits, i .its-number, i .not-cut, le-leb _ 6 six, lt-ltb n (2 ^ 32) h)
 
   -- what is read where the bytes stand
   reads-there : (bytes : List ℕ) → 1 ≤ length bytes

@@ -93,32 +93,33 @@ digits-hold (b ∷ s) c = go (leb 64 (b % 128)) refl c (digits-hold s)
         let r : b % 64 + 64 * 0 ≡ b % 64 = omega arith in
         rw (e, r) (omega (arith, size-last (b % 64) (omega arith)))
 
--- A number that was read whole: no greater than its groups, and its place after as many bytes.
+-- A number that was read whole: the sum of its groups, and its place after as many bytes.
 record Whole (s : List ℕ) (at n next : ℕ) : Type 0 where
-  pub below : n ≤ number (digits (drop at s))
+  pub sum : number (digits (drop at s)) ≡ n
   pub in-32 : n < 2 ^ 32
   pub after : next ≡ at + length (digits (drop at s))
   pub not-cut : cut (drop at s) ≡ false
 
 read-whole : (s : List ℕ) (at n next : ℕ) → varintAt s at ≡ Value n next false → Whole s at n next
 unfolding varintWithin
-read-whole s at n next h = go (leb (length (digits (drop at s))) 6) refl h
+read-whole s at n next h = go (leb (length (digits (drop at s))) 6) (ltb (number (digits (drop at s))) (2 ^ 32)) refl refl h
   where
-    go : (t : Bool) → leb (length (digits (drop at s))) 6 ≡ t → varintAt s at ≡ Value n next false → Whole s at n next
-    go true e k =
-        let q : Value (number (digits (drop at s)) % 2 ^ 32) (at + length (digits (drop at s))) (cut (drop at s)) ≡ Value n next false = rw e at k in
-        let v : number (digits (drop at s)) % 2 ^ 32 ≡ n = cc in
+    none : TooLong ≡ Value n next false → Whole s at n next
+    none q = let z : _≡_ {A = ℕ} 0 1 = cc in absurd (omega (arith, z))
+
+    go : (t u : Bool) → leb (length (digits (drop at s))) 6 ≡ t → ltb (number (digits (drop at s))) (2 ^ 32) ≡ u → varintAt s at ≡ Value n next false → Whole s at n next
+    go true true e d k =
+        let q : Value (number (digits (drop at s))) (at + length (digits (drop at s))) (cut (drop at s)) ≡ Value n next false = rw (e, d) at k in
+        let v : number (digits (drop at s)) ≡ n = cc in
         let p : at + length (digits (drop at s)) ≡ next = cc in
         let c : cut (drop at s) ≡ false = cc in
-        record { below = omega (arith, v); in-32 = omega (arith, v); after = sym p; not-cut = c }
-    go false e k =
-        let q : TooLong ≡ Value n next false = rw e at k in
-        let z : _≡_ {A = ℕ} 0 1 = cc in
-        absurd (omega (arith, z))
+        record { sum = v; in-32 = omega (arith, v, ltb-true (number (digits (drop at s))) (2 ^ 32) d); after = sym p; not-cut = c }
+    go true false e d k = none (rw (e, d) at k)
+    go false u e d k = none (rw e at k)
 
 whole-shortest : (s : List ℕ) (at n next m : ℕ) → Whole s at n next → m ≤ n → at + length (littleEndian m) ≤ next
 whole-shortest s at n next m w h =
-    omega (arith, w .after, length-little m, digits-hold (drop at s) (w .not-cut), size-mono m (number (digits (drop at s))) (omega (arith, w .below)))
+    omega (arith, w .after, length-little m, digits-hold (drop at s) (w .not-cut), size-mono m (number (digits (drop at s))) (omega (arith, w .sum)))
 
 pub little-endian-shortest : (s : List ℕ) (at n next : ℕ) → varintAt s at ≡ Value n next false → at + length (littleEndian n) ≤ next
 little-endian-shortest s at n next h = whole-shortest s at n next n (read-whole s at n next h) (omega arith)

@@ -13,6 +13,9 @@ pub struct Ask {
 
 pub enum Answer {
     Refused { number: u32, place: u32 },
+    /// A number of 2^32 or more in the entry at `place`: the Rust drops its high bits and shows these records, or panics at
+    /// a later entry, and then there are none.
+    Dropped { place: u32, shown: Vec<Location> },
     Accepted { records: Vec<Location>, origin: Origin },
 }
 
@@ -33,6 +36,9 @@ impl Subject for LineTables {
         match answer {
             _ if is_too_long(ask) => "listed difference: a table above 16 MiB is refused (the Rust reads it)",
             Answer::Refused { .. } => "refused: a number leaves its range (there the checked Rust panics)",
+            Answer::Dropped { .. } => {
+                "listed difference: a number of 2^32 or more is refused (the Rust drops its high bits and shows a line)"
+            }
             Answer::Accepted { .. } if ask.table.is_empty() => "an empty table",
             Answer::Accepted { origin, .. } if origin.whole => "every record alike, whole",
             Answer::Accepted { .. } => "every record alike, not whole",
@@ -44,6 +50,7 @@ impl Subject for LineTables {
         match answer {
             _ if is_too_long(ask) => check_refused(ask, &part, refusals::INPUT_TOO_LONG, 0),
             Answer::Refused { number, place } => check_refused(ask, &part, *number, *place),
+            Answer::Dropped { place, .. } => check_refused(ask, &part, refusals::NUMBER_RANGE, *place),
             Answer::Accepted { records, origin } => check_accepted(ask, &part, records, *origin),
         }?;
         check_no_room(ask, &part)
@@ -53,6 +60,7 @@ impl Subject for LineTables {
         let asked = format!("locate {} {} {}", hex(&ask.table), ask.first_line, ask.count);
         match answer {
             Answer::Refused { number, place } => format!("{asked} refused {number} {place}"),
+            Answer::Dropped { place, shown } => format!("{asked} dropped {place} {}", runs(shown)),
             Answer::Accepted { records, origin: Origin { from_entries, whole } } => {
                 format!("{asked} {from_entries}:{} {}", u32::from(*whole), runs(records))
             }
@@ -66,6 +74,7 @@ impl Subject for LineTables {
         let ask = Ask { table: of_hex(table)?, first_line: first_line.parse().ok()?, count: count.parse().ok()? };
         let answer = match rest {
             ["refused", number, place] => Answer::Refused { number: number.parse().ok()?, place: place.parse().ok()? },
+            ["dropped", place, shown] => Answer::Dropped { place: place.parse().ok()?, shown: of_runs(shown)? },
             [origin, records] => Answer::Accepted { records: of_runs(records)?, origin: of_origin(origin)? },
             _ => return None,
         };
@@ -183,11 +192,17 @@ pub mod carried_side {
     use sillgarland_sys::{Location, refusals};
 
     impl Carried for LineTables {
-        /// The Rust shows the records, or panics; at which entry, and where records come from, the table's shape tells.
+        /// The Rust shows the records, or panics; at which entry, where records come from, and whether it dropped bits of a
+        /// number before it panicked, the table's shape tells.
         fn by_the_rust(ask: &Ask) -> Answer {
-            match records(ask, &ask.table) {
-                None => Answer::Refused { number: refusals::NUMBER_RANGE, place: place_of_panic(ask) },
-                Some(records) => Answer::Accepted { records, origin: origin(ask) },
+            let records = records(ask, &ask.table);
+            let panics = records.is_none().then(|| place_of_panic(ask));
+            match (dropped_bits(ask), panics) {
+                (Some(place), panics) if panics.is_none_or(|panics| place < panics) => {
+                    Answer::Dropped { place, shown: records.unwrap_or_default() }
+                }
+                (_, Some(place)) => Answer::Refused { number: refusals::NUMBER_RANGE, place },
+                (_, None) => Answer::Accepted { records: records.unwrap_or_default(), origin: origin(ask) },
             }
         }
 
@@ -206,6 +221,12 @@ pub mod carried_side {
         let entries = shape::entries(&ask.table, ask.count);
         let panics = |end: usize| records(ask, &ask.table[..end]).is_none();
         entries.iter().find(|entry| panics(entry.end)).expect("some entry panics").start as u32
+    }
+
+    /// The start of the first entry of whose numbers the Rust drops bits.
+    fn dropped_bits(ask: &Ask) -> Option<u32> {
+        let entries = shape::entries(&ask.table, ask.count);
+        Some(entries.iter().find(|entry| entry.drops_bits)?.start as u32)
     }
 
     fn origin(ask: &Ask) -> Origin {
@@ -235,9 +256,19 @@ pub mod carried_side {
         pub random: usize,
     }
 
-    /// Short tables, one above 16 MiB, random ones, and CPython's own: as they are and damaged.
+    /// Short tables, numbers about 2^32, one table above 16 MiB, random ones, and CPython's own: as they are and damaged.
     pub fn asks(extent: Extent, made: &[Ask]) -> impl Iterator<Item = Ask> {
-        short_tables(extent.of_three).chain([too_long()]).chain(random_tables(3, extent.random)).chain(of_made(4, made))
+        let long = sixth_bytes().chain([too_long()]);
+        short_tables(extent.of_three).chain(long).chain(random_tables(3, extent.random)).chain(of_made(4, made))
+    }
+
+    /// The entry `E8` with five bytes that say "more", all alike, and one or two of any value behind them, or none; as the
+    /// last of a code-14 entry's numbers too.
+    fn sixth_bytes() -> impl Iterator<Item = Ask> {
+        let behind = (0..=1).flat_map(strings_of).chain((0..=255).map(|sixth| vec![sixth, 0x3C]));
+        let numbers = behind.flat_map(|behind| [0x40, 0x7F].map(|five| [vec![five; 5], behind.clone()].concat()));
+        let tables = numbers.flat_map(|number| [&[0xE8][..], &[0xF0, 0, 0, 0]].map(|entry| [entry, &number].concat()));
+        tables.flat_map(|table| [10, 1, i32::MIN, i32::MAX].map(|first_line| Ask { table: table.clone(), first_line, count: 1 }))
     }
 
     /// Of one round of the long form: all tables of three bytes for another first line and count, then random ones.
@@ -263,7 +294,7 @@ pub mod carried_side {
         let one_byte = (0..=1).flat_map(strings_of).map(|table| Ask { table, first_line: 10, count: 3 });
         let short_enough = |ask: &Ask| ask.table.len() < 60 && ask.count < 60;
         let chosen = of_made(4, made).filter(short_enough).step_by(60).take(600);
-        one_byte.chain(random_tables(3, 1800)).chain(chosen)
+        one_byte.chain(sixth_bytes().step_by(7)).chain(random_tables(3, 1800)).chain(chosen)
     }
 
     fn too_long() -> Ask {
@@ -316,19 +347,28 @@ pub mod carried_side {
         varint::write_signed_varint(table, step);
     }
 
-    /// Cut, lengthened, with a byte changed, or with a run that says "more"; or asked for another count.
+    /// Cut, lengthened, with a byte changed, with a run that says "more", or with a number about 2^32; or asked for another
+    /// count.
     fn damaged(random: &mut Random, mut ask: Ask) -> Ask {
         let at = random.below(ask.table.len() + 1);
-        match random.below(6) {
+        match random.below(7) {
             0 => ask.table.truncate(at),
             1 => ask.table.push(random.byte()),
             2 => ask.table.splice(at..at, [0x7F; 8][..random.below(8)].iter().copied()).for_each(drop),
             3 => ask.count += 1 + random.below(3) as u32,
             4 => ask.count = ask.count.saturating_sub(1 + random.below(3) as u32),
+            5 => ask.table.splice(at..at, number_about_2_32(random)).for_each(drop),
             _ if at < ask.table.len() => ask.table[at] = random.byte(),
             _ => ask.table.insert(0, random.byte()),
         }
         ask
+    }
+
+    /// Five bytes that say "more" and a sixth that may be too large.
+    fn number_about_2_32(random: &mut Random) -> [u8; 6] {
+        let mut number = [0; 6].map(|_| 0x40 | random.byte() & 0x3F);
+        number[5] = random.below(8) as u8;
+        number
     }
 
     /// Each table as CPython made it, and the same damaged.

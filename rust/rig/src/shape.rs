@@ -7,6 +7,8 @@ pub struct Entry {
     pub end: usize,
     pub instructions: u32,
     missing: bool,
+    /// One of its numbers is 2^32 or more in its first six bytes, of which the Rust drops the high bits.
+    pub drops_bits: bool,
 }
 
 /// The entries up to the one that places the last of `count` instructions, to a stop, or to the table's end.
@@ -33,7 +35,8 @@ pub fn placed(entries: &[Entry]) -> u32 {
 }
 
 fn entry(table: &[u8], start: usize) -> Entry {
-    let mut entry = Entry { start, end: start + 1, instructions: u32::from(table[start] & 7) + 1, missing: false };
+    let instructions = u32::from(table[start] & 7) + 1;
+    let mut entry = Entry { start, end: start + 1, instructions, missing: false, drops_bits: false };
     match table[start] >> 3 & 15 {
         0..=9 => entry.pass_byte(table),
         10..=12 => (0..2).for_each(|_| entry.pass_byte(table)),
@@ -54,9 +57,13 @@ impl Entry {
     }
 
     fn pass_varint(&mut self, table: &[u8]) {
+        let start = self.end;
         while table.get(self.end).is_some_and(|byte| byte & 0x40 != 0) {
             self.end += 1;
         }
         self.pass_byte(table);
+        let six = table[start..self.end].iter().take(6).enumerate();
+        let sum: u64 = six.map(|(i, byte)| u64::from(byte & 0x3F) << (6 * i)).sum();
+        self.drops_bits |= sum >> 32 != 0;
     }
 }

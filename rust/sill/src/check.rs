@@ -139,7 +139,10 @@ impl Findings {
         match code.lines(records) {
             Ok(Lines::Whole(_)) => {}
             Ok(Lines::NotWhole(locations)) => self.not_whole.add(|| not_whole(code, locations)),
-            Err(refused) => self.refused.add(|| format!("line table of {}: {}", named(code), refused.after(start))),
+            Err(refused) => self.refused.add(|| {
+                let last = last_row(code, code.lines_before(&refused, records));
+                format!("line table of {}: {}{last}", named(code), refused.after(start))
+            }),
         }
     }
 
@@ -193,6 +196,16 @@ fn not_whole(code: &Code, locations: Locations) -> String {
             format!("{placed}; instruction {at} is the first whose line ({line}) is not from the table")
         }
         None => format!("{placed}, but bytes of it are missing or left over"),
+    }
+}
+
+/// How far a refused table could be read.
+fn last_row(code: &Code, before: Option<Locations>) -> String {
+    let Some(before) = before else { return String::new() };
+    let placed = format!("{} of {}", before.from_entries(), text::count(code.instructions(), "instruction"));
+    match before.last_from_entry() {
+        Some(Location { line, .. }) => format!("; before it {placed} are placed, the last at row {line}"),
+        None => "; before it no instruction is placed".to_string(),
     }
 }
 

@@ -47,7 +47,8 @@ are not followed. One line a file, in order:
 
   accepted   with how many values, code objects and instructions it holds;
   refused    with number, name and place, and what is expected there. Places count bytes from the file's start. Bytes after
-             the last whole value are a refusal, with the place where they begin;
+             the last whole value are a refusal, with the place where they begin. Of a line table that is refused, also the
+             code object and the last row that was placed before the refused entry;
   NOT WHOLE  with the first code object whose line table is cut or damaged, how many of its instructions have their line from
              the table, how many there are, and the first (from 0) whose line is not, with the line that it would show.
 

@@ -32,8 +32,50 @@ fn file(folder: &Path, name: &str, bytes: &[u8]) -> String {
     path.to_str().unwrap().to_string()
 }
 
+/// The bytes of a value that counts its contents in four bytes.
+fn counted(letter: u8, contents: &[u8]) -> Vec<u8> {
+    [&[letter][..], &(contents.len() as u32).to_le_bytes(), contents].concat()
+}
+
+/// A code object named `total`, of so many instructions.
+fn code(instructions: usize, first_line: i32, table: &[u8]) -> Vec<u8> {
+    code_with(instructions, first_line, &counted(b's', table), &counted(b's', b""))
+}
+
+/// The same with what stands for its line table and its exception table.
+fn code_with(instructions: usize, first_line: i32, table: &[u8], exceptions: &[u8]) -> Vec<u8> {
+    let parts = [
+        &[b"c", &[0; 20][..]].concat()[..],
+        &counted(b's', &[9, 0].repeat(instructions)),
+        b")\0)\0)\0",
+        &counted(b's', b""),
+        b"z\x08rates.pyz\x05totalz\x05total",
+        &first_line.to_le_bytes(),
+        table,
+        exceptions,
+    ];
+    parts.concat()
+}
+
 mod checking {
     use super::*;
+
+    /// Document 02, K2: a line step of 2^32 or more, behind an entry that places two instructions at row 11.
+    #[test]
+    fn a_number_too_large_for_a_line_table() {
+        let table = [0xE9, 0x02, 0xE8, 0x40, 0x40, 0x40, 0x40, 0x40, 0x3F];
+        let golden = [b"N", &code(4, 10, &table)[..]].concat();
+        let at = golden.windows(9).position(|window| window == table).unwrap() + 2;
+        let path = file(&folder("large-number"), "large.golden", &golden);
+        let (status, shown, _) = ended(&["check", &path]);
+        assert_eq!(status, 1);
+        let told = format!("refused    {path}: line table of code object total: 18 NumberRange at byte {at}: ");
+        assert!(shown.starts_with(&told), "{shown}");
+        let last = "; before it 2 of 4 instructions are placed, the last at row 11\n";
+        assert!(shown.contains(last), "{shown}");
+        let first = file(&folder("large-number"), "first.golden", &code(1, 10, &table[2..]));
+        assert!(ended(&["check", &first]).1.contains("; before it no instruction is placed\n"));
+    }
 
     #[test]
     fn the_sample_goldens_as_readme_shows_them() {

@@ -81,6 +81,11 @@ impl<'r> Locations<'r> {
         self.from_entries
     }
 
+    /// The location of the last instruction that an entry placed.
+    pub fn last_from_entry(self) -> Option<Location> {
+        self.records[..self.from_entries].last().map(Location::of)
+    }
+
     /// The first instruction that no entry placed, and the location it shows.
     pub fn first_left_over(self) -> Option<(usize, Location)> {
         self.records.get(self.from_entries).map(|record| (self.from_entries, Location::of(record)))
@@ -152,6 +157,29 @@ impl Code<'_> {
         Ok(if answer.whole == 1 { Lines::Whole(locations) } else { Lines::NotWhole(locations) })
     }
 
+    /// What the entries before a refused one place: the locations of the instructions up to there, and none where the
+    /// refusal is not at an entry of this line table. Each of them is from an entry.
+    pub fn lines_before<'r>(&self, refused: &Refused, records: &'r mut Records) -> Option<Locations<'r>> {
+        let Place::Byte(at) = refused.place else { return None };
+        let before = self.line_table().bytes().get(..at.checked_sub(self.line_table().place())?)?;
+        records.0.clear();
+        records.0.resize(self.instructions(), [0; 4]);
+        let flat = records.0.as_flattened_mut();
+        // SAFETY: two slices of their own, each handed on by its pointer and its length.
+        let answer = unsafe {
+            sillgarland_sys::sill_locate(
+                before.as_ptr(),
+                before.len(),
+                self.first_line(),
+                self.instructions() as u32,
+                flat.as_mut_ptr(),
+                flat.len(),
+            )
+        };
+        let from_entries = answer.from_entries as usize;
+        (answer.refusal == 0).then(|| Locations { records: &records.0[..from_entries], from_entries })
+    }
+
     fn locate(&self, records: &mut [u32]) -> sillgarland_sys::Located {
         let Golden { input, nodes, .. } = self.golden();
         let nodes = nodes.as_flattened();
@@ -212,6 +240,32 @@ mod tests {
         let at = input.windows(table.len()).position(|window| window == table).unwrap();
         let refused = lines(4, i32::MAX - 5, &table).unwrap_err();
         assert_eq!(refused, Refused { refusal: Refusal::NumberRange, place: Place::Byte(at + 2) });
+    }
+
+    /// Document 02, K2: in a line table a number of 2^32 or more is refused, whatever is left of it without its high bits.
+    #[test]
+    fn a_number_of_2_32_or_more_is_refused() {
+        let step = |behind: &[u8]| lines(1, 10, &[&[0xE8, 0x40, 0x40, 0x40, 0x40, 0x40], behind].concat());
+        for sixth in [&[0x3F][..], &[0x3C], &[0x04], &[0x7F], &[0x40, 0x00]] {
+            assert_eq!(step(sixth).unwrap_err().refusal, Refusal::NumberRange, "{sixth:02x?}");
+        }
+        assert_eq!(step(&[0x43]), Ok((false, 1, vec![1_610_612_746])));
+        assert_eq!(step(&[0x40]), Ok((false, 1, vec![10])));
+        assert_eq!(lines(1, i32::MAX, &[0xE8, 0x7F, 0x7F, 0x7F, 0x7F, 0x7F, 0x03]), Ok((true, 1, vec![1])));
+    }
+
+    #[test]
+    fn the_lines_before_a_refused_entry() {
+        let input = put_code(4, &[], &[], 10, &[0xE9, 0x02, 0xE8, 0x40, 0x40, 0x40, 0x40, 0x40, 0x3F]);
+        let mut reader = Reader::new();
+        let code = reader.read(&input).unwrap().root().as_code().unwrap();
+        let mut records = Records::default();
+        let refused = code.lines(&mut records).unwrap_err();
+        let before = code.lines_before(&refused, &mut records).unwrap();
+        assert_eq!((before.len(), before.from_entries()), (2, 2));
+        assert_eq!(before.last_from_entry().map(|location| location.line), Some(11));
+        let elsewhere = Refused { refusal: Refusal::BadTable, place: Place::Node(0) };
+        assert!(code.lines_before(&elsewhere, &mut records).is_none());
     }
 
     #[test]

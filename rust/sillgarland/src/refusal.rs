@@ -64,7 +64,7 @@ impl Refusal {
             Refusal::NoRoom => "what is written does not fit",
             Refusal::NumberRange => {
                 "a number here leaves its range: a code object's argument counts add up to 2^32 or more, \
-                 or a line table's entry steps out of 32 bits"
+                 or a line table's entry has a number of 2^32 or more or steps to a line out of 32 bits"
             }
         }
     }
