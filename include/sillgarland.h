@@ -57,11 +57,12 @@ typedef struct {
 } sill_written_t;
 
 typedef struct {
-    uint32_t found; /* 0: nothing left, or the start marker is missing; then next is the position asked for */
-    uint32_t value; /* modulo 2^32 */
-    uint32_t whole; /* 0: the bytes ended before the number did, and value is what they gave */
+    uint32_t refusal; /* 2: the bytes ended before the number did; 18: it is 2^32 or more */
+    uint32_t found;   /* 0: refused, nothing left, or the start marker is missing; then next is the position asked for */
+    uint32_t value;
     uint32_t pad;
-    uint64_t next; /* the position after the number */
+    uint64_t place; /* of a refusal: where the number starts, which is the position asked for */
+    uint64_t next;  /* the position after the number */
 } sill_found_t;
 
 /* Little-endian, as in line tables. */

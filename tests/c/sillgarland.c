@@ -43,7 +43,11 @@ static void test_varints(void)
     written = sill_write_varint_with_start(out, LENGTH(out), 64);
     expect(memcmp(out, "\xC1\0\0\0", 4) == 0, "64 is C1 00 big-endian with the marker");
     sill_found_t found = sill_read_varint_with_start(out, written.written, 0);
-    expect(found.found && found.value == 64 && found.whole && found.next == 2, "and reads back");
+    expect(found.refusal == 0 && found.found && found.value == 64 && found.next == 2, "and reads back");
+    found = sill_read_varint_with_start(out, 1, 0);
+    expect(found.refusal == 2 && !found.found && found.place == 0 && found.next == 0, "a cut number is refused at its start");
+    found = sill_read_varint((const uint8_t *)"\0\x44\x40\x40\x40\x40\0", 7, 1);
+    expect(found.refusal == 18 && !found.found && found.place == 1 && found.next == 1, "and so is 2^32");
 
     written = sill_write_varint(NULL, 0, 1);
     expect(written.refusal == 17 && written.place == 0, "no room in an empty slice");

@@ -166,6 +166,8 @@ static void others(const uint8_t *data, size_t len) {
     for (size_t at = 0; at <= len && at < 16; at++) {
         sill_found_t found = sill_read_varint(bytes, len, at), marked = sill_read_varint_with_start(bytes, len, at);
         hold(found.next <= len && (!marked.found || !memcmp(&found, &marked, sizeof found)), "a varint");
+        hold(found.found ? !found.refusal && found.next > at : found.next == at && found.place == (found.refusal ? at : 0),
+             "one of none, found and refused");
     }
 }
 

@@ -4,6 +4,7 @@ use mathlib.Core.Path.{_≡_, refl, ap, _∙_}
 use Prim.Native.Nat.{ℕ, _/_, min}
 use mathlib.Core.Bool.{Bool}
 use mathlib.Core.List.{List}
+use mathlib.Core.Option.{none, some}
 use lib.ListN.{length, replicate}
 use mir.Syntax.{w32}
 use mir.Val.{ofZ}
@@ -28,24 +29,29 @@ use Rattle.localsplus.specs.Sum.{argumentSum}
 use Rattle.localsplus.specs.Answer.{roomsOf, splitOf, stored as storedOf}
 use Rattle.varint.specs.declared.Written.{Written}
 use Rattle.varint.specs.declared.Written.the-variants as varint
+use Rattle.varint.specs.declared.Found.{Found}
+use Rattle.varint.specs.declared.Found.the-variants as found
 use Rattle.varint.specs.Writing.{littleEndian, bigEndian, bigEndianWithStart}
+use Rattle.varint.specs.Reading.{readVarint, readVarintWithStart}
 use Rattle.varint.specs.Answers.{stored, storedSigned}
+use Rattle.varint.proofs.Refusals.{Told, varint-told, with-start-told}
 use Rattle.output.specs.declared.Wrote.the-variants as wrote
 use Rattle.sillgarland.specs.Leaves.{leafStruct}
 use Rattle.sillgarland.specs.Locals.{splitStruct}
 use Rattle.sillgarland.specs.Locations.{locatedStruct}
 use Rattle.sillgarland.specs.Values.{readStruct, ReadAs, wroteStruct, WroteAs}
-use Rattle.sillgarland.specs.Varints.{writtenAs}
+use Rattle.sillgarland.specs.Varints.{writtenAs, foundStruct}
 use Rattle.sillgarland.specs.declared.leaves.SillLeaf.{SillLeaf}
 use Rattle.sillgarland.specs.declared.locals.SillSplit.{SillSplit}
 use Rattle.sillgarland.specs.declared.locations.SillLocated.{SillLocated}
 use Rattle.sillgarland.specs.declared.values.SillRead.{SillRead}
 use Rattle.sillgarland.specs.declared.varints.SillWritten.{SillWritten}
+use Rattle.sillgarland.specs.declared.varints.SillFound.{SillFound}
 use Rattle.sillgarland.proofs as sillgarland
 use Rattle.promises.specs.Calls.{sillWrite}
-use Rattle.promises.specs.Demand1.{Ends, answers, refuses, Zero, LocateEnds, VarintEnds, Demand1}
+use Rattle.promises.specs.Demand1.{Ends, answers, refuses, Zero, LocateEnds, VarintEnds, FoundEnds, Demand1}
 use Rattle.promises.proofs.Reading.{writtenBy}
-use Rattle.promises.proofs.Numbers.{Tabled, reading-in-table, leaf-in-table, TabledLines, located-in-table, located-at-in-table, TabledSplit, split-in-table, TabledStore, stored-in-table, signed-in-table, written-in-table}
+use Rattle.promises.proofs.Numbers.{Tabled, reading-in-table, leaf-in-table, TabledLines, located-in-table, located-at-in-table, TabledSplit, split-in-table, TabledStore, stored-in-table, signed-in-table, told-in-table, written-in-table}
 
 -- Each kind of definition: what its contract says of an outcome gives the end.
 read-ends : (s : List ℕ) (nodes entries slots : List ℕ) (nesting : ℕ) (r : SillRead) (ns es ss : List ℕ)
@@ -93,6 +99,11 @@ split-ends : (x : Split) → TabledSplit x → (r : SillSplit) → r ≡ splitSt
 unfolding storedOf
 split-ends (split.Done locals cells frees present) t r e l c f m a l′ c′ f′ m′ a′ ls cs fs ms bs hl hc hf hm ha = answers (locals, cells, frees, present) e
 split-ends (split.Refused n p) t r e l c f m a l′ c′ f′ m′ a′ ls cs fs ms bs hl hc hf hm ha = refuses n p t e (hl, hc, hf, hm, ha)
+
+found-ends : (count at : ℕ) (x : Found) → Told count at at x → (r : SillFound) → r ≡ foundStruct at x → FoundEnds at r
+found-ends count at (found.Number value next) t r e = answers (some (value, next)) e
+found-ends count at found.Nothing t r e = answers none e
+found-ends count at (found.Refused n p) t r e = refuses n p (told-in-table (t .1)) e tt
 
 pub demand-1 : Demand1
 demand-1 =
@@ -201,7 +212,22 @@ demand-1 =
             returns = λ M. sillgarland.varints.sill_write_varint_with_start.Met.met;
             ends = λ c. varint-ends (stored (length (now (c .args .0))) (bigEndianWithStart (c .args .1 .0))) (now (c .args .0)) (stored-in-table _ (bigEndianWithStart (c .args .1 .0))) (c .result) _ (c .meets);
           };
-      sill-read-varint = record { asks-nothing = λ κs a. tt; returns = λ M. sillgarland.varints.sill_read_varint.Met.met; ends = λ c. tt };
+      sill-read-varint =
+          record {
+            asks-nothing = λ κs a. tt;
+            returns = λ M. sillgarland.varints.sill_read_varint.Met.met;
+            ends =
+                λ c.
+                let bytes = now (c .args .0) in
+                found-ends (length bytes) (c .args .1 .0) (readVarint bytes (c .args .1 .0)) (varint-told bytes (c .args .1 .0)) (c .result) (c .meets);
+          };
       sill-read-varint-with-start =
-          record { asks-nothing = λ κs a. tt; returns = λ M. sillgarland.varints.sill_read_varint_with_start.Met.met; ends = λ c. tt };
+          record {
+            asks-nothing = λ κs a. tt;
+            returns = λ M. sillgarland.varints.sill_read_varint_with_start.Met.met;
+            ends =
+                λ c.
+                let bytes = now (c .args .0) in
+                found-ends (length bytes) (c .args .1 .0) (readVarintWithStart bytes (c .args .1 .0)) (with-start-told bytes (c .args .1 .0)) (c .result) (c .meets);
+          };
     }

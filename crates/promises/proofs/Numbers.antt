@@ -3,12 +3,13 @@
 use mathlib.Core.Path.{_≡_, refl, sym, ap, _∙_}
 use Prim.Native.Nat.{ℕ, zero, suc, _≤_, _-_, _+_, _^_, min}
 use native.Mathlib.Omega.{arith}
+use mathlib.Core.Logic.{_⊎_, inl, inr}
 use mathlib.Core.Bool.{Bool, true, false, cond, not, _&&_}
 use mathlib.Core.List.{List, [], _∷_, _++_}
 use lib.ListN.{length, getD, take, drop, replicate}
 use lib.Dec.{leb, ltb, eqb}
 use borrow.Author.Tests.{eqb-true, leb-true, ltb-true, ltb-false}
-use Rattle.refusals.specs.Numbers.{accepted, tooDeep, lastNumber}
+use Rattle.refusals.specs.Numbers.{accepted, dataTooShort, tooDeep, numberRange, lastNumber}
 use Rattle.refusals.specs.Limits.{mostBytes, mostNesting}
 use Rattle.clearing.specs.Lent.{zeros}
 use Rattle.grammar.specs.Reading.{Kind, level, node, entry, slot, Answer, gives, stops}
@@ -207,6 +208,11 @@ stored-in-table room bytes = if-tabled-store room (leb (length bytes) room) _ _ 
 pub signed-in-table : (room bits : ℕ) → TabledStore room (storedSigned room bits)
 unfolding storedSigned
 signed-in-table room bits = if-tabled-store room (eqb bits (2 ^ 31)) _ _ ((omega arith, omega arith), refl) (stored-in-table room (littleEndian (signedCode bits)))
+
+-- a varint that is refused: 2 or 18
+pub told-in-table : {number : ℕ} → (number ≡ dataTooShort) ⊎ (number ≡ numberRange) → InTable number
+told-in-table (inl e) = (omega (arith, e), omega (arith, e))
+told-in-table (inr e) = (omega (arith, e), omega (arith, e))
 
 -- The writing: nowhere on its way is it refused with another number.
 abbrev TabledOn : Writing → Type 0

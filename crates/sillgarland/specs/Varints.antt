@@ -18,9 +18,10 @@ writtenAs outcome = (writtenStruct (outcome .0), outcome .1)
 abbrev pub foundStruct : ℕ → Found → SillFound
 foundStruct at answer =
     record {
+      refusal = foundNumbers at answer .refusal;
       found = foundNumbers at answer .found;
       value = foundNumbers at answer .value;
-      whole = foundNumbers at answer .whole;
       pad = 0;
+      place = foundNumbers at answer .place;
       next = foundNumbers at answer .next;
     }

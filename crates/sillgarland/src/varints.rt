@@ -18,13 +18,14 @@ pub struct SillWritten {
     pub written: u32,
 }
 
-// A reader's answer: whether there is a number, its value, whether it was whole, and the position after it.
+// A reader's answer: its refusal and place, or whether there is a number, its value, and the position after it.
 #[repr(C)]
 pub struct SillFound {
+    pub refusal: u32,
     pub found: u32,
     pub value: u32,
-    pub whole: u32,
     pub pad: u32,
+    pub place: u64,
     pub next: u64,
 }
 
@@ -97,18 +98,28 @@ fn found_numbers(answer: Found, at: usize) -> SillFound
     ensures { λ r. ⌜ r ≡ foundStruct at answer ⌝ }
 {
     match answer {
-        Found::Number { value, next, whole } => SillFound {
+        Found::Number { value, next } => SillFound {
+            refusal: refusals::ACCEPTED,
             found: 1,
             value,
-            whole: whole as u32,
             pad: 0,
+            place: 0,
             next: next as u64,
         },
         Found::Nothing => SillFound {
+            refusal: refusals::ACCEPTED,
             found: 0,
             value: 0,
-            whole: 0,
             pad: 0,
+            place: 0,
+            next: at as u64,
+        },
+        Found::Refused { number, place } => SillFound {
+            refusal: number,
+            found: 0,
+            value: 0,
+            pad: 0,
+            place: place as u64,
             next: at as u64,
         },
     }

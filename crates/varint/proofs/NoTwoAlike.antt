@@ -10,13 +10,14 @@ use Rattle.lineentry.specs.Varint.{digits, number}
 use Rattle.varint.specs.Writing.{littleEndian, bigEndian, bigEndianWithStart, signedCode}
 use Rattle.varint.specs.Reading.{readVarint, readVarintWithStart}
 use Rattle.varint.specs.declared.Found.{Found}
-use Rattle.varint.specs.declared.Found.the-variants.{Number, Nothing}
+use Rattle.varint.specs.declared.Found.the-variants.{Number, Nothing, Refused}
 use Rattle.varint.proofs.ReadsBack.{little-endian-stands, big-endian-reads-back, with-start-reads-back}
 
 -- the number of an answer
 value : Found → ℕ
-value (Number n next whole) = n
+value (Number n next) = n
 value Nothing = 0
+value (Refused number place) = 0
 
 pub little-endian-apart : (m n : ℕ) (s t : List ℕ) → littleEndian m ++ s ≡ littleEndian n ++ t → m ≡ n
 little-endian-apart m n s t h =

@@ -33,12 +33,12 @@ smallest-numbers room = (refl, refl)
 
 -- "nothing left .. is "none" with the position unmoved", also beyond the end
 pub none-numbers : (bytes : List ℕ) (at : ℕ) → length bytes ≤ at
-    → foundNumbers at (readVarint bytes at) ≡ record { found = 0; value = 0; whole = 0; next = at }
+    → foundNumbers at (readVarint bytes at) ≡ record { refusal = accepted; found = 0; value = 0; place = 0; next = at }
 unfolding readVarint
 none-numbers bytes at h = rw (le-ltb at (length bytes) h)
 
 -- a number that stands whole in the input
 pub found-numbers : (before : List ℕ) (n : ℕ) (after : List ℕ) → n < 2 ^ 32
     → foundNumbers (length before) (readVarint (before ++ (bigEndian n ++ after)) (length before))
-    ≡ record { found = 1; value = n; whole = 1; next = length before + length (bigEndian n) }
+    ≡ record { refusal = accepted; found = 1; value = n; place = 0; next = length before + length (bigEndian n) }
 found-numbers before n after h = rw (big-endian-reads-back before n after h)

@@ -68,43 +68,43 @@ pub little-endian-stands : (n : ℕ) (after : List ℕ) → Stands n after
 little-endian-stands n after = little-stands n n after (omega arith)
 
 -- a byte with 0x40, and one without
-group-reads : (val next g : ℕ) (rest : List ℕ) → g < 64
-    → readGroups val next ((0x40 + g) ∷ rest) ≡ readGroups (val * 64 + g) (next + 1) rest
+group-reads : (at val next g : ℕ) (rest : List ℕ) → g < 64
+    → readGroups at val next ((0x40 + g) ∷ rest) ≡ readGroups at (val * 64 + g) (next + 1) rest
 unfolding readGroups
-group-reads val next g rest h =
+group-reads at val next g rest h =
     let e : (0x40 + g) % 64 ≡ g = omega arith in
     rw (more-yes g h, e)
 
-last-reads : (val next g : ℕ) (rest : List ℕ) → g < 64
-    → readGroups val next (g ∷ rest) ≡ Number ((val * 64 + g) % 2 ^ 32) (next + 1) true
+last-reads : (at val next g : ℕ) (rest : List ℕ) → g < 64 → val * 64 + g < 2 ^ 32
+    → readGroups at val next (g ∷ rest) ≡ Number (val * 64 + g) (next + 1)
 unfolding readGroups
-last-reads val next g rest h =
+last-reads at val next g rest h k =
     let e : g % 64 ≡ g = omega arith in
-    rw (more-no g h, e)
+    rw (more-no g h, e, lt-ltb (val * 64 + g) (2 ^ 32) k)
 
 -- the bytes with 0x40 give the groups above the last
-ahead-reads : (f n next : ℕ) (rest : List ℕ) → n ≤ f → readGroups 0 next (ahead n ++ rest) ≡ readGroups n (next + length (ahead n)) rest
-ahead-reads zero n next rest h =
+ahead-reads : (f at n next : ℕ) (rest : List ℕ) → n ≤ f → readGroups at 0 next (ahead n ++ rest) ≡ readGroups at n (next + length (ahead n)) rest
+ahead-reads zero at n next rest h =
     let e : n ≡ 0 = omega arith in
     let z : next + 0 ≡ next = omega arith in
     rw (e, ahead-none, z)
-ahead-reads (suc f) n next rest h =
-    go (ltb 0 n) refl (ahead-reads f (n / 64) next ((0x40 + n % 64) ∷ rest) (omega arith))
+ahead-reads (suc f) at n next rest h =
+    go (ltb 0 n) refl (ahead-reads f at (n / 64) next ((0x40 + n % 64) ∷ rest) (omega arith))
   where
     go : (t : Bool) → ltb 0 n ≡ t
-        → readGroups 0 next (ahead (n / 64) ++ (0x40 + n % 64) ∷ rest)
-        ≡ readGroups (n / 64) (next + length (ahead (n / 64))) ((0x40 + n % 64) ∷ rest)
-        → readGroups 0 next (ahead n ++ rest) ≡ readGroups n (next + length (ahead n)) rest
+        → readGroups at 0 next (ahead (n / 64) ++ (0x40 + n % 64) ∷ rest)
+        ≡ readGroups at (n / 64) (next + length (ahead (n / 64))) ((0x40 + n % 64) ∷ rest)
+        → readGroups at 0 next (ahead n ++ rest) ≡ readGroups at n (next + length (ahead n)) rest
     go true e i =
         let m = ahead-more n (ltb-true 0 n e) in
         let v : n / 64 * 64 + n % 64 ≡ n = omega arith in
         let p : next + length (ahead (n / 64)) + 1 ≡ next + length (ahead n) = omega (arith, simp length-append at (ap length m)) in
-        ap (λ (bytes : List ℕ). readGroups 0 next (bytes ++ rest)) m
-        ∙ ap (readGroups 0 next) (append-assoc (ahead (n / 64)) ((0x40 + n % 64) ∷ []) rest)
+        ap (λ (bytes : List ℕ). readGroups at 0 next (bytes ++ rest)) m
+        ∙ ap (readGroups at 0 next) (append-assoc (ahead (n / 64)) ((0x40 + n % 64) ∷ []) rest)
         ∙ i
-        ∙ group-reads (n / 64) (next + length (ahead (n / 64))) (n % 64) rest (omega arith)
-        ∙ ap (λ (val : ℕ). readGroups val (next + length (ahead (n / 64)) + 1) rest) v
-        ∙ ap (λ (place : ℕ). readGroups n place rest) p
+        ∙ group-reads at (n / 64) (next + length (ahead (n / 64))) (n % 64) rest (omega arith)
+        ∙ ap (λ (val : ℕ). readGroups at val (next + length (ahead (n / 64)) + 1) rest) v
+        ∙ ap (λ (place : ℕ). readGroups at n place rest) p
     go false e i =
         let z : n ≡ 0 = omega (arith, ltb-false 0 n e) in
         let y : next + 0 ≡ next = omega arith in
@@ -123,27 +123,27 @@ module _ (before : List ℕ) (n : ℕ) (after : List ℕ) where
 
   -- what is read where the bytes stand
   reads-there : (bytes : List ℕ) → 1 ≤ length bytes
-      → readVarint (before ++ (bytes ++ after)) (length before) ≡ readGroups 0 (length before) (bytes ++ after)
+      → readVarint (before ++ (bytes ++ after)) (length before) ≡ readGroups (length before) 0 (length before) (bytes ++ after)
   unfolding readVarint
   reads-there bytes h =
       let e : length before < length (before ++ (bytes ++ after)) = simp length-append (omega arith) in
       rw (lt-ltb _ _ e, drop-append-seam before (bytes ++ after))
 
   pub big-endian-reads-back : n < 2 ^ 32
-      → readVarint (before ++ (bigEndian n ++ after)) (length before) ≡ Number n (length before + length (bigEndian n)) true
+      → readVarint (before ++ (bigEndian n ++ after)) (length before) ≡ Number n (length before + length (bigEndian n))
   big-endian-reads-back h =
       let at = length before in
       let m = big-last n in
-      let v : (n / 64 * 64 + n % 64) % 2 ^ 32 ≡ n = omega arith in
+      let v : n / 64 * 64 + n % 64 ≡ n = omega arith in
       let l : length (bigEndian n) ≡ length (ahead (n / 64)) + 1 = ap length m ∙ simp length-append in
       let p : at + length (ahead (n / 64)) + 1 ≡ at + length (bigEndian n) = omega arith in
       reads-there (bigEndian n) (omega arith)
-      ∙ ap (λ (bytes : List ℕ). readGroups 0 at (bytes ++ after)) m
-      ∙ ap (readGroups 0 at) (append-assoc (ahead (n / 64)) (n % 64 ∷ []) after)
-      ∙ ahead-reads (n / 64) (n / 64) at (n % 64 ∷ after) (omega arith)
-      ∙ last-reads (n / 64) (at + length (ahead (n / 64))) (n % 64) after (omega arith)
-      ∙ ap (λ (v : ℕ). Number v (at + length (ahead (n / 64)) + 1) true) v
-      ∙ ap (λ (p : ℕ). Number n p true) p
+      ∙ ap (λ (bytes : List ℕ). readGroups at 0 at (bytes ++ after)) m
+      ∙ ap (readGroups at 0 at) (append-assoc (ahead (n / 64)) (n % 64 ∷ []) after)
+      ∙ ahead-reads (n / 64) at (n / 64) at (n % 64 ∷ after) (omega arith)
+      ∙ last-reads at (n / 64) (at + length (ahead (n / 64))) (n % 64) after (omega arith) (omega arith)
+      ∙ ap (λ (v : ℕ). Number v (at + length (ahead (n / 64)) + 1)) v
+      ∙ ap (λ (p : ℕ). Number n p) p
 
   -- 0x80 is not looked at where no marker is asked
   start-unread : (bytes : List ℕ) → 1 ≤ length bytes
@@ -168,7 +168,7 @@ module _ (before : List ℕ) (n : ℕ) (after : List ℕ) where
 
   pub with-start-reads-back : n < 2 ^ 32
       → readVarintWithStart (before ++ (bigEndianWithStart n ++ after)) (length before)
-      ≡ Number n (length before + length (bigEndianWithStart n)) true
+      ≡ Number n (length before + length (bigEndianWithStart n))
   unfolding bigEndianWithStart
   with-start-reads-back h =
       rw length-started

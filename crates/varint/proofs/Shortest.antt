@@ -9,15 +9,16 @@ use native.Mathlib.Omega.{arith}
 use lib.Dec.{ltb, leb, eqb}
 use lib.ListN.{length, getD, drop}
 use lib.Seq.{drop-cons}
-use borrow.Author.Tests.{ltb-true, ltb-false, eqb-false}
+use borrow.Author.Tests.{ltb-true, ltb-false, lt-ltb, le-ltb, eqb-true, eqb-false}
+use Rattle.refusals.specs.Numbers.{numberRange}
 use Rattle.lineentry.specs.declared.Varint.{Varint}
 use Rattle.lineentry.specs.declared.Varint.the-variants.{Value, TooLong}
 use Rattle.lineentry.specs.Line.{asSigned}
 use Rattle.lineentry.specs.Varint.{digits, number, cut, varintWithin, varintAt, signedOf, signed, signedAt}
 use Rattle.varint.specs.Writing.{littleEndian, bigEndian, bigEndianWithStart, signedCode}
-use Rattle.varint.specs.Reading.{more, readGroups, readVarint, readVarintWithStart}
+use Rattle.varint.specs.Reading.{more, wholeAt, readGroups, readVarint, readVarintWithStart}
 use Rattle.varint.specs.declared.Found.{Found}
-use Rattle.varint.specs.declared.Found.the-variants.{Number, Nothing}
+use Rattle.varint.specs.declared.Found.the-variants.{Number, Nothing, Refused}
 use Rattle.varint.proofs.Groups.{size, size-last, size-mono, size-below}
 use Rattle.varint.proofs.Bytes.{length-little, length-big, length-big-with-start}
 
@@ -28,23 +29,29 @@ either P false x y h k = k
 
 -- An answer whose number, written after a place, would end where the reading did or before, but for so many bytes.
 abbrev Within : ℕ → ℕ → Found → Type 0
-Within at over (Number n next whole) = at + size n ≤ next + over
+Within at over (Number n next) = at + size n ≤ next + over
 Within at over Nothing = Unit {0}
+Within at over (Refused number place) = Unit {0}
 
 within-less : (at over at′ over′ : ℕ) (r : Found) → at + over′ ≤ at′ + over → Within at′ over′ r → Within at over r
-within-less at over at′ over′ (Number n next whole) h k = omega arith
+within-less at over at′ over′ (Number n next) h k = omega arith
 within-less at over at′ over′ Nothing h k = tt
+within-less at over at′ over′ (Refused number place) h k = tt
+
+whole-within : (at over start val next : ℕ) → at + size val ≤ next + over → Within at over (wholeAt start val next)
+whole-within at over start val next h =
+    either (Within at over) (ltb val (2 ^ 32)) (Number val next) (Refused numberRange start) h tt
 
 -- each byte read makes room for one group more
-groups-within : (bytes : List ℕ) (val next : ℕ) → Within next (size val) (readGroups val next bytes)
+groups-within : (bytes : List ℕ) (at val next : ℕ) → Within next (size val) (readGroups at val next bytes)
 unfolding readGroups
-groups-within [] val next = omega (arith, size-mono (val % 2 ^ 32) val (omega arith))
-groups-within (b ∷ bytes) val next =
+groups-within [] at val next = tt
+groups-within (b ∷ bytes) at val next =
     let up = val * 64 + b % 64 in
     let s = size-below val (b % 64) (omega arith) in
-    either (Within next (size val)) (more b) (readGroups up (next + 1) bytes) (Number (up % 2 ^ 32) (next + 1) true)
-    (within-less next (size val) (next + 1) (size up) (readGroups up (next + 1) bytes) (omega arith) (groups-within bytes up (next + 1)))
-    (omega (arith, size-mono (up % 2 ^ 32) up (omega arith)))
+    either (Within next (size val)) (more b) (readGroups at up (next + 1) bytes) (wholeAt at up (next + 1))
+    (within-less next (size val) (next + 1) (size up) (readGroups at up (next + 1) bytes) (omega arith) (groups-within bytes at up (next + 1)))
+    (whole-within next (size val) at up (next + 1) (omega arith))
 
 varint-within : (bytes : List ℕ) (at : ℕ) → Within at 0 (readVarint bytes at)
 unfolding readVarint readGroups
@@ -57,22 +64,21 @@ varint-within bytes at = go (ltb at (length bytes)) refl
         let first = 0 * 64 + b % 64 in
         let one : size first ≡ 1 = size-last first (omega arith) in
         rw (e, drop-cons bytes at 0 (ltb-true at (length bytes) e))
-        (either (Within at 0) (more b) (readGroups first (at + 1) rest) (Number (first % 2 ^ 32) (at + 1) true)
-        (within-less at 0 (at + 1) (size first) (readGroups first (at + 1) rest) (omega arith) (groups-within rest first (at + 1)))
-        (omega (arith, size-mono (first % 2 ^ 32) first (omega arith))))
+        (either (Within at 0) (more b) (readGroups at first (at + 1) rest) (wholeAt at first (at + 1))
+        (within-less at 0 (at + 1) (size first) (readGroups at first (at + 1) rest) (omega arith) (groups-within rest at first (at + 1)))
+        (whole-within at 0 at first (at + 1) (omega arith)))
     go false e = rw e tt
 
-pub big-endian-shortest : (bytes : List ℕ) (at n next : ℕ) (whole : Bool)
-    → readVarint bytes at ≡ Number n next whole → at + length (bigEndian n) ≤ next
-big-endian-shortest bytes at n next whole h =
-    let w : Within at 0 (Number n next whole) = rw h at (varint-within bytes at) in
+pub big-endian-shortest : (bytes : List ℕ) (at n next : ℕ) → readVarint bytes at ≡ Number n next → at + length (bigEndian n) ≤ next
+big-endian-shortest bytes at n next h =
+    let w : Within at 0 (Number n next) = rw h at (varint-within bytes at) in
     omega (arith, length-big n)
 
-pub with-start-shortest : (bytes : List ℕ) (at n next : ℕ) (whole : Bool)
-    → readVarintWithStart bytes at ≡ Number n next whole → at + length (bigEndianWithStart n) ≤ next
+pub with-start-shortest : (bytes : List ℕ) (at n next : ℕ)
+    → readVarintWithStart bytes at ≡ Number n next → at + length (bigEndianWithStart n) ≤ next
 unfolding readVarintWithStart
-with-start-shortest bytes at n next whole h =
-    let w : Within at 0 (Number n next whole) =
+with-start-shortest bytes at n next h =
+    let w : Within at 0 (Number n next) =
     rw h at
     (either (Within at 0) (leb 0x80 (getD bytes at 0)) (readVarint bytes at) Nothing (varint-within bytes at) tt)
     in

@@ -1,7 +1,7 @@
 -- What a writer left in its store reads back from the store's start, wherever there was room: the bytes, then zeros, are one case of
 -- bytes with anything after them. Assumes nothing.
 use mathlib.Core.Path.{_≡_}
-use mathlib.Core.Bool.{true, false}
+use mathlib.Core.Bool.{false}
 use mathlib.Core.List.{List, [], _++_}
 use Prim.Native.Nat.{ℕ, _-_, _^_, _≤_, _<_}
 use native.Mathlib.Nat.{zero-add}
@@ -29,13 +29,13 @@ little-endian-kept room n f h =
     (rw zero-add at (little-endian-reads-back [] n (zeros (room - length (littleEndian n))) f))
 
 pub big-endian-kept : (room n : ℕ) → n < 2 ^ 32 → length (bigEndian n) ≤ room
-    → readVarint (stored room (bigEndian n) .1) 0 ≡ Number n (length (bigEndian n)) true
+    → readVarint (stored room (bigEndian n) .1) 0 ≡ Number n (length (bigEndian n))
 big-endian-kept room n f h =
     rw (content room (bigEndian n) h)
     (rw zero-add at (big-endian-reads-back [] n (zeros (room - length (bigEndian n))) f))
 
 pub with-start-kept : (room n : ℕ) → n < 2 ^ 32 → length (bigEndianWithStart n) ≤ room
-    → readVarintWithStart (stored room (bigEndianWithStart n) .1) 0 ≡ Number n (length (bigEndianWithStart n)) true
+    → readVarintWithStart (stored room (bigEndianWithStart n) .1) 0 ≡ Number n (length (bigEndianWithStart n))
 with-start-kept room n f h =
     rw (content room (bigEndianWithStart n) h)
     (rw zero-add at (with-start-reads-back [] n (zeros (room - length (bigEndianWithStart n))) f))

@@ -1,30 +1,35 @@
--- What big-endian bytes read as: 01, 'Locals, numbers and locations', byte for byte as the Rust reads. Little-endian numbers stand in line
--- tables alone: they are read by `lineentry`, whose specs/Varint says what they are.
+-- What big-endian bytes read as: 01, 'Locals, numbers and locations', with 02's K5. Little-endian numbers stand in line tables alone: they are
+-- read by `lineentry`, whose specs/Varint says what they are.
 use Prim.Native.Nat.{ℕ, _+_, _*_, _/_, _%_, _^_}
 use mathlib.Core.Bool.{Bool, true, false, cond}
 use mathlib.Core.List.{List, [], _∷_}
 use lib.Dec.{ltb, leb, eqb}
 use lib.ListN.{length, getD, drop}
+use Rattle.refusals.specs.Numbers.{dataTooShort, numberRange}
 use Rattle.varint.specs.declared.Found.{Found}
-use Rattle.varint.specs.declared.Found.the-variants.{Number, Nothing}
+use Rattle.varint.specs.declared.Found.the-variants.{Number, Nothing, Refused}
 
 -- "0x40 meaning more"
 abbrev pub more : ℕ → Bool
 more byte = eqb (byte / 0x40 % 2) 1
 
--- The bytes of a number from the place `next` on, over what the bytes before it gave: "a cut number is its partial value; excess
--- high bits drop modulo 2^32. The port adds whether the number was whole (not cut)."
-unfoldable pub readGroups : ℕ → ℕ → List ℕ → Found
-readGroups val next [] = Number (val % 2 ^ 32) next false
-readGroups val next (byte ∷ bytes) =
-    cond (more byte)
-    (readGroups (val * 64 + byte % 64) (next + 1) bytes)
-    (Number ((val * 64 + byte % 64) % 2 ^ 32) (next + 1) true)
+-- 02, K5: "a whole number of 2^32 or more 18", at the number's start
+abbrev pub wholeAt : ℕ → ℕ → ℕ → Found
+wholeAt at value next = cond (ltb value (2 ^ 32)) (Number value next) (Refused numberRange at)
 
--- "nothing left .. is "none" with the position unmoved"
+-- The bytes of the number that starts at `at` from the place `next` on, over what the bytes before it gave. 02, K5: "Big-endian reading
+-- now gives a refusal for a number cut by the end or above 32 bits .. Refusals: cut 2 .. at the number's start."
+unfoldable pub readGroups : ℕ → ℕ → ℕ → List ℕ → Found
+readGroups at val next [] = Refused dataTooShort at
+readGroups at val next (byte ∷ bytes) =
+    cond (more byte)
+    (readGroups at (val * 64 + byte % 64) (next + 1) bytes)
+    (wholeAt at (val * 64 + byte % 64) (next + 1))
+
+-- "nothing left .. is "none" with the position unmoved", which K5 keeps
 unfoldable pub readVarint : List ℕ → ℕ → Found
 unfolding readGroups
-readVarint bytes at = cond (ltb at (length bytes)) (readGroups 0 at (drop at bytes)) Nothing
+readVarint bytes at = cond (ltb at (length bytes)) (readGroups at 0 at (drop at bytes)) Nothing
 
 -- "nothing left, or the marker missing, is "none"": past the end stands no marker
 unfoldable pub readVarintWithStart : List ℕ → ℕ → Found

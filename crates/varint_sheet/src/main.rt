@@ -1,4 +1,4 @@
-// 01's run sheet for varints: 64 in each form, read back, cut and without room, one answer to a line.
+// 01's run sheet for varints: 64 in each form, read back and without room; then K5's: cut and too large. One answer to a line.
 // Each store is lent full of ones, so that a line also shows that the rest of it is cleared.
 use printing::say;
 use printing::say_bytes;
@@ -24,19 +24,22 @@ fn say_written(answer: Written, out: &[u8]) {
 
 fn say_found(answer: Found) {
     match answer {
-        Found::Number { value, next, whole } => {
+        Found::Number { value, next } => {
             say(b"value ");
             say_number(value as u64);
             say(b", next ");
             say_number(next as u64);
-            if whole {
-                say(b", whole\n");
-            } else {
-                say(b", cut\n");
-            }
+            say(b"\n");
         }
         Found::Nothing => {
             say(b"none\n");
+        }
+        Found::Refused { number, place } => {
+            say(b"refused ");
+            say_number(number as u64);
+            say(b" at ");
+            say_number(place as u64);
+            say(b"\n");
         }
     }
 }
@@ -94,13 +97,16 @@ fn read_back() {
     say_found(varint::read_varint(&big, 3));
 }
 
-fn read_cut_and_long() {
-    let cut = [0x41u8];
-    let long = [0x44u8, 0x40, 0x40, 0x40, 0x40, 0x01];
-    say(b"41 at 0: ");
-    say_found(varint::read_varint(&cut, 0));
-    say(b"44 40 40 40 40 01 at 0: ");
-    say_found(varint::read_varint(&long, 0));
+fn read_cut_and_large() {
+    let cut = [0x00u8, 0x41];
+    let large = [0x44u8, 0x40, 0x40, 0x40, 0x40, 0x00];
+    let zeros = [0x40u8, 0x40, 0x40, 0x40, 0x40, 0x40, 0x40, 0x40, 0x05];
+    say(b"00 41 at 1: ");
+    say_found(varint::read_varint(&cut, 1));
+    say(b"44 40 40 40 40 00 at 0: ");
+    say_found(varint::read_varint(&large, 0));
+    say(b"eight 40, then 05, at 0: ");
+    say_found(varint::read_varint(&zeros, 0));
 }
 
 fn main() {
@@ -108,5 +114,5 @@ fn main() {
     write_signed();
     write_without_room();
     read_back();
-    read_cut_and_long();
+    read_cut_and_large();
 }

@@ -12,27 +12,35 @@ const NUMBERS: usize = 100_000;
 const ROOM: usize = 8;
 
 pub fn run() {
-    for (bytes, title) in (1..=6).map(|bytes| (Some(bytes), format!("{bytes} bytes"))).chain([(None, "mixed".to_string())]) {
+    for (bytes, title) in
+        (1..=6).map(|bytes| (Some(bytes), format!("{bytes} bytes"))).chain([(None, "mixed".to_string())])
+    {
         let codes = codes(bytes);
         let signed: Vec<i32> = codes.iter().map(|code| signed_of(*code)).collect();
         compare(
             &format!("write_varint, {title}"),
             &codes,
-            |buf, value| drop(varint::write_varint(buf, value)),
+            |buf, value| {
+                varint::write_varint(buf, value);
+            },
             // SAFETY: the store is lent for its length.
             |out, value| unsafe { sill_write_varint(out.as_mut_ptr(), ROOM, value) },
         );
         compare(
             &format!("write_signed_varint, {title}"),
             &signed,
-            |buf, value| drop(varint::write_signed_varint(buf, value)),
+            |buf, value| {
+                varint::write_signed_varint(buf, value);
+            },
             // SAFETY: the store is lent for its length.
             |out, value| unsafe { sill_write_signed_varint(out.as_mut_ptr(), ROOM, value) },
         );
         compare(
             &format!("write_varint_be, {title}"),
             &codes,
-            |buf, value| drop(varint::write_varint_be(buf, value)),
+            |buf, value| {
+                varint::write_varint_be(buf, value);
+            },
             // SAFETY: the store is lent for its length.
             |out, value| unsafe { sill_write_varint_be(out.as_mut_ptr(), ROOM, value) },
         );

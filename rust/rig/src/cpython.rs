@@ -211,7 +211,7 @@ type Reader = unsafe extern "C" fn(*const u8, usize, usize) -> Found;
 fn number(reader: Reader, table: &[u8], at: &mut usize) -> Result<u64, String> {
     // SAFETY: the bytes are lent for the length given.
     let answered = unsafe { reader(table.as_ptr(), table.len(), *at) };
-    if answered.found != 1 || answered.whole != 1 {
+    if answered.found != 1 {
         return Err(format!("{table:02x?} at {at}: {answered:?}"));
     }
     *at = answered.next as usize;

@@ -12,7 +12,7 @@ use std::ptr::{null, null_mut};
 pub fn hold() -> bool {
     let mut tally = Tally::new("nulls");
     let no_room = Written { refusal: refusals::NO_ROOM, place: 0, written: 0 };
-    let none = Found { found: 0, value: 0, whole: 0, pad: 0, next: 0 };
+    let none = Found { refusal: refusals::ACCEPTED, found: 0, value: 0, pad: 0, place: 0, next: 0 };
     let no_instructions = Located { refusal: refusals::ACCEPTED, place: 0, from_entries: 0, whole: 1 };
     let no_names = Split { refusal: refusals::ACCEPTED, place: 0, locals: 0, cells: 0, frees: 0, present: 0 };
     let no_object = Read { refusal: refusals::EOF_OBJECT, place: 0, consumed: 0, nodes: 0, entries: 0, slots: 0 };

@@ -17,20 +17,29 @@ pub const WRITERS: [Writer; 4] = [Writer::Little, Writer::Signed, Writer::Big, W
 pub enum Ask {
     /// A number to write; of a signed one, its bits.
     Write(Writer, u32),
-    /// A place to read at, both without and with the marker.
-    Read(Vec<u8>, usize),
+    /// A place to read at, with the marker or without.
+    Read(Reader, Vec<u8>, usize),
 }
+
+#[derive(Clone, Copy, PartialEq, Eq)]
+pub enum Reader {
+    Plain,
+    Marked,
+}
+
+pub const READERS: [Reader; 2] = [Reader::Plain, Reader::Marked];
 
 pub enum Answer {
     Bytes(Vec<u8>),
-    Numbers { plain: Option<Number>, marked: Option<Number> },
+    Number(Number),
 }
 
+/// What a reading says. A refusal's place is the place asked for.
 #[derive(Clone, Copy, PartialEq, Eq, Debug)]
-pub struct Number {
-    pub value: u32,
-    pub next: usize,
-    pub whole: bool,
+pub enum Number {
+    None,
+    Found { value: u32, next: usize },
+    Refused(u32),
 }
 
 pub struct Varints;
@@ -49,9 +58,15 @@ impl Subject for Varints {
             (Ask::Write(Writer::Signed, _), _) => "write_signed_varint",
             (Ask::Write(Writer::Big, _), _) => "write_varint_be",
             (Ask::Write(Writer::WithStart, _), _) => "write_varint_with_start",
-            (_, Answer::Numbers { plain: None, .. }) => "read: none",
-            (_, Answer::Numbers { marked: None, .. }) => "read: a number without the marker",
-            _ => "read: a number with the marker",
+            (_, Answer::Number(Number::Refused(refusals::DATA_TOO_SHORT))) => {
+                "listed difference: a cut number is refused (the Rust gives its partial value)"
+            }
+            (_, Answer::Number(Number::Refused(_))) => {
+                "listed difference: a number of 2^32 or more is refused (the Rust drops its high bits)"
+            }
+            (_, Answer::Number(Number::None)) => "read: none",
+            (Ask::Read(Reader::Plain, ..), _) => "read_varint",
+            (Ask::Read(Reader::Marked, ..), _) => "read_varint_with_start",
         }
     }
 
@@ -59,10 +74,8 @@ impl Subject for Varints {
         match (ask, answer) {
             (ask, Answer::Bytes(bytes)) if is_smallest(ask) => check_smallest(bytes),
             (Ask::Write(writer, value), Answer::Bytes(bytes)) => check_written(*writer, *value, bytes),
-            (Ask::Read(data, at), Answer::Numbers { plain, marked }) => {
-                let part = Part::new(data);
-                check_read("read_varint", sys::sill_read_varint, &part, *at, *plain)?;
-                check_read("read_varint_with_start", sys::sill_read_varint_with_start, &part, *at, *marked)
+            (Ask::Read(reader, data, at), Answer::Number(number)) => {
+                check_read(*reader, &Part::new(data), *at, *number)
             }
             _ => Err("the answer is of another kind than the question".to_string()),
         }
@@ -72,20 +85,21 @@ impl Subject for Varints {
         let asked = match ask {
             Ask::Write(Writer::Signed, value) => format!("signed {}", *value as i32),
             Ask::Write(writer, value) => format!("{} {value}", word(*writer)),
-            Ask::Read(data, at) => format!("read {} {at}", hex(data)),
+            Ask::Read(Reader::Plain, data, at) => format!("read {} {at}", hex(data)),
+            Ask::Read(Reader::Marked, data, at) => format!("marked {} {at}", hex(data)),
         };
         match answer {
             Answer::Bytes(bytes) => format!("{asked} {}", hex(bytes)),
-            Answer::Numbers { plain, marked } => format!("{asked} {} {}", shown(*plain), shown(*marked)),
+            Answer::Number(number) => format!("{asked} {}", shown(*number)),
         }
     }
 
     fn of_row(row: &str) -> Option<(Ask, Answer)> {
         match row.split(' ').collect::<Vec<_>>()[..] {
-            ["read", data, at, plain, marked] => Some((
-                Ask::Read(of_hex(data)?, at.parse().ok()?),
-                Answer::Numbers { plain: of_shown(plain)?, marked: of_shown(marked)? },
-            )),
+            [name @ ("read" | "marked"), data, at, number] => {
+                let reader = if name == "read" { Reader::Plain } else { Reader::Marked };
+                Some((Ask::Read(reader, of_hex(data)?, at.parse().ok()?), Answer::Number(of_shown(number)?)))
+            }
             ["signed", value, bytes] => {
                 let bits = value.parse::<i32>().ok()? as u32;
                 Some((Ask::Write(Writer::Signed, bits), Answer::Bytes(of_hex(bytes)?)))
@@ -146,15 +160,19 @@ fn check_room(writer: Writer, value: u32, room: usize, expected: Written, bytes:
     out.holds("out", bytes)
 }
 
-type Reader = unsafe extern "C" fn(*const u8, usize, usize) -> Found;
-
-fn check_read(name: &str, reader: Reader, part: &Part, at: usize, number: Option<Number>) -> Result<(), String> {
+fn check_read(reader: Reader, part: &Part, at: usize, number: Number) -> Result<(), String> {
     let data = part.bytes();
+    let (name, read): (_, unsafe extern "C" fn(*const u8, usize, usize) -> Found) = match reader {
+        Reader::Plain => ("read_varint", sys::sill_read_varint),
+        Reader::Marked => ("read_varint_with_start", sys::sill_read_varint_with_start),
+    };
     // SAFETY: the bytes are lent for the length given.
-    let answered = unsafe { reader(data.as_ptr(), data.len(), at) };
+    let answered = unsafe { read(data.as_ptr(), data.len(), at) };
+    let none = Found { refusal: refusals::ACCEPTED, found: 0, value: 0, pad: 0, place: 0, next: at as u64 };
     let expected = match number {
-        None => Found { found: 0, value: 0, whole: 0, pad: 0, next: at as u64 },
-        Some(n) => Found { found: 1, value: n.value, whole: n.whole.into(), pad: 0, next: n.next as u64 },
+        Number::None => none,
+        Number::Found { value, next } => Found { found: 1, value, next: next as u64, ..none },
+        Number::Refused(refusal) => Found { refusal, place: at as u64, ..none },
     };
     if answered != expected {
         return Err(format!("{name}: {answered:?} and not {expected:?}"));
@@ -171,21 +189,19 @@ fn word(writer: Writer) -> &'static str {
     }
 }
 
-fn shown(number: Option<Number>) -> String {
+fn shown(number: Number) -> String {
     match number {
-        None => "none".to_string(),
-        Some(n) => format!("{}:{}:{}", n.value, n.next, u32::from(n.whole)),
+        Number::None => "none".to_string(),
+        Number::Found { value, next } => format!("{value}:{next}"),
+        Number::Refused(refusal) => format!("refused:{refusal}"),
     }
 }
 
-fn of_shown(text: &str) -> Option<Option<Number>> {
-    if text == "none" {
-        return Some(None);
-    }
+fn of_shown(text: &str) -> Option<Number> {
     match text.split(':').collect::<Vec<_>>()[..] {
-        [value, next, whole] => {
-            Some(Some(Number { value: value.parse().ok()?, next: next.parse().ok()?, whole: whole == "1" }))
-        }
+        ["none"] => Some(Number::None),
+        ["refused", refusal] => Some(Number::Refused(refusal.parse().ok()?)),
+        [value, next] => Some(Number::Found { value: value.parse().ok()?, next: next.parse().ok()? }),
         _ => None,
     }
 }
@@ -193,20 +209,19 @@ fn of_shown(text: &str) -> Option<Option<Number>> {
 #[cfg(carried)]
 pub mod carried_side {
     //! The Rust's answers, and the questions put to both.
-    use super::{Answer, Ask, Number, Varints, WRITERS, Writer};
+    use super::{Answer, Ask, Number, READERS, Reader, Varints, WRITERS, Writer};
     use crate::random::Random;
     use crate::shrink::smaller;
     use crate::subject::Carried;
     use carried::varint;
+    use sillgarland_sys::refusals;
 
     impl Carried for Varints {
         fn by_the_rust(ask: &Ask) -> Answer {
             match ask {
                 Ask::Write(writer, value) => Answer::Bytes(written(*writer, *value)),
-                Ask::Read(data, at) => Answer::Numbers {
-                    plain: read(varint::read_varint, data, *at),
-                    marked: read(varint::read_varint_with_start, data, *at),
-                },
+                Ask::Read(Reader::Plain, data, at) => Answer::Number(read(varint::read_varint, data, *at)),
+                Ask::Read(Reader::Marked, data, at) => Answer::Number(read(varint::read_varint_with_start, data, *at)),
             }
         }
 
@@ -217,7 +232,7 @@ pub mod carried_side {
                     .filter(|less| less < value)
                     .map(|less| Ask::Write(*writer, less))
                     .collect(),
-                Ask::Read(data, at) => smaller(data).map(|data| Ask::Read(data, *at)).collect(),
+                Ask::Read(reader, data, at) => smaller(data).map(|data| Ask::Read(*reader, data, *at)).collect(),
             }
         }
     }
@@ -233,16 +248,27 @@ pub mod carried_side {
         bytes
     }
 
-    /// The Rust does not say whether the number was whole: it was, unless its last byte says "more".
-    fn read(reader: fn(&[u8], &mut usize) -> Option<u32>, data: &[u8], at: usize) -> Option<Number> {
+    /// Where the Rust gives what a cut number came to, or what is left of one of 2^32 or more, the port refuses. Which numbers
+    /// those are, the bytes that the Rust used tell; what it gives for them is held to be just that.
+    fn read(reader: fn(&[u8], &mut usize) -> Option<u32>, data: &[u8], at: usize) -> Number {
         let mut next = at;
-        let value = reader(data, &mut next)?;
-        Some(Number { value, next, whole: data[next - 1] & 0x40 == 0 })
+        let Some(value) = reader(data, &mut next) else {
+            return Number::None;
+        };
+        let used = &data[at..next];
+        let low = used.iter().fold(0u32, |low, byte| low << 6 | u32::from(byte & 0x3F));
+        assert_eq!(value, low, "the listed differences say that the Rust drops the high bits of {used:02x?}");
+        let is_large = used.iter().fold(0u64, |sum, byte| (sum << 6 | u64::from(byte & 0x3F)).min(1 << 32)) == 1 << 32;
+        match used.last() {
+            Some(last) if last & 0x40 != 0 => Number::Refused(refusals::DATA_TOO_SHORT),
+            _ if is_large => Number::Refused(refusals::NUMBER_RANGE),
+            _ => Number::Found { value, next },
+        }
     }
 
     /// Every value around a power of two and all strings up to three bytes; then so many random ones of each.
     pub fn asks(random: usize) -> impl Iterator<Item = Ask> {
-        let strings = (0..=3).flat_map(strings_of).map(|data| Ask::Read(data, 0));
+        let strings = (0..=3).flat_map(strings_of).flat_map(both_at_0);
         around_powers().chain(strings).chain(random_writes(1, random)).chain(random_reads(2, random))
     }
 
@@ -253,7 +279,7 @@ pub mod carried_side {
 
     /// A selection of the above for the list in the repository.
     pub fn asks_to_list() -> impl Iterator<Item = Ask> {
-        let strings = (0..=1).flat_map(strings_of).map(|data| Ask::Read(data, 0));
+        let strings = (0..=1).flat_map(strings_of).flat_map(both_at_0);
         around_powers().chain(strings).chain(random_writes(1, 1000)).chain(random_reads(2, 3000))
     }
 
@@ -262,6 +288,10 @@ pub mod carried_side {
         values
             .flat_map(|value| [value, value.wrapping_neg()])
             .flat_map(|value| WRITERS.map(|writer| Ask::Write(writer, value)))
+    }
+
+    fn both_at_0(data: Vec<u8>) -> [Ask; 2] {
+        READERS.map(|reader| Ask::Read(reader, data.clone(), 0))
     }
 
     pub fn strings_of(len: u32) -> impl Iterator<Item = Vec<u8>> {
@@ -273,18 +303,21 @@ pub mod carried_side {
         (0..count).map(move |_| Ask::Write(random.one_of(&WRITERS), random.of_any_width()))
     }
 
-    /// Strings in which most bytes say "more", read at any place, also beyond the end.
+    /// Strings in which most bytes say "more", some behind zero groups, read at any place, also beyond the end.
     fn random_reads(seed: u64, count: usize) -> impl Iterator<Item = Ask> {
         let mut random = Random::new(seed);
         (0..count).map(move |_| {
             let len = random.below(12);
-            let data = (0..len).map(|_| random.byte() | random.one_of(&[0, 0x40, 0x40, 0x80])).collect();
+            let zeros = if random.below(4) == 0 { random.below(9) } else { 0 };
+            let mut data = vec![random.one_of(&[0x40, 0xC0]); zeros];
+            data.extend((0..len).map(|_| random.byte() | random.one_of(&[0, 0x40, 0x40, 0x80])));
+            let len = data.len();
             let at = match random.below(20) {
                 0 => usize::MAX - random.below(3),
                 1 => len + random.below(3),
                 _ => random.below(len + 1),
             };
-            Ask::Read(data, at)
+            Ask::Read(random.one_of(&READERS), data, at)
         })
     }
 }

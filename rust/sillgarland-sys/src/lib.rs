@@ -15,14 +15,15 @@ pub struct Written {
     pub written: u32,
 }
 
-/// What a varint reader answers. None found: found, value and whole are 0 and next is where reading was to begin.
+/// What a varint reader answers. None found or refused: found and value are 0 and next is where reading was to begin.
 #[repr(C)]
 #[derive(Clone, Copy, Debug, PartialEq, Eq)]
 pub struct Found {
+    pub refusal: u32,
     pub found: u32,
     pub value: u32,
-    pub whole: u32,
     pub pad: u32,
+    pub place: u64,
     pub next: u64,
 }
 

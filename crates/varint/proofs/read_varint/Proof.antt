@@ -1,5 +1,6 @@
--- `varint::read_varint` meets its contract: at each turn the bytes that are left still read as the same number.
+-- `varint::read_varint` meets its contract: at each turn the bytes that are left still read as the same number, or as one too large.
 -- Assumes nothing.
+use mathlib.Core.Path.{_∙_}
 use Prim.Native.Nat.{_-_}
 use lib.ListN.{length}
 use borrow.Author.Needs.{needs}
@@ -25,26 +26,28 @@ loop-holds c = read-start _ _ (c .if1 .left)
 shared-slice-read-byte : tie.Need-shared-slice-read-byte Inv-loop μ-loop
 shared-slice-read-byte c = search needs
 
-mul-val : tie.Need-mul-val Inv-loop μ-loop
-mul-val c = search needs
-
-cast-val : tie.Need-cast-val Inv-loop μ-loop
-cast-val c = search needs
-
-add-val : tie.Need-add-val Inv-loop μ-loop
-add-val c = search needs
+with-group-requires : tie.Need-with-group-requires Inv-loop μ-loop
+with-group-requires c κs = search needs
 
 add-next : tie.Need-add-next Inv-loop μ-loop
 add-next c = search needs
 
+whole-requires : tie.Need-whole-requires Inv-loop μ-loop
+whole-requires c κs = search needs
+
 returns-2 : tie.Need-returns-2 Inv-loop μ-loop
-returns-2 c = read-end (c .before .before .before .loop .inv) (c .before .before .loop-test .taken) (c .if2 .taken)
+returns-2 c =
+    let turn = c .before .before in
+    c .whole .ensures
+    ∙ read-end (turn .before .before .before .loop .inv) (turn .before .before .loop-test .taken) (c .before .if2 .taken) (turn .with-group .ensures)
 
 loop-less : tie.Need-loop-less Inv-loop μ-loop
 loop-less c = search needs
 
 loop-again : tie.Need-loop-again Inv-loop μ-loop
-loop-again c = read-turn (c .before .before .before .loop .inv) (c .before .before .loop-test .taken) (c .if2 .left)
+loop-again c =
+    let turn = c .before in
+    read-turn (turn .before .before .before .loop .inv) (turn .before .before .loop-test .taken) (c .if2 .left) (turn .with-group .ensures)
 
 returns-3 : tie.Need-returns-3 Inv-loop μ-loop
 returns-3 c = read-cut (c .before .loop .inv) (c .loop-test .left)
@@ -58,10 +61,9 @@ read-varint-spec =
     returns
     loop-holds
     shared-slice-read-byte
-    mul-val
-    cast-val
-    add-val
+    with-group-requires
     add-next
+    whole-requires
     returns-2
     loop-less
     loop-again
