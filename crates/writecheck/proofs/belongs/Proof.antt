@@ -12,16 +12,25 @@ has-requires : tie.Need-has-requires
 has-requires c κs = search needs
 
 returns : tie.Need-returns
-returns c = member-not (lent (c .before .before .before .before .before .args .s .now) (c .before .before .before .before .before .args .nodes .now) (c .before .before .before .before .before .args .entries .now) (c .before .before .before .before .before .args .used)) (localsIn (lent (c .before .before .before .before .before .args .s .now) (c .before .before .before .before .before .args .nodes .now) (c .before .before .before .before .before .args .entries .now) (c .before .before .before .before .before .args .used)) (c .before .before .before .before .before .args .locals)) (c .before .before .before .before .before .args .bit) (c .before .before .before .before .before .args .kind) (c .before .before .before .before .before .args .node) (c .before .has .ensures) (not-true _ (c .if1 .taken))
+returns c =
+    let a = c .before .before .before .before .before .args in
+    let t = lent (a .s .now) (a .nodes .now) (a .entries .now) (a .used) in
+    member-not t (localsIn t (a .locals)) (a .bit) (a .kind) (a .node) (c .before .has .ensures) (not-true _ (c .if1 .taken))
 
 returns-2 : tie.Need-returns-2
-returns-2 c = member-plain (lent (c .before .before .before .before .before .before .args .s .now) (c .before .before .before .before .before .before .args .nodes .now) (c .before .before .before .before .before .before .args .entries .now) (c .before .before .before .before .before .before .args .used)) (localsIn (lent (c .before .before .before .before .before .before .args .s .now) (c .before .before .before .before .before .before .args .nodes .now) (c .before .before .before .before .before .before .args .entries .now) (c .before .before .before .before .before .before .args .used)) (c .before .before .before .before .before .before .args .locals)) (c .before .before .before .before .before .before .args .bit) (c .before .before .before .before .before .before .args .kind) (c .before .before .before .before .before .before .args .node) (c .before .before .has .ensures) (not-false _ (c .before .if1 .left)) (λ e. omega arith)
+returns-2 c =
+    let a = c .before .before .before .before .before .before .args in
+    let t = lent (a .s .now) (a .nodes .now) (a .entries .now) (a .used) in
+    member-plain t (localsIn t (a .locals)) (a .bit) (a .kind) (a .node) (c .before .before .has .ensures) (not-false _ (c .before .if1 .left)) (λ e. omega arith)
 
 is-local-requires : tie.Need-is-local-requires
 is-local-requires c κs = (c .before .before .before .before .before .before .pre .0, c .before .before .before .before .before .before .pre .1)
 
 returns-3 : tie.Need-returns-3
-returns-3 c = member-cell (lent (c .before .before .before .before .before .before .before .args .s .now) (c .before .before .before .before .before .before .before .args .nodes .now) (c .before .before .before .before .before .before .before .args .entries .now) (c .before .before .before .before .before .before .before .args .used)) (localsIn (lent (c .before .before .before .before .before .before .before .args .s .now) (c .before .before .before .before .before .before .before .args .nodes .now) (c .before .before .before .before .before .before .before .args .entries .now) (c .before .before .before .before .before .before .before .args .used)) (c .before .before .before .before .before .before .before .args .locals)) (c .before .before .before .before .before .before .before .args .bit) (c .before .before .before .before .before .before .before .args .kind) (c .before .before .before .before .before .before .before .args .node) (c .before .before .before .has .ensures) (not-false _ (c .before .before .if1 .left)) (omega arith) (c .is-local .ensures)
+returns-3 c =
+    let a = c .before .before .before .before .before .before .before .args in
+    let t = lent (a .s .now) (a .nodes .now) (a .entries .now) (a .used) in
+    member-cell t (localsIn t (a .locals)) (a .bit) (a .kind) (a .node) (c .before .before .before .has .ensures) (not-false _ (c .before .before .if1 .left)) (omega arith) (c .is-local .ensures)
 
 pub belongs-spec : {M : Type 1} → statement M
 belongs-spec = tie.close (tie.spec has-requires returns returns-2 is-local-requires returns-3)

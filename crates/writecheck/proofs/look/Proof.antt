@@ -21,19 +21,30 @@ node-of-requires : tie.Need-node-of-requires
 node-of-requires c κs = search needs
 
 returns-2 : tie.Need-returns-2
-returns-2 c = let w = (some-is (Record.whole (lent (c .before .before .before .before .before .before .before .before .args .s .now) (c .before .before .before .before .before .before .before .before .args .nodes .now) (c .before .before .before .before .before .before .before .before .args .entries .now) (c .before .before .before .before .before .before .before .before .args .used)) (c .before .before .before .before .before .before .before .before .args .node)) (sym (not-false _ (c .before .before .before .if1 .left)) ∙ c .before .before .before .before .whole .ensures)) in let l = (ap (λ (m : Node). m .letter) (c .before .before .node-of .ensures)) in look-plain (lent (c .before .before .before .before .before .before .before .before .args .s .now) (c .before .before .before .before .before .before .before .before .args .nodes .now) (c .before .before .before .before .before .before .before .before .args .entries .now) (c .before .before .before .before .before .before .before .before .args .used)) (c .before .before .before .before .before .before .before .before .args .node) (w .0) (w .1) (λ e. omega arith)
+returns-2 c =
+    let a = c .before .before .before .before .before .before .before .before .args in
+    let t = lent (a .s .now) (a .nodes .now) (a .entries .now) (a .used) in
+    let w = (some-is (Record.whole t (a .node)) (sym (not-false _ (c .before .before .before .if1 .left)) ∙ c .before .before .before .before .whole .ensures)) in let l = (ap (λ (m : Node). m .letter) (c .before .before .node-of .ensures)) in look-plain t (a .node) (w .0) (w .1) (λ e. omega arith)
 
 parts-fit-requires : tie.Need-parts-fit-requires
 parts-fit-requires c κs = search needs
 
 returns-3 : tie.Need-returns-3
-returns-3 c = let w = (some-is (Record.whole (lent (c .before .before .before .before .before .before .before .before .before .before .args .s .now) (c .before .before .before .before .before .before .before .before .before .before .args .nodes .now) (c .before .before .before .before .before .before .before .before .before .before .args .entries .now) (c .before .before .before .before .before .before .before .before .before .before .args .used)) (c .before .before .before .before .before .before .before .before .before .before .args .node)) (sym (not-false _ (c .before .before .before .before .before .if1 .left)) ∙ c .before .before .before .before .before .before .whole .ensures)) in let l = (ap (λ (m : Node). m .letter) (c .before .before .before .before .node-of .ensures)) in look-parts (lent (c .before .before .before .before .before .before .before .before .before .before .args .s .now) (c .before .before .before .before .before .before .before .before .before .before .args .nodes .now) (c .before .before .before .before .before .before .before .before .before .before .args .entries .now) (c .before .before .before .before .before .before .before .before .before .before .args .used)) (c .before .before .before .before .before .before .before .before .before .before .args .node) (w .0) (w .1) (omega arith) (c .before .before .before .before .node-of .result .first) (ap (λ (m : Node). m .first) (c .before .before .before .before .node-of .ensures)) (c .before .parts-fit .ensures) (not-true _ (c .if3 .taken))
+returns-3 c =
+    let a = c .before .before .before .before .before .before .before .before .before .before .args in
+    let t = lent (a .s .now) (a .nodes .now) (a .entries .now) (a .used) in
+    let node-of = c .before .before .before .before .node-of .ensures in
+    let w = (some-is (Record.whole t (a .node)) (sym (not-false _ (c .before .before .before .before .before .if1 .left)) ∙ c .before .before .before .before .before .before .whole .ensures)) in let l = (ap (λ (m : Node). m .letter) node-of) in look-parts t (a .node) (w .0) (w .1) (omega arith) (c .before .before .before .before .node-of .result .first) (ap (λ (m : Node). m .first) node-of) (c .before .parts-fit .ensures) (not-true _ (c .if3 .taken))
 
 ends-fit-requires : tie.Need-ends-fit-requires
 ends-fit-requires c κs = search needs
 
 returns-4 : tie.Need-returns-4
-returns-4 c = let w = (some-is (Record.whole (lent (c .before .before .before .before .before .before .before .before .before .before .before .args .s .now) (c .before .before .before .before .before .before .before .before .before .before .before .args .nodes .now) (c .before .before .before .before .before .before .before .before .before .before .before .args .entries .now) (c .before .before .before .before .before .before .before .before .before .before .before .args .used)) (c .before .before .before .before .before .before .before .before .before .before .before .args .node)) (sym (not-false _ (c .before .before .before .before .before .before .if1 .left)) ∙ c .before .before .before .before .before .before .before .whole .ensures)) in let l = (ap (λ (m : Node). m .letter) (c .before .before .before .before .before .node-of .ensures)) in look-ends (lent (c .before .before .before .before .before .before .before .before .before .before .before .args .s .now) (c .before .before .before .before .before .before .before .before .before .before .before .args .nodes .now) (c .before .before .before .before .before .before .before .before .before .before .before .args .entries .now) (c .before .before .before .before .before .before .before .before .before .before .before .args .used)) (c .before .before .before .before .before .before .before .before .before .before .before .args .node) (w .0) (w .1) (omega arith) (c .before .before .before .before .before .node-of .result .first) (ap (λ (m : Node). m .first) (c .before .before .before .before .before .node-of .ensures)) (c .before .before .parts-fit .ensures) (not-false _ (c .before .if3 .left)) (c .ends-fit .ensures)
+returns-4 c =
+    let a = c .before .before .before .before .before .before .before .before .before .before .before .args in
+    let t = lent (a .s .now) (a .nodes .now) (a .entries .now) (a .used) in
+    let node-of = c .before .before .before .before .before .node-of .ensures in
+    let w = (some-is (Record.whole t (a .node)) (sym (not-false _ (c .before .before .before .before .before .before .if1 .left)) ∙ c .before .before .before .before .before .before .before .whole .ensures)) in let l = (ap (λ (m : Node). m .letter) node-of) in look-ends t (a .node) (w .0) (w .1) (omega arith) (c .before .before .before .before .before .node-of .result .first) (ap (λ (m : Node). m .first) node-of) (c .before .before .parts-fit .ensures) (not-false _ (c .before .if3 .left)) (c .ends-fit .ensures)
 
 pub look-spec : {M : Type 1} → statement M
 look-spec =

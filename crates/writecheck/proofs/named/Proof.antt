@@ -28,7 +28,11 @@ loop-holds : tie.Need-loop-holds Inv-loop μ-loop
 loop-holds c = walk-start _ _ _ _
 
 returns : tie.Need-returns Inv-loop μ-loop
-returns c = named-are (lent (c .before .before .before .before .before .before .before .before .args .s .now) (c .before .before .before .before .before .before .before .before .args .nodes .now) (c .before .before .before .before .before .before .before .before .args .entries .now) (c .before .before .before .before .before .before .before .before .args .used)) (c .before .before .before .before .before .before .before .before .args .count) (c .before .before .before .before .before .before .before .before .args .first) (c .before .before .before .before .entries-in .ensures .0) (c .before .before .before .at-most .ensures) (walk-stop _ _ _ _ (c .before .before .loop .inv) (c .before .loop-test .taken) (spelt-outside (lent (c .before .before .before .before .before .before .before .before .args .s .now) (c .before .before .before .before .before .before .before .before .args .nodes .now) (c .before .before .before .before .before .before .before .before .args .entries .now) (c .before .before .before .before .before .before .before .before .args .used)) (c .before .before .loop .e) (c .before .before .before .before .entries-in .ensures .0) (omega arith)))
+returns c =
+    let a = c .before .before .before .before .before .before .before .before .args in
+    let t = lent (a .s .now) (a .nodes .now) (a .entries .now) (a .used) in
+    let entries-in = c .before .before .before .before .entries-in .ensures .0 in
+    named-are t (a .count) (a .first) entries-in (c .before .before .before .at-most .ensures) (walk-stop _ _ _ _ (c .before .before .loop .inv) (c .before .loop-test .taken) (spelt-outside t (c .before .before .loop .e) entries-in (omega arith)))
 
 child-of-requires : tie.Need-child-of-requires Inv-loop μ-loop
 child-of-requires c κs = search needs
@@ -37,7 +41,11 @@ string-at-requires : tie.Need-string-at-requires Inv-loop μ-loop
 string-at-requires c κs = search needs
 
 returns-2 : tie.Need-returns-2 Inv-loop μ-loop
-returns-2 c = named-are (lent (c .before .before .before .before .before .before .before .before .before .before .before .args .s .now) (c .before .before .before .before .before .before .before .before .before .before .before .args .nodes .now) (c .before .before .before .before .before .before .before .before .before .before .before .args .entries .now) (c .before .before .before .before .before .before .before .before .before .before .before .args .used)) (c .before .before .before .before .before .before .before .before .before .before .before .args .count) (c .before .before .before .before .before .before .before .before .before .before .before .args .first) (c .before .before .before .before .before .before .before .entries-in .ensures .0) (c .before .before .before .before .before .before .at-most .ensures) (walk-stop _ _ _ _ (c .before .before .before .before .before .loop .inv) (c .before .before .before .before .loop-test .taken) (spelt-as (lent (c .before .before .before .before .before .before .before .before .before .before .before .args .s .now) (c .before .before .before .before .before .before .before .before .before .before .before .args .nodes .now) (c .before .before .before .before .before .before .before .before .before .before .before .args .entries .now) (c .before .before .before .before .before .before .before .before .before .before .before .args .used)) (c .before .before .before .before .before .loop .e) (c .before .before .before .before .before .before .before .entries-in .ensures .0) (omega arith) (c .before .before .child-of .result) (c .before .before .child-of .ensures) (c .before .string-at .ensures) ∙ not-true _ (c .if2 .taken)))
+returns-2 c =
+    let a = c .before .before .before .before .before .before .before .before .before .before .before .args in
+    let t = lent (a .s .now) (a .nodes .now) (a .entries .now) (a .used) in
+    let entries-in = c .before .before .before .before .before .before .before .entries-in .ensures .0 in
+    named-are t (a .count) (a .first) entries-in (c .before .before .before .before .before .before .at-most .ensures) (walk-stop _ _ _ _ (c .before .before .before .before .before .loop .inv) (c .before .before .before .before .loop-test .taken) (spelt-as t (c .before .before .before .before .before .loop .e) entries-in (omega arith) (c .before .before .child-of .result) (c .before .before .child-of .ensures) (c .before .string-at .ensures) ∙ not-true _ (c .if2 .taken)))
 
 next-of-requires : tie.Need-next-of-requires Inv-loop μ-loop
 next-of-requires c κs = search needs
@@ -49,10 +57,16 @@ loop-less : tie.Need-loop-less Inv-loop μ-loop
 loop-less c = search needs
 
 loop-again : tie.Need-loop-again Inv-loop μ-loop
-loop-again c = walk-more _ _ _ _ (c .before .before .before .before .before .before .loop .inv) (c .before .before .before .before .before .loop-test .taken) (spelt-as (lent (c .before .before .before .before .before .before .before .before .before .before .before .before .args .s .now) (c .before .before .before .before .before .before .before .before .before .before .before .before .args .nodes .now) (c .before .before .before .before .before .before .before .before .before .before .before .before .args .entries .now) (c .before .before .before .before .before .before .before .before .before .before .before .before .args .used)) (c .before .before .before .before .before .before .loop .e) (c .before .before .before .before .before .before .before .before .entries-in .ensures .0) (omega arith) (c .before .before .before .child-of .result) (c .before .before .before .child-of .ensures) (c .before .before .string-at .ensures) ∙ not-false _ (c .before .if2 .left)) (c .next-of .ensures)
+loop-again c =
+    let a = c .before .before .before .before .before .before .before .before .before .before .before .before .args in
+    let t = lent (a .s .now) (a .nodes .now) (a .entries .now) (a .used) in
+    walk-more _ _ _ _ (c .before .before .before .before .before .before .loop .inv) (c .before .before .before .before .before .loop-test .taken) (spelt-as t (c .before .before .before .before .before .before .loop .e) (c .before .before .before .before .before .before .before .before .entries-in .ensures .0) (omega arith) (c .before .before .before .child-of .result) (c .before .before .before .child-of .ensures) (c .before .before .string-at .ensures) ∙ not-false _ (c .before .if2 .left)) (c .next-of .ensures)
 
 returns-3 : tie.Need-returns-3 Inv-loop μ-loop
-returns-3 c = named-are (lent (c .before .before .before .before .before .before .before .args .s .now) (c .before .before .before .before .before .before .before .args .nodes .now) (c .before .before .before .before .before .before .before .args .entries .now) (c .before .before .before .before .before .before .before .args .used)) (c .before .before .before .before .before .before .before .args .count) (c .before .before .before .before .before .before .before .args .first) (c .before .before .before .entries-in .ensures .0) (c .before .before .at-most .ensures) (walk-end _ _ _ _ (c .before .loop .inv) (omega arith))
+returns-3 c =
+    let a = c .before .before .before .before .before .before .before .args in
+    let t = lent (a .s .now) (a .nodes .now) (a .entries .now) (a .used) in
+    named-are t (a .count) (a .first) (c .before .before .before .entries-in .ensures .0) (c .before .before .at-most .ensures) (walk-end _ _ _ _ (c .before .loop .inv) (omega arith))
 
 pub named-spec : {M : Type 1} → statement M
 named-spec =

@@ -21,7 +21,10 @@ named-requires : tie.Need-named-requires
 named-requires c κs = search needs
 
 returns-2 : tie.Need-returns-2
-returns-2 c = a-tuple (lent (c .before .before .before .before .before .before .before .args .s .now) (c .before .before .before .before .before .before .before .args .nodes .now) (c .before .before .before .before .before .before .before .args .entries .now) (c .before .before .before .before .before .before .before .args .used)) (c .before .before .before .before .before .before .before .args .node) (ap (λ (m : Node). m .letter) (c .before .before .before .node-of .ensures)) (c .before .before .is-tuple .ensures) (not-false _ (c .before .if1 .left)) (ap (λ (m : Node). m .first) (c .before .before .before .node-of .ensures)) (ap (λ (m : Node). m .count) (c .before .before .before .node-of .ensures)) (c .named .ensures)
+returns-2 c =
+    let a = c .before .before .before .before .before .before .before .args in
+    let t = lent (a .s .now) (a .nodes .now) (a .entries .now) (a .used) in
+    a-tuple t (a .node) (ap (λ (m : Node). m .letter) (c .before .before .before .node-of .ensures)) (c .before .before .is-tuple .ensures) (not-false _ (c .before .if1 .left)) (ap (λ (m : Node). m .first) (c .before .before .before .node-of .ensures)) (ap (λ (m : Node). m .count) (c .before .before .before .node-of .ensures)) (c .named .ensures)
 
 pub names-fit-spec : {M : Type 1} → statement M
 names-fit-spec =

@@ -24,7 +24,10 @@ part-fits-requires : tie.Need-part-fits-requires Inv-loop μ-loop
 part-fits-requires c κs = search needs
 
 returns : tie.Need-returns Inv-loop μ-loop
-returns c = fitting-not (lent (c .before .before .before .before .before .before .before .before .args .s .now) (c .before .before .before .before .before .before .before .before .args .nodes .now) (c .before .before .before .before .before .before .before .before .args .entries .now) (c .before .before .before .before .before .before .before .before .args .used)) (c .before .before .before .before .before .before .before .before .args .first) (c .before .before .before .before .loop .part) (c .before .before .before .before .loop .e) (c .before .before .child-of .result) (c .before .before .before .before .loop .inv) (c .before .before .before .loop-test .taken) (c .before .before .child-of .ensures) (c .before .part-fits .ensures) (not-true _ (c .if1 .taken))
+returns c =
+    let a = c .before .before .before .before .before .before .before .before .args in
+    let t = lent (a .s .now) (a .nodes .now) (a .entries .now) (a .used) in
+    fitting-not t (a .first) (c .before .before .before .before .loop .part) (c .before .before .before .before .loop .e) (c .before .before .child-of .result) (c .before .before .before .before .loop .inv) (c .before .before .before .loop-test .taken) (c .before .before .child-of .ensures) (c .before .part-fits .ensures) (not-true _ (c .if1 .taken))
 
 next-of-requires : tie.Need-next-of-requires Inv-loop μ-loop
 next-of-requires c κs = search needs
@@ -36,7 +39,10 @@ loop-less : tie.Need-loop-less Inv-loop μ-loop
 loop-less c = search needs
 
 loop-again : tie.Need-loop-again Inv-loop μ-loop
-loop-again c = fitting-more (lent (c .before .before .before .before .before .before .before .before .before .args .s .now) (c .before .before .before .before .before .before .before .before .before .args .nodes .now) (c .before .before .before .before .before .before .before .before .before .args .entries .now) (c .before .before .before .before .before .before .before .before .before .args .used)) (c .before .before .before .before .before .before .before .before .before .args .first) (c .before .before .before .before .before .loop .part) (c .before .before .before .before .before .loop .e) (c .next-of .result) (c .before .before .before .child-of .result) (c .before .before .before .before .before .loop .inv) (c .before .before .before .before .loop-test .taken) (c .before .before .before .child-of .ensures) (c .before .before .part-fits .ensures) (not-false _ (c .before .if1 .left)) (c .next-of .ensures)
+loop-again c =
+    let a = c .before .before .before .before .before .before .before .before .before .args in
+    let t = lent (a .s .now) (a .nodes .now) (a .entries .now) (a .used) in
+    fitting-more t (a .first) (c .before .before .before .before .before .loop .part) (c .before .before .before .before .before .loop .e) (c .next-of .result) (c .before .before .before .child-of .result) (c .before .before .before .before .before .loop .inv) (c .before .before .before .before .loop-test .taken) (c .before .before .before .child-of .ensures) (c .before .before .part-fits .ensures) (not-false _ (c .before .if1 .left)) (c .next-of .ensures)
 
 returns-2 : tie.Need-returns-2 Inv-loop μ-loop
 returns-2 c = fitting-all (lent (c .before .before .before .before .before .args .s .now) (c .before .before .before .before .before .args .nodes .now) (c .before .before .before .before .before .args .entries .now) (c .before .before .before .before .before .args .used)) (c .before .before .before .before .before .args .first) (c .before .loop .part) (c .before .loop .e) (c .before .loop .inv) (omega arith)

@@ -21,7 +21,10 @@ linked-requires : tie.Need-linked-requires
 linked-requires c κs = search needs
 
 returns-2 : tie.Need-returns-2
-returns-2 c = whole-is (lent (c .before .before .before .before .before .before .before .args .s .now) (c .before .before .before .before .before .before .before .args .nodes .now) (c .before .before .before .before .before .before .before .args .entries .now) (c .before .before .before .before .before .before .before .args .used)) (c .before .before .before .before .before .before .before .args .node) (c .before .node-of .result .count) (c .before .node-of .result .first) (c .before .before .before .sound-at .ensures) (not-false _ (c .before .before .if1 .left)) (ap (λ (m : Node). m .count) (c .before .node-of .ensures)) (ap (λ (m : Node). m .first) (c .before .node-of .ensures)) (c .linked .ensures)
+returns-2 c =
+    let a = c .before .before .before .before .before .before .before .args in
+    let t = lent (a .s .now) (a .nodes .now) (a .entries .now) (a .used) in
+    whole-is t (a .node) (c .before .node-of .result .count) (c .before .node-of .result .first) (c .before .before .before .sound-at .ensures) (not-false _ (c .before .before .if1 .left)) (ap (λ (m : Node). m .count) (c .before .node-of .ensures)) (ap (λ (m : Node). m .first) (c .before .node-of .ensures)) (c .linked .ensures)
 
 pub whole-spec : {M : Type 1} → statement M
 whole-spec =
