@@ -105,6 +105,23 @@ sill_located_t sill_locate(const uint8_t *table, size_t table_len, int32_t first
 sill_located_t sill_locations(const uint8_t *table, size_t table_len, int32_t first_line, uint32_t count,
                               uint32_t *flat, size_t flat_len, sill_location_t *out, size_t out_len);
 
+typedef struct {
+    uint32_t refusal; /* 14: the table, or the repaired one, is too long, at 0; 17: no room, place is out_len, which counts as
+                         at most 4,294,967,295 */
+    uint32_t place;
+    uint32_t written;   /* how many bytes the repaired table has */
+    uint32_t kept;      /* entries of the table that the repaired one has, a shortened one included */
+    uint32_t dropped;   /* bytes behind the last kept entry */
+    uint32_t shortened; /* whether the last kept entry stands for fewer instructions than it did */
+    uint32_t covered;   /* instructions that got an entry without a place, since none was left for them */
+} sill_salvaged_t;
+
+/* Makes a whole table for count instructions: complete entries are kept up to the first stop, cut or refused one, the entry
+ * that runs past the count is shortened, and entries without a place cover what is left. A whole table comes back as it is.
+ * Instructions under kept entries have the locations that sill_locate gives them in the original. */
+sill_salvaged_t sill_salvage(const uint8_t *table, size_t table_len, int32_t first_line, uint32_t count, uint8_t *out,
+                             size_t out_len);
+
 /* ---- Local names by their kinds: Local 0x20, Cell 0x40, Free 0x80. */
 
 typedef struct {

@@ -137,6 +137,30 @@ static void test_writing(void)
 
 /* ---- line tables */
 
+/* Document 01's table for three instructions, then for one; then a table cut inside its second entry. */
+static void test_salvage(void)
+{
+    uint8_t out[8];
+    memset(out, 7, sizeof out);
+    sill_salvaged_t salvaged = sill_salvage((const uint8_t *)"\xE9\x02", 2, 10, 3, out, 8);
+    expect(salvaged.refusal == 0 && salvaged.written == 3 && salvaged.kept == 1 && salvaged.covered == 1, "one covered");
+    expect(salvaged.dropped == 0 && salvaged.shortened == 0, "nothing dropped, nothing shortened");
+    expect(memcmp(out, "\xE9\x02\xF8\0\0\0\0\0", 8) == 0, "the repaired table, and zeros follow");
+
+    salvaged = sill_salvage((const uint8_t *)"\xE9\x02\xF8", 3, 10, 1, out, 8);
+    expect(salvaged.written == 2 && salvaged.kept == 1 && salvaged.dropped == 1 && salvaged.shortened == 1, "shortened");
+    expect(memcmp(out, "\xE8\x02\0\0\0\0\0\0", 8) == 0, "its first byte, for one instruction");
+
+    salvaged = sill_salvage((const uint8_t *)"\xE9\x02\xD8\x04", 4, 10, 3, out, 8);
+    expect(salvaged.written == 3 && salvaged.kept == 1 && salvaged.dropped == 2 && salvaged.covered == 1, "a cut entry");
+    memset(out, 7, sizeof out);
+    salvaged = sill_salvage((const uint8_t *)"\xE9\x02", 2, 10, 3, out, 2);
+    expect(salvaged.refusal == 17 && salvaged.place == 2 && salvaged.kept == 0, "no room for the result");
+    expect(memcmp(out, "\0\0\x07", 3) == 0, "and the two lent bytes are zero");
+    salvaged = sill_salvage(NULL, 0, 1, 4294967295u, out, 8);
+    expect(salvaged.refusal == 14 && salvaged.place == 0, "a result above 16 MiB");
+}
+
 static void test_lines(void)
 {
     static const uint8_t input[] = "s\x02\0\0\0\xE9\x02";
@@ -248,6 +272,7 @@ int main(void)
     test_leaves();
     test_writing();
     test_lines();
+    test_salvage();
     test_split();
     test_small_stack();
     printf("%d passed, %d failed\n", passed, failed);

@@ -83,6 +83,23 @@ static void hold_lines(const uint8_t *table, size_t len, int32_t first, uint32_t
     hold(l.from_entries <= count && l.whole <= 1 && (!l.whole || l.from_entries == count), "instructions from entries");
 }
 
+/* A repaired table is whole, and a second repair changes nothing. */
+static void hold_salvage(const uint8_t *table, size_t len, int32_t first, uint32_t count) {
+    const uint8_t *at = lend_bytes(&inputs, table, len);
+    size_t room = len + count / 8 + 1;
+    uint8_t *out = lend_bytes(&outs, NULL, room);
+    sill_salvaged_t s = sill_salvage(at, len, first, count, out, room);
+    hold(!s.refusal && s.written <= room && all_zero(out + s.written, room - s.written), "a repair");
+    hold(s.dropped <= len && s.covered <= count && s.shortened <= 1, "a repair's list");
+    uint8_t *again = lend_bytes(&outs2, NULL, s.written);
+    sill_salvaged_t t = sill_salvage(out, s.written, first, count, again, s.written);
+    hold(t.written == s.written && !t.dropped && !t.shortened && !t.covered, "a second repair");
+    hold(!memcmp(out, again, s.written), "a second repair changes a table");
+    uint32_t *records = lend_words(&records_a, 4 * (size_t)count);
+    sill_located_t l = sill_locate(again, s.written, first, count, records, 4 * (size_t)count);
+    hold(!l.refusal && l.whole && l.from_entries == count, "a repaired table is not whole");
+}
+
 /* The leaf of each node, the line table of each node of bytes, on stores that a reading made. */
 static void ask_nodes(const reading *r) {
     uint32_t used = r->answer.nodes, most = used < 64 ? used : 64;
@@ -154,6 +171,7 @@ static void others(const uint8_t *data, size_t len) {
     for (size_t i = 0; i < len; i++) sum = sum * 31 + data[i];
     memcpy(&first, len >= 4 ? data : (const uint8_t *)"\1\0\0\0", 4);
     hold_lines(data, len, sum % 2 ? (int32_t)first : 1, sum % 300, NULL);
+    hold_salvage(data, len, sum % 2 ? (int32_t)first : 1, sum % 300);
     uint32_t *list[5];
     size_t names = len < 512 ? len : 512;
     for (int i = 0; i < 5; i++) list[i] = lend_words(&lists[i], names - (names && sum % 7 == (uint32_t)i));

@@ -2,15 +2,19 @@
 -- writing all zero. By cases of the definition that each contract cites, with Numbers. Assumes nothing.
 use mathlib.Core.Path.{_≡_, refl, ap, _∙_}
 use Prim.Native.Nat.{ℕ, _/_, min}
-use mathlib.Core.Bool.{Bool}
+use mathlib.Core.Bool.{Bool, true, false}
 use mathlib.Core.List.{List}
 use mathlib.Core.Option.{none, some}
+use native.Mathlib.Omega.{arith}
+use lib.Dec.{ltb}
 use lib.ListN.{length, replicate}
 use mir.Syntax.{w32}
 use mir.Val.{ofZ}
 use base.Logic.{emp, id⊢}
 use contract.Monad.{fact-mono}
 use denote.Ref.{now}
+use Rattle.refusals.specs.Numbers.{inputTooLong, noRoom}
+use Rattle.refusals.specs.Limits.{mostBytes}
 use Rattle.grammar.specs.Reading.{Answer, gives, stops}
 use Rattle.grammar.specs.State.{State}
 use Rattle.grammar.specs.Answer.{outcomeOf, reading, readOf}
@@ -38,12 +42,16 @@ use Rattle.varint.proofs.Refusals.{Told, varint-told, with-start-told}
 use Rattle.output.specs.declared.Wrote.the-variants as wrote
 use Rattle.sillgarland.specs.Leaves.{leafStruct}
 use Rattle.sillgarland.specs.Locals.{splitStruct}
+use Rattle.salvage.specs.Salvage.{salvaged, Account, salvage}
+use Rattle.salvage.specs.Repair.{refusedWith, listed, repair}
 use Rattle.sillgarland.specs.Locations.{locatedStruct}
+use Rattle.sillgarland.specs.Salvage.{salvagedStruct}
 use Rattle.sillgarland.specs.Values.{readStruct, ReadAs, wroteStruct, WroteAs}
 use Rattle.sillgarland.specs.Varints.{writtenAs, foundStruct}
 use Rattle.sillgarland.specs.declared.leaves.SillLeaf.{SillLeaf}
 use Rattle.sillgarland.specs.declared.locals.SillSplit.{SillSplit}
 use Rattle.sillgarland.specs.declared.locations.SillLocated.{SillLocated}
+use Rattle.sillgarland.specs.declared.repairs.SillSalvaged.{SillSalvaged}
 use Rattle.sillgarland.specs.declared.values.SillRead.{SillRead}
 use Rattle.sillgarland.specs.declared.varints.SillWritten.{SillWritten}
 use Rattle.sillgarland.specs.declared.varints.SillFound.{SillFound}
@@ -87,6 +95,20 @@ locations-end : (x : table.Reading) → TabledLines x → (flat left : List ℕ)
 unfolding recordsOf locationsOf
 locations-end (table.done at k whole) t flat left out placed r e h h′ = answers (k, whole) e
 locations-end (table.refused n p) t flat left out placed r e h h′ = refuses n p t e (h, h′)
+
+salvage-ends : (s : List ℕ) (first count : ℕ) (lent left : List ℕ) (r : SillSalvaged) → r ≡ salvagedStruct (repair s first count (length lent) .0) → left ≡ repair s first count (length lent) .1
+    → Ends r (λ (d : ℕ × Account). salvagedStruct (listed (d .0) (d .1))) (λ number place. salvagedStruct (refusedWith number place)) (Zero lent left)
+unfolding repair
+salvage-ends s first count lent left r e h =
+    go (ltb mostBytes (length s)) (ltb mostBytes (length (salvaged s first count))) (ltb (length lent) (length (salvaged s first count))) refl refl refl e h
+  where
+    go : (t u v : Bool) → ltb mostBytes (length s) ≡ t → ltb mostBytes (length (salvaged s first count)) ≡ u → ltb (length lent) (length (salvaged s first count)) ≡ v
+        → r ≡ salvagedStruct (repair s first count (length lent) .0) → left ≡ repair s first count (length lent) .1
+        → Ends r (λ (d : ℕ × Account). salvagedStruct (listed (d .0) (d .1))) (λ number place. salvagedStruct (refusedWith number place)) (Zero lent left)
+    go true u v x y z e h = refuses inputTooLong 0 (omega arith, omega arith) (rw x at e) (rw x at h)
+    go false true v x y z e h = refuses inputTooLong 0 (omega arith, omega arith) (rw (x, y) at e) (rw (x, y) at h)
+    go false false true x y z e h = refuses noRoom (min (length lent) 4294967295) (omega arith, omega arith) (rw (x, y, z) at e) (rw (x, y, z) at h)
+    go false false false x y z e h = answers (length (salvaged s first count), salvage s first count) (rw (x, y, z) at e)
 
 varint-ends : (o : Written × List ℕ) (lent : List ℕ) → TabledStore (length lent) o → (r : SillWritten) (left : List ℕ) → (r, left) ≡ writtenAs o → VarintEnds r (Zero lent left)
 varint-ends (varint.Done count, xs) lent t r left e = answers count (ap (λ x. x .0) e)
@@ -170,6 +192,15 @@ demand-1 =
                 fact-mono 𝓤 _ _ (λ p.
                 locations-end (located (now (a .0)) (firstLine (a .1 .0)) (a .1 .1 .0) room) (located-in-table (now (a .0)) (firstLine (a .1 .0)) (a .1 .1 .0) room)
                 (now (b .0)) (ws .1 .1 .1 .0) (now (b .1 .0)) (ws .1 .1 .1 .1 .0) r (p .0) (p .1) (p .2));
+          };
+      sill-salvage =
+          record {
+            asks-nothing = λ κs a. tt;
+            returns = λ M. sillgarland.repairs.sill_salvage.Met.met;
+            ends =
+                λ c.
+                let a = c .args in
+                salvage-ends (now (a .0)) (firstLine (a .1 .0)) (a .1 .1 .0) (now (a .1 .1 .1 .0)) _ (c .result) (c .meets .0) (c .meets .1);
           };
       sill-split =
           record {

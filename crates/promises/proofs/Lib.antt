@@ -6,6 +6,8 @@ pub mod Lineentry
 pub mod Varint
 pub mod Localsplus
 pub mod Linetable
+pub mod Rows
+pub mod Salvage
 pub mod Stores
 pub mod Fields
 pub mod Soundness
@@ -32,3 +34,4 @@ pub mod Leaves
 pub mod Floats
 pub mod Demand3
 pub mod Substance
+pub mod Requests

@@ -24,12 +24,15 @@ use Rattle.leaf.specs.declared.Answered.the-variants as leaf
 use Rattle.linetable.specs.declared.Located.the-variants as lines
 use Rattle.linetable.specs.Answer.{blank}
 use Rattle.localsplus.specs.declared.Split.the-variants as split
+use Rattle.salvage.specs.Salvage.{Account}
+use Rattle.salvage.specs.Repair.{refusedWith, listed}
 use Rattle.varint.specs.declared.Written.the-variants as varint
 use Rattle.varint.specs.declared.Found.the-variants as found
 use Rattle.output.specs.declared.Wrote.the-variants as wrote
 use Rattle.sillgarland.specs.Leaves.{leafStruct}
 use Rattle.sillgarland.specs.Locals.{splitStruct}
 use Rattle.sillgarland.specs.Locations.{locatedStruct}
+use Rattle.sillgarland.specs.Salvage.{salvagedStruct}
 use Rattle.sillgarland.specs.Values.{readStruct, wroteStruct}
 use Rattle.sillgarland.specs.Varints.{writtenStruct, foundStruct}
 use Rattle.sillgarland.specs.declared.locations.SillLocated.{SillLocated}
@@ -109,6 +112,11 @@ pub record Demand1 : Type 2 where
   pub sill-locations :
       EachCallInModels sillgarland.locations.sill_locations.ended (λ M. sillgarland.locations.sill_locations.clauses) sillgarland.locations.sill_locations.Statement.statement
       (λ κs a r ws. LocateEnds r (Zero (now (a .1 .1 .1 .0)) (ws .1 .1 .1 .0) × (ws .1 .1 .1 .1 .0 ≡ replicate (length (now (a .1 .1 .1 .1 .0))) blank)))
+  pub sill-salvage :
+      EachCall sillgarland.repairs.sill_salvage.ended sillgarland.repairs.sill_salvage.Reads.Asked sillgarland.repairs.sill_salvage.Reads.Learnt sillgarland.repairs.sill_salvage.Statement.statement
+      (λ c.
+      Ends (c .result) (λ (d : ℕ × Account). salvagedStruct (listed (d .0) (d .1))) (λ number place. salvagedStruct (refusedWith number place))
+      (Zero (now (c .args .1 .1 .1 .0)) (c .last .1 .1 .1 .0)))
   pub sill-split :
       EachCall sillgarland.locals.sill_split.ended sillgarland.locals.sill_split.Reads.Asked sillgarland.locals.sill_split.Reads.Learnt sillgarland.locals.sill_split.Statement.statement
       (λ c.

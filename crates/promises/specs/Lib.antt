@@ -10,3 +10,4 @@ pub mod Leaves
 pub mod Floats
 pub mod Demand3
 pub mod Substance
+pub mod Requests

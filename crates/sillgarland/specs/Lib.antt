@@ -1,5 +1,6 @@
 pub mod Varints
 pub mod Locals
 pub mod Locations
+pub mod Salvage
 pub mod Leaves
 pub mod Values

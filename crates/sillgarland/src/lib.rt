@@ -3,5 +3,6 @@
 pub mod leaves;
 pub mod locals;
 pub mod locations;
+pub mod repairs;
 pub mod values;
 pub mod varints;

@@ -6,6 +6,7 @@ use crate::localsplus::{self, split};
 use crate::marshalled::{Marshalled, Module};
 #[cfg(carried)]
 use crate::read;
+use crate::salvage;
 use crate::subject::Subject;
 use crate::tally::Tally;
 use crate::text::{of_hex, of_numbers};
@@ -19,12 +20,14 @@ pub fn hold(text: &str) -> bool {
     let mut exceptions = Tally::new("cpython exceptions");
     let mut values = Tally::new("cpython values");
     let mut nodes = Tally::new("cpython positions by node");
+    let mut repairs = Tally::new("cpython tables repaired, cut at every byte");
     let mut module: Option<Module> = None;
     for row in text.lines().filter(|row| !row.starts_with('#')) {
         let tallied = match row.split(' ').next() {
             Some("lines") => of_lines(row).map(|(ask, said)| {
                 positions.count("code objects, every position alike", hold_positions(&ask, &said));
                 cuts.count("tables cut in the middle, none whole", hold_cut(&ask));
+                salvage::hold_cuts(&mut repairs, &ask);
                 if let Some(module) = &mut module {
                     let held = module.hold_lines(ask.first_line, ask.count, &as_all_shown(&ask, &said));
                     nodes.count("code objects, every position alike", held);
@@ -52,7 +55,7 @@ pub fn hold(text: &str) -> bool {
             positions.count("", Err(format!("malformed: {row}")));
         }
     }
-    [positions, cuts, names, exceptions, values, nodes].map(Tally::finish).iter().all(|held| *held)
+    [positions, cuts, repairs, names, exceptions, values, nodes].map(Tally::finish).iter().all(|held| *held)
 }
 
 fn counted(tally: &mut Tally, class: &'static str, marshalled: Marshalled) -> Option<Module> {

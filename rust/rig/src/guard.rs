@@ -2,10 +2,11 @@
 //! touch, so one byte read or written outside ends the run. The answers are held to the same as without.
 use crate::memory::{Mode, lend};
 use crate::read::Reads;
-use crate::subject::{Carried, held};
+use crate::salvage::{self, Salvages};
+use crate::subject::{Carried, Subject, held};
 use crate::tally::Tally;
 use crate::write::Writes;
-use crate::{hostile, leaf, linetable, localsplus, values, varint, write};
+use crate::{hostile, leaf, linetable, localsplus, random::Random, values, varint, write};
 use std::ptr::null;
 use std::sync::atomic::{AtomicPtr, AtomicUsize, Ordering::SeqCst};
 
@@ -20,6 +21,13 @@ pub fn hold() -> bool {
         ask::<varint::Varints>(&mut tally, "varints", varint::carried_side::asks_to_list());
         let tables = linetable::carried_side::asks_to_list(&[]);
         ask::<linetable::LineTables>(&mut tally, "line tables, as numbers and as structs", tables);
+        let mut random = Random::new(24);
+        for _ in 0..OF_EACH {
+            let asked = salvage::random_ask(&mut random);
+            let answer = salvage::by_the_model(&asked);
+            last_asked(&Salvages::row(&asked, &answer));
+            tally.count("line tables repaired", held::<Salvages>(&asked, &answer));
+        }
         ask::<localsplus::LocalNames>(&mut tally, "splits", localsplus::carried_side::asks_to_list());
         ask::<Reads>(&mut tally, "values read, with their leaves", values::random_inputs(21, OF_EACH));
         last_asked("a writing from a single record");

@@ -12,11 +12,20 @@ pub struct Ask {
 }
 
 pub enum Answer {
-    Refused { number: u32, place: u32 },
+    Refused {
+        number: u32,
+        place: u32,
+    },
     /// A number of 2^32 or more in the entry at `place`: the Rust drops its high bits and shows these records, or panics at
     /// a later entry, and then there are none.
-    Dropped { place: u32, shown: Vec<Location> },
-    Accepted { records: Vec<Location>, origin: Origin },
+    Dropped {
+        place: u32,
+        shown: Vec<Location>,
+    },
+    Accepted {
+        records: Vec<Location>,
+        origin: Origin,
+    },
 }
 
 #[derive(Clone, Copy)]
@@ -268,7 +277,9 @@ pub mod carried_side {
         let behind = (0..=1).flat_map(strings_of).chain((0..=255).map(|sixth| vec![sixth, 0x3C]));
         let numbers = behind.flat_map(|behind| [0x40, 0x7F].map(|five| [vec![five; 5], behind.clone()].concat()));
         let tables = numbers.flat_map(|number| [&[0xE8][..], &[0xF0, 0, 0, 0]].map(|entry| [entry, &number].concat()));
-        tables.flat_map(|table| [10, 1, i32::MIN, i32::MAX].map(|first_line| Ask { table: table.clone(), first_line, count: 1 }))
+        tables.flat_map(|table| {
+            [10, 1, i32::MIN, i32::MAX].map(|first_line| Ask { table: table.clone(), first_line, count: 1 })
+        })
     }
 
     /// Of one round of the long form: all tables of three bytes for another first line and count, then random ones.

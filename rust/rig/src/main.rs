@@ -30,6 +30,7 @@ mod random;
 mod read;
 mod reading;
 mod record;
+mod salvage;
 #[cfg(carried)]
 mod shape;
 mod shares;
@@ -57,6 +58,7 @@ use linetable::LineTables;
 use localsplus::LocalNames;
 use options::{Options, Task, USAGE};
 use read::Reads;
+use salvage::Salvages;
 use std::process::ExitCode;
 use stores::{Leaves, ReadStores};
 use subject::replay;
@@ -134,6 +136,7 @@ fn without_the_rust() -> Result<bool, String> {
     Ok(all([
         leaf::hold(11, values::random_inputs(12, 250_000)),
         hostile::hold(15, 1_500_000),
+        salvage::hold(16, 400_000),
         sweep::hold(13, || values::inputs_to_sweep(14, 200_000).chain(found.iter().cloned())),
     ]))
 }
@@ -151,7 +154,7 @@ fn replay_answers() -> bool {
         |folder| all([replay::<Varints>(folder), replay::<LineTables>(folder), replay::<LocalNames>(folder)]);
     let fixed = all([replay_all("fixed"), replay::<Reads>("fixed"), replay::<Writes>("fixed")]);
     let vectors = all([replay_all("vectors"), replay::<ReadStores>("vectors"), replay::<Leaves>("vectors")]);
-    let written = replay::<WriteStores>("vectors");
+    let written = all([replay::<WriteStores>("vectors"), replay::<Salvages>("vectors")]);
     all([fixed, vectors, written])
 }
 

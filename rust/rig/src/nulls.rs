@@ -1,7 +1,7 @@
 //! A null pointer with length 0 is an empty slice: every exported function, called so, answers as for no bytes and no room.
 use crate::tally::Tally;
-use sillgarland_sys::{Found, Leaf, Located, Read, Split, Written, refusals};
-use sillgarland_sys::{sill_leaf, sill_locate_node, sill_read, sill_write};
+use sillgarland_sys::{Found, Leaf, Located, Read, Salvaged, Split, Written, refusals};
+use sillgarland_sys::{sill_leaf, sill_locate_node, sill_read, sill_salvage, sill_write};
 use sillgarland_sys::{sill_locate, sill_locations, sill_read_varint, sill_read_varint_with_start, sill_split};
 use sillgarland_sys::{
     sill_write_signed_varint, sill_write_varint, sill_write_varint_be, sill_write_varint_with_start,
@@ -28,6 +28,16 @@ pub fn hold() -> bool {
         count(&mut tally, "sill_read_varint_with_start", sill_read_varint_with_start(n, 0, 0), none);
         count(&mut tally, "sill_locate", sill_locate(n, 0, 1, 0, w, 0), no_instructions);
         count(&mut tally, "sill_locations", sill_locations(n, 0, 1, 0, w, 0, null_mut(), 0), no_instructions);
+        let empty = Salvaged {
+            refusal: refusals::ACCEPTED,
+            place: 0,
+            written: 0,
+            kept: 0,
+            dropped: 0,
+            shortened: 0,
+            covered: 0,
+        };
+        count(&mut tally, "sill_salvage", sill_salvage(n, 0, 1, 0, m, 0), empty);
         let split = sill_split(n, 0, 0, 0, 0, 0, w, 0, w, 0, w, 0, w, 0, w, 0);
         count(&mut tally, "sill_split", split, no_names);
         count(&mut tally, "sill_read", sill_read(n, 0, w, 0, w, 0, w, 0, 1), no_object);

@@ -95,6 +95,8 @@ struct Findings {
     values: usize,
     code_objects: usize,
     instructions: usize,
+    /// Instructions of whole tables that an entry says to have no place.
+    without_place: usize,
     refused: Problems,
     not_whole: Problems,
     name_order: Problems,
@@ -137,7 +139,7 @@ impl Findings {
 
     fn add_lines(&mut self, start: usize, code: &Code, records: &mut Records) {
         match code.lines(records) {
-            Ok(Lines::Whole(_)) => {}
+            Ok(Lines::Whole(_)) => self.without_place += code.without_place(),
             Ok(Lines::NotWhole(locations)) => self.not_whole.add(|| not_whole(code, locations)),
             Err(refused) => self.refused.add(|| {
                 let last = last_row(code, code.lines_before(&refused, records));
@@ -175,7 +177,11 @@ impl Findings {
             text::count(self.code_objects, "code object"),
             text::count(self.instructions, "instruction")
         );
-        let accepted = (self.verdict() == Verdict::Accepted).then_some(holds);
+        let without = match self.without_place {
+            0 => String::new(),
+            without => format!(", {without} of them without a place"),
+        };
+        let accepted = (self.verdict() == Verdict::Accepted).then(|| format!("{holds}{without}"));
         let not_whole =
             self.not_whole.told().map(|told| if self.refused.count > 0 { format!("NOT WHOLE: {told}") } else { told });
         let name_order = self.name_order.told();

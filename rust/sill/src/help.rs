@@ -45,7 +45,8 @@ pub const CHECK: Page = Page {
 PATH is a file, or a folder: then every file in it and below is checked, but for names that begin with a dot; links to folders
 are not followed. One line a file, in order:
 
-  accepted   with how many values, code objects and instructions it holds;
+  accepted   with how many values, code objects and instructions it holds, and how many of these its line tables say to have
+             no place: a repair leaves such, and compilers do too;
   refused    with number, name and place, and what is expected there. Places count bytes from the file's start. Bytes after
              the last whole value are a refusal, with the place where they begin. Of a line table that is refused, also the
              code object and the last row that was placed before the refused entry;
@@ -108,6 +109,30 @@ never FILE itself.",
     options: &[Known { short: Some('o'), long: "output", word: Some("OUT"), text: "where to write; must be given" }, HELP],
 };
 
+pub const REPAIR: Page = Page {
+    name: "repair",
+    operands: "FILE",
+    takes: 1..=1,
+    summary: "make whole line tables of those that are cut or damaged",
+    text: "\
+Of each line table that is not whole, the complete entries are kept up to the first that stops, is cut or is refused; the entry
+that runs past the instructions is shortened; the other bytes are dropped, and the instructions that are left get entries that
+say they have no place. The table stands where it stood, with its length field; every other byte of FILE stays. For each code
+object a line says what was kept, dropped, shortened and covered, the first instruction without a line and the last row placed.
+
+A table that is shared is left as it is, and told, where another code object's repair would give other bytes, or where it is
+shared with something that is no line table; then the exit status is 1, and OUT has the others mended. Before OUT is put in
+place it is read back: all values are the same but for the repaired tables, and every table is whole but those told.
+
+A repaired file is not a sound one: what was lost stays lost, and sill check keeps saying how many instructions have no place.",
+    options: &[
+        Known { short: Some('o'), long: "output", word: Some("OUT"), text: "where to write; must be given but for --dry-run" },
+        Known { short: None, long: "dry-run", word: None, text: "say what would be done, and write nothing" },
+        Known { short: None, long: "json", word: None, text: "as JSON, for machines" },
+        HELP,
+    ],
+};
+
 pub const DIFF: Page = Page {
     name: "diff",
     operands: "A B",
@@ -120,7 +145,7 @@ differ, the first difference is shown: the path that leads to it, and the place 
     options: &[HELP],
 };
 
-const PAGES: [&Page; 5] = [&CHECK, &SHOW, &LINES, &WRITE, &DIFF];
+const PAGES: [&Page; 6] = [&CHECK, &SHOW, &LINES, &WRITE, &REPAIR, &DIFF];
 
 impl Page {
     /// The option that goes by this name, dashes included.

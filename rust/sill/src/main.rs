@@ -7,6 +7,7 @@ mod files;
 mod help;
 mod lines;
 mod options;
+mod repair;
 mod show;
 mod terminal;
 mod text;
@@ -37,11 +38,12 @@ impl From<Outcome> for ExitCode {
 
 type Command = fn(&Arguments, &mut dyn Write) -> io::Result<Outcome>;
 
-const COMMANDS: [(&Page, Command); 5] = [
+const COMMANDS: [(&Page, Command); 6] = [
     (&help::CHECK, check::run),
     (&help::SHOW, show::run),
     (&help::LINES, lines::run),
     (&help::WRITE, write::run),
+    (&help::REPAIR, repair::run),
     (&help::DIFF, diff::run),
 ];
 

@@ -34,7 +34,7 @@ pub fn run(arguments: &Arguments, out: &mut dyn Write) -> io::Result<Outcome> {
 }
 
 /// OUT may be a file, but not the one that is read, by whatever name; and no device or folder.
-fn may_be_replaced(path: &Path, target: &Path) -> io::Result<()> {
+pub fn may_be_replaced(path: &Path, target: &Path) -> io::Result<()> {
     let Ok(there) = fs::metadata(target) else { return Ok(()) };
     if !there.is_file() {
         return Err(io::Error::other("is there, and is no file"));
@@ -86,7 +86,7 @@ fn out_of_order(golden: Golden) -> String {
 }
 
 /// Writes beside the place, then renames: OUT is there as a whole or not at all.
-fn put_in_place(target: &Path, written: &[u8]) -> io::Result<()> {
+pub fn put_in_place(target: &Path, written: &[u8]) -> io::Result<()> {
     let part = beside(target)?;
     let mut file = File::create_new(&part)?;
     let done = file.write_all(written).and_then(|()| file.sync_all()).and_then(|()| fs::rename(&part, target));

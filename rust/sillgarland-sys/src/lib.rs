@@ -47,6 +47,19 @@ pub struct Location {
     pub end_column: u32,
 }
 
+/// What a repair of a line table wrote, and its list.
+#[repr(C)]
+#[derive(Clone, Copy, Debug, PartialEq, Eq)]
+pub struct Salvaged {
+    pub refusal: u32,
+    pub place: u32,
+    pub written: u32,
+    pub kept: u32,
+    pub dropped: u32,
+    pub shortened: u32,
+    pub covered: u32,
+}
+
 /// What splitting local names answers: how many of each kind, and whether the cell-to-argument list is present.
 #[repr(C)]
 #[derive(Clone, Copy, Debug, PartialEq, Eq)]
@@ -109,6 +122,14 @@ unsafe extern "C" {
         out: *mut Location,
         out_len: usize,
     ) -> Located;
+    pub fn sill_salvage(
+        table: *const u8,
+        table_len: usize,
+        first_line: i32,
+        count: u32,
+        out: *mut u8,
+        out_len: usize,
+    ) -> Salvaged;
     pub fn sill_split(
         kinds: *const u8,
         kinds_len: usize,

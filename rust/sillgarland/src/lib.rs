@@ -36,6 +36,7 @@ mod golden;
 mod lines;
 mod reader;
 mod refusal;
+mod salvage;
 mod same;
 mod value;
 mod write;
@@ -45,6 +46,7 @@ pub use golden::Golden;
 pub use lines::{Lines, Located, Location, Locations, Records};
 pub use reader::Reader;
 pub use refusal::{Place, Refusal, Refused};
+pub use salvage::{Salvaged, salvage};
 pub use same::{Difference, Path, Step, What, first_difference};
 pub use value::{Children, Content, Text, Value, Wide};
 

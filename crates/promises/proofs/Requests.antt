@@ -1,0 +1,6 @@
+-- What document 02's requests promise: the theorem of each request's own crate. Assumes nothing.
+use Rattle.salvage.proofs.Promised.{salvage-keeps-its-promises}
+use Rattle.promises.specs.Requests.{Requests}
+
+pub requests-promised : Requests
+requests-promised = record { repair = salvage-keeps-its-promises }

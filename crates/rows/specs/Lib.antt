@@ -1,0 +1,3 @@
+pub mod Row
+pub mod Spells
+pub mod Summary

@@ -1,0 +1,132 @@
+//! The repair of a line table that is cut or damaged: a whole one, and a list of what was changed.
+use crate::{Code, MOST_BYTES, Place, Refusal, Refused};
+
+/// A repaired line table, and what was changed to make it whole.
+///
+/// Kept entries give the locations that they gave before. A covered instruction has an entry that says it has no place: the
+/// table is whole, and what was lost stays lost.
+///
+/// ```
+/// let salvaged = sillgarland::salvage(&[0xE9, 0x02], 10, 3)?; // two of three instructions are placed
+/// assert_eq!(salvaged.table, [0xE9, 0x02, 0xF8]);
+/// assert_eq!((salvaged.kept, salvaged.dropped, salvaged.shortened, salvaged.covered), (1, 0, false, 1));
+/// # Ok::<(), sillgarland::Refused>(())
+/// ```
+#[derive(Clone, Debug, PartialEq, Eq)]
+pub struct Salvaged {
+    /// The whole table.
+    pub table: Vec<u8>,
+    /// How many entries of the old table it has, a shortened one included.
+    pub kept: usize,
+    /// How many bytes stood behind the last of them.
+    pub dropped: usize,
+    /// Whether the last of them stands for fewer instructions than it did.
+    pub shortened: bool,
+    /// How many instructions got an entry without a place.
+    pub covered: usize,
+}
+
+/// Repairs a line table for so many instructions, from a first line. Only a table or a result above [`MOST_BYTES`] is refused.
+pub fn salvage(table: &[u8], first_line: i32, count: u32) -> Result<Salvaged, Refused> {
+    let room = table.len().saturating_add(count.div_ceil(8) as usize).min(MOST_BYTES);
+    let mut out = vec![0; room];
+    // SAFETY: two slices of their own, each handed on by its pointer and its length.
+    let answer = unsafe {
+        sillgarland_sys::sill_salvage(table.as_ptr(), table.len(), first_line, count, out.as_mut_ptr(), out.len())
+    };
+    Refused::unless_accepted(answer.refusal, |refusal| match refusal {
+        Refusal::NoRoom => Place::Room(answer.place),
+        _ => Place::Byte(answer.place as usize),
+    })?;
+    out.truncate(answer.written as usize);
+    Ok(Salvaged {
+        table: out,
+        kept: answer.kept as usize,
+        dropped: answer.dropped as usize,
+        shortened: answer.shortened == 1,
+        covered: answer.covered as usize,
+    })
+}
+
+impl Code<'_> {
+    /// Its line table, repaired for its instructions.
+    pub fn salvaged(&self) -> Result<Salvaged, Refused> {
+        salvage(self.line_table().bytes(), self.first_line(), self.instructions() as u32)
+    }
+
+    /// How many of its instructions an entry of its line table says to have no place, up to a stop or a cut. A repair makes
+    /// such entries; compilers do too.
+    pub fn without_place(&self) -> usize {
+        let (table, count) = (self.line_table().bytes(), self.instructions());
+        let (mut at, mut left, mut without) = (0, count, 0);
+        while let Some(head) = table.get(at).filter(|head| left > 0 && **head >= 0x80) {
+            let (code, instructions) = (head >> 3 & 15, (usize::from(head & 7) + 1).min(left));
+            at = end_of_entry(table, at + 1, code);
+            left -= instructions;
+            without += if code == 15 { instructions } else { 0 };
+        }
+        without
+    }
+}
+
+/// Where an entry of this code ends whose other bytes begin at a place.
+fn end_of_entry(table: &[u8], at: usize, code: u8) -> usize {
+    let numbers = match code {
+        0..=9 => return at + 1,
+        10..=12 => return at + 2,
+        13 => 1,
+        14 => 4,
+        _ => 0,
+    };
+    (0..numbers).fold(at, |at, _| {
+        let more = table.get(at..).unwrap_or_default().iter().take_while(|byte| **byte & 0x40 != 0).count();
+        at + more + 1
+    })
+}
+
+#[cfg(test)]
+mod tests {
+    use super::*;
+    use crate::Reader;
+    use crate::code::tests::put_code;
+
+    fn list(table: &[u8], first_line: i32, count: u32) -> (Vec<u8>, usize, usize, bool, usize) {
+        let Salvaged { table, kept, dropped, shortened, covered } = salvage(table, first_line, count).unwrap();
+        (table, kept, dropped, shortened, covered)
+    }
+
+    #[test]
+    fn what_is_kept_dropped_shortened_and_covered() {
+        assert_eq!(list(&[0xE9, 0x02], 10, 2), (vec![0xE9, 0x02], 1, 0, false, 0));
+        assert_eq!(list(&[0xE9, 0x02, 0xF8], 10, 1), (vec![0xE8, 0x02], 1, 1, true, 0));
+        assert_eq!(list(&[0xE9, 0x02, 0xD8, 0x04], 10, 13), (vec![0xE9, 0x02, 0xFF, 0xFA], 1, 2, false, 11));
+        assert_eq!(list(&[0xE9, 0x02, 0x00, 0xF8], 10, 3), (vec![0xE9, 0x02, 0xF8], 1, 2, false, 1));
+        assert_eq!(list(&[0xF8], 10, 0), (vec![], 0, 1, false, 0));
+    }
+
+    /// A complete entry that is refused is not kept, even past the count; a cut one is dropped, even past the count.
+    #[test]
+    fn refused_and_cut_entries() {
+        assert_eq!(list(&[0xDF, 0x00, 0x00], i32::MAX, 1), (vec![0xF8], 0, 3, false, 1));
+        assert_eq!(list(&[0xDF, 0x00], 10, 1), (vec![0xF8], 0, 2, false, 1));
+        assert_eq!(list(&[0xD8, 0x00, 0x00, 0x80, 0x00], 1, 2).0, [0xD8, 0x00, 0x00, 0x80, 0x00]);
+        assert_eq!(list(&[0xD8, 0x00, 0x00, 0x80, 0x00], i32::MAX, 2).0, [0xF9]);
+    }
+
+    #[test]
+    fn too_many_instructions_are_refused() {
+        let refused = salvage(&[], 1, u32::MAX).unwrap_err();
+        assert_eq!(refused, Refused { refusal: Refusal::InputTooLong, place: Place::Byte(0) });
+    }
+
+    #[test]
+    fn instructions_without_a_place() {
+        let table = [0xE9, 0x02, 0xFA, 0xF0, 0x40, 0x01, 0x00, 0x00, 0x00, 0xF9];
+        for (instructions, without) in [(8, 5), (7, 4), (2, 0), (0, 0), (20, 5)] {
+            let input = put_code(instructions, &[], &[], 10, &table);
+            let mut reader = Reader::new();
+            let code = reader.read(&input).unwrap().root().as_code().unwrap();
+            assert_eq!(code.without_place(), without, "{instructions}");
+        }
+    }
+}
