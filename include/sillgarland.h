@@ -106,6 +106,22 @@ sill_located_t sill_locations(const uint8_t *table, size_t table_len, int32_t fi
                               uint32_t *flat, size_t flat_len, sill_location_t *out, size_t out_len);
 
 typedef struct {
+    uint32_t refusal; /* as sill_located_t's; 17's place is sources_len */
+    uint32_t place;
+    uint32_t from_entries; /* how many instructions have bit 1 */
+    uint32_t with_line;    /* bit 2 */
+    uint32_t with_columns; /* bits 2, 4 and 8 together */
+    uint32_t sure;         /* bits 2 and 16 without 32 */
+} sill_sourced_t;
+
+/* Where each instruction's place comes from, for the places that sill_locate shows. A byte an instruction, 0 where it is left
+ * over, else the sum of: 1 from an entry; 2 the entry has a line (any code but 15); 4 it has a column and 8 an end column;
+ * 16 it has a line, and line and end line are above 0 as stored; 32 a byte of the entry is missing. The capacity is
+ * sources_len. With 1 and 2 and without 16 a line or end line of 1 was not stored so. */
+sill_sourced_t sill_sources(const uint8_t *table, size_t table_len, int32_t first_line, uint32_t count, uint8_t *sources,
+                            size_t sources_len);
+
+typedef struct {
     uint32_t refusal; /* 14: the table, or the repaired one, is too long, at 0; 17: no room, place is out_len, which counts as
                          at most 4,294,967,295 */
     uint32_t place;

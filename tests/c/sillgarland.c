@@ -137,6 +137,24 @@ static void test_writing(void)
 
 /* ---- line tables */
 
+/* A line step, an entry without a place, one whose only byte is missing, and one left over. */
+static void test_sources(void)
+{
+    uint8_t sources[6];
+    memset(sources, 7, sizeof sources);
+    sill_sourced_t told = sill_sources((const uint8_t *)"\xE9\x02\xF8", 3, 10, 4, sources, 6);
+    expect(told.refusal == 0 && told.from_entries == 3 && told.with_line == 2 && told.with_columns == 0, "two with a line");
+    expect(told.sure == 2 && memcmp(sources, "\x13\x13\x01\0\0\0", 6) == 0, "no place, then left over, then zeros");
+    told = sill_sources((const uint8_t *)"\xE8", 1, 10, 1, sources, 6);
+    expect(told.from_entries == 1 && told.with_line == 1 && told.sure == 0 && sources[0] == 51, "a cut entry is not sure");
+    told = sill_sources((const uint8_t *)"\xE8\x1B", 2, 10, 1, sources, 6);
+    expect(told.with_line == 1 && told.sure == 0 && sources[0] == 3, "line -3, shown as 1");
+    memset(sources, 7, sizeof sources);
+    told = sill_sources((const uint8_t *)"\xE9\x02", 2, 10, 3, sources, 2);
+    expect(told.refusal == 17 && told.place == 2 && told.from_entries == 0, "no room for a byte each");
+    expect(memcmp(sources, "\0\0\x07", 3) == 0, "and the two lent bytes are zero");
+}
+
 /* Document 01's table for three instructions, then for one; then a table cut inside its second entry. */
 static void test_salvage(void)
 {
@@ -273,6 +291,7 @@ int main(void)
     test_writing();
     test_lines();
     test_salvage();
+    test_sources();
     test_split();
     test_small_stack();
     printf("%d passed, %d failed\n", passed, failed);

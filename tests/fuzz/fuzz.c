@@ -83,6 +83,21 @@ static void hold_lines(const uint8_t *table, size_t len, int32_t first, uint32_t
     hold(l.from_entries <= count && l.whole <= 1 && (!l.whole || l.from_entries == count), "instructions from entries");
 }
 
+/* Beside the records: refused alike; bytes of 1 or more exactly below from_entries; a 1 that was not stored is told. */
+static void hold_sources(const uint8_t *table, size_t len, int32_t first, uint32_t count) {
+    const uint8_t *at = lend_bytes(&inputs, table, len);
+    uint32_t *records = lend_words(&records_a, 4 * (size_t)count);
+    sill_located_t l = sill_locate(at, len, first, count, records, 4 * (size_t)count);
+    uint8_t *bytes = lend_bytes(&outs, NULL, count);
+    sill_sourced_t s = sill_sources(at, len, first, count, bytes, count);
+    hold(s.refusal == l.refusal && s.place == l.place && s.from_entries == l.from_entries, "sources beside records");
+    for (uint32_t i = 0; i < count && !s.refusal; i++) {
+        hold((bytes[i] & 1) == (i < l.from_entries) && (bytes[i] & 1 || !bytes[i]), "from an entry or not");
+        hold(!(l.whole && bytes[i] & 32), "a byte is missing in a whole table");
+        hold((bytes[i] & 19) != 3 || records[4 * i] == 1 || records[4 * i + 2] == 1, "a line below 1 that is not shown as 1");
+    }
+}
+
 /* A repaired table is whole, and a second repair changes nothing. */
 static void hold_salvage(const uint8_t *table, size_t len, int32_t first, uint32_t count) {
     const uint8_t *at = lend_bytes(&inputs, table, len);
@@ -171,6 +186,7 @@ static void others(const uint8_t *data, size_t len) {
     for (size_t i = 0; i < len; i++) sum = sum * 31 + data[i];
     memcpy(&first, len >= 4 ? data : (const uint8_t *)"\1\0\0\0", 4);
     hold_lines(data, len, sum % 2 ? (int32_t)first : 1, sum % 300, NULL);
+    hold_sources(data, len, sum % 2 ? (int32_t)first : 1, sum % 300);
     hold_salvage(data, len, sum % 2 ? (int32_t)first : 1, sum % 300);
     uint32_t *list[5];
     size_t names = len < 512 ? len : 512;

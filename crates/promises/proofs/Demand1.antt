@@ -1,6 +1,6 @@
 -- DEMAND 1: no export asks anything; each call returns; and it ends in its answer, or in a refusal of 01's table with every store lent for
 -- writing all zero. By cases of the definition that each contract cites, with Numbers. Assumes nothing.
-use mathlib.Core.Path.{_≡_, refl, ap, _∙_}
+use mathlib.Core.Path.{_≡_, refl, ap, subst, _∙_}
 use Prim.Native.Nat.{ℕ, _/_, min}
 use mathlib.Core.Bool.{Bool, true, false}
 use mathlib.Core.List.{List}
@@ -13,7 +13,7 @@ use mir.Val.{ofZ}
 use base.Logic.{emp, id⊢}
 use contract.Monad.{fact-mono}
 use denote.Ref.{now}
-use Rattle.refusals.specs.Numbers.{inputTooLong, noRoom}
+use Rattle.refusals.specs.Numbers.{accepted, inputTooLong, noRoom}
 use Rattle.refusals.specs.Limits.{mostBytes}
 use Rattle.grammar.specs.Reading.{Answer, gives, stops}
 use Rattle.grammar.specs.State.{State}
@@ -44,20 +44,26 @@ use Rattle.sillgarland.specs.Leaves.{leafStruct}
 use Rattle.sillgarland.specs.Locals.{splitStruct}
 use Rattle.salvage.specs.Salvage.{salvaged, Account, salvage}
 use Rattle.salvage.specs.Repair.{refusedWith, listed, repair}
+use Rattle.sources.specs.declared.Counts.{Counts}
+use Rattle.sources.specs.Marks.{Marks, marked, denied, sources, counts, countsOf, told, answerOf, bytesOf}
+use Rattle.sources.specs.Beside.{Agrees}
+use Rattle.sources.proofs.Beside.{beside-located}
 use Rattle.sillgarland.specs.Locations.{locatedStruct}
 use Rattle.sillgarland.specs.Salvage.{salvagedStruct}
+use Rattle.sillgarland.specs.Sources.{sourcedStruct}
 use Rattle.sillgarland.specs.Values.{readStruct, ReadAs, wroteStruct, WroteAs}
 use Rattle.sillgarland.specs.Varints.{writtenAs, foundStruct}
 use Rattle.sillgarland.specs.declared.leaves.SillLeaf.{SillLeaf}
 use Rattle.sillgarland.specs.declared.locals.SillSplit.{SillSplit}
 use Rattle.sillgarland.specs.declared.locations.SillLocated.{SillLocated}
 use Rattle.sillgarland.specs.declared.repairs.SillSalvaged.{SillSalvaged}
+use Rattle.sillgarland.specs.declared.origins.SillSourced.{SillSourced}
 use Rattle.sillgarland.specs.declared.values.SillRead.{SillRead}
 use Rattle.sillgarland.specs.declared.varints.SillWritten.{SillWritten}
 use Rattle.sillgarland.specs.declared.varints.SillFound.{SillFound}
 use Rattle.sillgarland.proofs as sillgarland
 use Rattle.promises.specs.Calls.{sillWrite}
-use Rattle.promises.specs.Demand1.{Ends, answers, refuses, Zero, LocateEnds, VarintEnds, FoundEnds, Demand1}
+use Rattle.promises.specs.Demand1.{InTable, Ends, answers, refuses, Zero, LocateEnds, VarintEnds, FoundEnds, Demand1}
 use Rattle.promises.proofs.Reading.{writtenBy}
 use Rattle.promises.proofs.Numbers.{Tabled, reading-in-table, leaf-in-table, TabledLines, located-in-table, located-at-in-table, TabledSplit, split-in-table, TabledStore, stored-in-table, signed-in-table, told-in-table, written-in-table}
 
@@ -109,6 +115,22 @@ salvage-ends s first count lent left r e h =
     go false true v x y z e h = refuses inputTooLong 0 (omega arith, omega arith) (rw (x, y) at e) (rw (x, y) at h)
     go false false true x y z e h = refuses noRoom (min (length lent) 4294967295) (omega arith, omega arith) (rw (x, y, z) at e) (rw (x, y, z) at h)
     go false false false x y z e h = answers (length (salvaged s first count), salvage s first count) (rw (x, y, z) at e)
+
+-- `sill_sources` refuses as `sill_locate` does, so with a number of the table
+abbrev TabledMarks : Marks → Type 0
+TabledMarks (marked bytes) = Unit {0}
+TabledMarks (denied number place) = InTable number
+
+marks-in-table : (count : ℕ) (x : table.Reading) (m : Marks) → TabledLines x → Agrees count x m → TabledMarks m
+marks-in-table count x (marked bytes) t g = tt
+marks-in-table count (table.done at k whole) (denied number place) t g = absurd g
+marks-in-table count (table.refused n p) (denied number place) t g = subst InTable (g .0) t
+
+sources-end : (m : Marks) → TabledMarks m → (lent left : List ℕ) (r : SillSourced) → r ≡ sourcedStruct (answerOf m) → left ≡ bytesOf (length lent) m
+    → Ends r (λ (d : Counts). sourcedStruct (told accepted 0 d)) (λ number place. sourcedStruct (told number place (counts 0 0 0 0))) (Zero lent left)
+unfolding bytesOf
+sources-end (marked bytes) t lent left r e h = answers (countsOf bytes) e
+sources-end (denied number place) t lent left r e h = refuses number place t e h
 
 varint-ends : (o : Written × List ℕ) (lent : List ℕ) → TabledStore (length lent) o → (r : SillWritten) (left : List ℕ) → (r, left) ≡ writtenAs o → VarintEnds r (Zero lent left)
 varint-ends (varint.Done count, xs) lent t r left e = answers count (ap (λ x. x .0) e)
@@ -201,6 +223,20 @@ demand-1 =
                 λ c.
                 let a = c .args in
                 salvage-ends (now (a .0)) (firstLine (a .1 .0)) (a .1 .1 .0) (now (a .1 .1 .1 .0)) _ (c .result) (c .meets .0) (c .meets .1);
+          };
+      sill-sources =
+          record {
+            asks-nothing = λ κs a. tt;
+            returns = λ M. sillgarland.origins.sill_sources.Met.met;
+            ends =
+                λ c.
+                let a = c .args in
+                let lent = now (a .1 .1 .1 .0) in
+                let first = firstLine (a .1 .0) in
+                sources-end (sources (now (a .0)) first (a .1 .1 .0) (length lent))
+                (marks-in-table (a .1 .1 .0) (located (now (a .0)) first (a .1 .1 .0) (length lent)) (sources (now (a .0)) first (a .1 .1 .0) (length lent))
+                (located-in-table (now (a .0)) first (a .1 .1 .0) (length lent)) (beside-located .agrees (now (a .0)) first (a .1 .1 .0) (length lent)))
+                lent _ (c .result) (c .meets .0) (c .meets .1);
           };
       sill-split =
           record {

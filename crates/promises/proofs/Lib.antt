@@ -8,6 +8,7 @@ pub mod Localsplus
 pub mod Linetable
 pub mod Rows
 pub mod Salvage
+pub mod Sources
 pub mod Stores
 pub mod Fields
 pub mod Soundness

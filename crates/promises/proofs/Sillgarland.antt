@@ -49,6 +49,9 @@ located-numbers-agrees κs a asked r r′ ws ws′ p p′ = (one p p′, refl)
 pub sill-salvage-agrees : Agree sillgarland.repairs.sill_salvage.ended sillgarland.repairs.sill_salvage.Reads.Asked sillgarland.repairs.sill_salvage.Reads.Learnt
 sill-salvage-agrees κs a asked r r′ ws ws′ p p′ = (one (p .0) (p′ .0), λ i. (tt, (tt, (tt, (one (p .1) (p′ .1) i, tt)))))
 
+pub sill-sources-agrees : Agree sillgarland.origins.sill_sources.ended sillgarland.origins.sill_sources.Reads.Asked sillgarland.origins.sill_sources.Reads.Learnt
+sill-sources-agrees κs a asked r r′ ws ws′ p p′ = (one (p .0) (p′ .0), λ i. (tt, (tt, (tt, (one (p .1) (p′ .1) i, tt)))))
+
 pub sill-read-agrees : Agree sillgarland.values.sill_read.ended sillgarland.values.sill_read.Reads.Asked sillgarland.values.sill_read.Reads.Learnt
 sill-read-agrees κs a asked r r′ ws ws′ p p′ = (
   one (p .numbers) (p′ .numbers),

@@ -26,6 +26,8 @@ use Rattle.linetable.specs.Answer.{blank}
 use Rattle.localsplus.specs.declared.Split.the-variants as split
 use Rattle.salvage.specs.Salvage.{Account}
 use Rattle.salvage.specs.Repair.{refusedWith, listed}
+use Rattle.sources.specs.declared.Counts.{Counts}
+use Rattle.sources.specs.Marks.{counts, told}
 use Rattle.varint.specs.declared.Written.the-variants as varint
 use Rattle.varint.specs.declared.Found.the-variants as found
 use Rattle.output.specs.declared.Wrote.the-variants as wrote
@@ -33,6 +35,7 @@ use Rattle.sillgarland.specs.Leaves.{leafStruct}
 use Rattle.sillgarland.specs.Locals.{splitStruct}
 use Rattle.sillgarland.specs.Locations.{locatedStruct}
 use Rattle.sillgarland.specs.Salvage.{salvagedStruct}
+use Rattle.sillgarland.specs.Sources.{sourcedStruct}
 use Rattle.sillgarland.specs.Values.{readStruct, wroteStruct}
 use Rattle.sillgarland.specs.Varints.{writtenStruct, foundStruct}
 use Rattle.sillgarland.specs.declared.locations.SillLocated.{SillLocated}
@@ -116,6 +119,11 @@ pub record Demand1 : Type 2 where
       EachCall sillgarland.repairs.sill_salvage.ended sillgarland.repairs.sill_salvage.Reads.Asked sillgarland.repairs.sill_salvage.Reads.Learnt sillgarland.repairs.sill_salvage.Statement.statement
       (λ c.
       Ends (c .result) (λ (d : ℕ × Account). salvagedStruct (listed (d .0) (d .1))) (λ number place. salvagedStruct (refusedWith number place))
+      (Zero (now (c .args .1 .1 .1 .0)) (c .last .1 .1 .1 .0)))
+  pub sill-sources :
+      EachCall sillgarland.origins.sill_sources.ended sillgarland.origins.sill_sources.Reads.Asked sillgarland.origins.sill_sources.Reads.Learnt sillgarland.origins.sill_sources.Statement.statement
+      (λ c.
+      Ends (c .result) (λ (d : Counts). sourcedStruct (told accepted 0 d)) (λ number place. sourcedStruct (told number place (counts 0 0 0 0)))
       (Zero (now (c .args .1 .1 .1 .0)) (c .last .1 .1 .1 .0)))
   pub sill-split :
       EachCall sillgarland.locals.sill_split.ended sillgarland.locals.sill_split.Reads.Asked sillgarland.locals.sill_split.Reads.Learnt sillgarland.locals.sill_split.Statement.statement

@@ -1,6 +1,10 @@
--- What document 02's requests promise, each on a page of its own crate, over the definitions that the exports' contracts cite.
+-- What document 02's requests, and the sources of rows beside them, promise, each on a page of its own crate, over the definitions that the
+-- exports' contracts cite.
 use Rattle.salvage.specs.Promised.{Promised as RepairPromised}
+use Rattle.sources.specs.Beside.{BesideLocated}
 
 pub record Requests : Type 0 where
   -- K9: "a repair that takes a table, first line and instruction count and makes a whole one"
   pub repair : RepairPromised
+  -- the bytes of `sill_sources` beside the places of `sill_locate`
+  pub sources : BesideLocated

@@ -3,6 +3,7 @@
 pub mod leaves;
 pub mod locals;
 pub mod locations;
+pub mod origins;
 pub mod repairs;
 pub mod values;
 pub mod varints;

@@ -3,6 +3,7 @@
 use crate::memory::{Mode, lend};
 use crate::read::Reads;
 use crate::salvage::{self, Salvages};
+use crate::sources::{self, Sources};
 use crate::subject::{Carried, Subject, held};
 use crate::tally::Tally;
 use crate::write::Writes;
@@ -27,6 +28,12 @@ pub fn hold() -> bool {
             let answer = salvage::by_the_model(&asked);
             last_asked(&Salvages::row(&asked, &answer));
             tally.count("line tables repaired", held::<Salvages>(&asked, &answer));
+        }
+        for _ in 0..OF_EACH {
+            let asked = sources::random_ask(&mut random);
+            let answer = sources::by_the_model(&asked);
+            last_asked(&Sources::row(&asked, &answer));
+            tally.count("sources of instructions", held::<Sources>(&asked, &answer));
         }
         ask::<localsplus::LocalNames>(&mut tally, "splits", localsplus::carried_side::asks_to_list());
         ask::<Reads>(&mut tally, "values read, with their leaves", values::random_inputs(21, OF_EACH));

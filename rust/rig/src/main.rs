@@ -35,6 +35,7 @@ mod salvage;
 mod shape;
 mod shares;
 mod shrink;
+mod sources;
 mod stack;
 mod stores;
 mod subject;
@@ -59,6 +60,7 @@ use localsplus::LocalNames;
 use options::{Options, Task, USAGE};
 use read::Reads;
 use salvage::Salvages;
+use sources::Sources;
 use std::process::ExitCode;
 use stores::{Leaves, ReadStores};
 use subject::replay;
@@ -137,6 +139,7 @@ fn without_the_rust() -> Result<bool, String> {
         leaf::hold(11, values::random_inputs(12, 250_000)),
         hostile::hold(15, 1_500_000),
         salvage::hold(16, 400_000),
+        sources::hold(17, 400_000),
         sweep::hold(13, || values::inputs_to_sweep(14, 200_000).chain(found.iter().cloned())),
     ]))
 }
@@ -154,7 +157,7 @@ fn replay_answers() -> bool {
         |folder| all([replay::<Varints>(folder), replay::<LineTables>(folder), replay::<LocalNames>(folder)]);
     let fixed = all([replay_all("fixed"), replay::<Reads>("fixed"), replay::<Writes>("fixed")]);
     let vectors = all([replay_all("vectors"), replay::<ReadStores>("vectors"), replay::<Leaves>("vectors")]);
-    let written = all([replay::<WriteStores>("vectors"), replay::<Salvages>("vectors")]);
+    let written = all([replay::<WriteStores>("vectors"), replay::<Salvages>("vectors"), replay::<Sources>("vectors")]);
     all([fixed, vectors, written])
 }
 

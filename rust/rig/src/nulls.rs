@@ -1,7 +1,7 @@
 //! A null pointer with length 0 is an empty slice: every exported function, called so, answers as for no bytes and no room.
 use crate::tally::Tally;
-use sillgarland_sys::{Found, Leaf, Located, Read, Salvaged, Split, Written, refusals};
-use sillgarland_sys::{sill_leaf, sill_locate_node, sill_read, sill_salvage, sill_write};
+use sillgarland_sys::{Found, Leaf, Located, Read, Salvaged, Sourced, Split, Written, refusals};
+use sillgarland_sys::{sill_leaf, sill_locate_node, sill_read, sill_salvage, sill_sources, sill_write};
 use sillgarland_sys::{sill_locate, sill_locations, sill_read_varint, sill_read_varint_with_start, sill_split};
 use sillgarland_sys::{
     sill_write_signed_varint, sill_write_varint, sill_write_varint_be, sill_write_varint_with_start,
@@ -37,6 +37,9 @@ pub fn hold() -> bool {
             shortened: 0,
             covered: 0,
         };
+        let none =
+            Sourced { refusal: refusals::ACCEPTED, place: 0, from_entries: 0, with_line: 0, with_columns: 0, sure: 0 };
+        count(&mut tally, "sill_sources", sill_sources(n, 0, 1, 0, m, 0), none);
         count(&mut tally, "sill_salvage", sill_salvage(n, 0, 1, 0, m, 0), empty);
         let split = sill_split(n, 0, 0, 0, 0, 0, w, 0, w, 0, w, 0, w, 0, w, 0);
         count(&mut tally, "sill_split", split, no_names);

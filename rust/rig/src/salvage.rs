@@ -281,7 +281,7 @@ pub fn hold(seed: u64, random: usize) -> bool {
     tally.finish()
 }
 
-fn short_tables() -> impl Iterator<Item = Vec<u8>> {
+pub fn short_tables() -> impl Iterator<Item = Vec<u8>> {
     let bytes = || 0..=255_u8;
     let two = bytes().flat_map(move |first| bytes().map(move |second| vec![first, second]));
     [Vec::new()].into_iter().chain(bytes().map(|byte| vec![byte])).chain(two)

@@ -47,6 +47,18 @@ pub struct Location {
     pub end_column: u32,
 }
 
+/// How many instructions are from an entry, have a line, have both columns too, and have a row that is sure.
+#[repr(C)]
+#[derive(Clone, Copy, Debug, PartialEq, Eq)]
+pub struct Sourced {
+    pub refusal: u32,
+    pub place: u32,
+    pub from_entries: u32,
+    pub with_line: u32,
+    pub with_columns: u32,
+    pub sure: u32,
+}
+
 /// What a repair of a line table wrote, and its list.
 #[repr(C)]
 #[derive(Clone, Copy, Debug, PartialEq, Eq)]
@@ -122,6 +134,14 @@ unsafe extern "C" {
         out: *mut Location,
         out_len: usize,
     ) -> Located;
+    pub fn sill_sources(
+        table: *const u8,
+        table_len: usize,
+        first_line: i32,
+        count: u32,
+        sources: *mut u8,
+        sources_len: usize,
+    ) -> Sourced;
     pub fn sill_salvage(
         table: *const u8,
         table_len: usize,

@@ -1,0 +1,89 @@
+-- Laws on the counts of bytes: of some behind others, of one byte n times; and on the store of bytes, filled from the front.
+-- Assumes nothing.
+use mathlib.Core.Path.{_≡_, refl, sym, ap, _∙_}
+use mathlib.Core.Bool.{Bool, true, false}
+use mathlib.Core.List.{List, [], _∷_, _++_, append-assoc}
+use Prim.Native.Nat.{ℕ, zero, suc, _+_, _-_, _≤_, _<_}
+use native.Mathlib.Nat.{add-zero, zero-add}
+use native.Mathlib.Numerals.{sub-one, towards-suc, add-one}
+use native.Mathlib.Omega.{arith}
+use lib.ListN.{length, replicate, set, length-append, length-replicate}
+use lib.Seq.{sets}
+use Rattle.clearing.specs.Lent.{zeros, padded}
+use Rattle.sources.specs.declared.Counts.{Counts}
+use Rattle.sources.specs.Marks.{isPlaced, isLined, isSpanned, isSure, counts, share, times, plus, countsOf}
+
+-- ---- counts
+pub counts-eq : {a b c d a′ b′ c′ d′ : ℕ} → a ≡ a′ → b ≡ b′ → c ≡ c′ → d ≡ d′ → counts a b c d ≡ counts a′ b′ c′ d′
+counts-eq p q r t = cc
+
+pub plus-none : (c : Counts) → plus c (counts 0 0 0 0) ≡ c
+plus-none c = counts-eq (omega arith) (omega arith) (omega arith) (omega arith)
+
+none-plus : (c : Counts) → plus (counts 0 0 0 0) c ≡ c
+none-plus c = counts-eq (omega arith) (omega arith) (omega arith) (omega arith)
+
+plus-assoc : (a b c : Counts) → plus a (plus b c) ≡ plus (plus a b) c
+plus-assoc a b c = counts-eq (omega arith) (omega arith) (omega arith) (omega arith)
+
+share-none : (t : Bool) → share 0 t ≡ 0
+share-none true = refl
+share-none false = refl
+
+share-more : (n : ℕ) (t : Bool) → share 1 t + share n t ≡ share (suc n) t
+share-more n true = omega arith
+share-more n false = refl
+
+pub share-most : (n : ℕ) (t : Bool) → share n t ≤ n
+share-most n true = omega arith
+share-most n false = omega arith
+
+-- bytes behind others
+pub counts-append : (xs ys : List ℕ) → countsOf (xs ++ ys) ≡ plus (countsOf xs) (countsOf ys)
+counts-append [] ys = sym (none-plus (countsOf ys))
+counts-append (x ∷ xs) ys = ap (plus (times 1 x)) (counts-append xs ys) ∙ plus-assoc (times 1 x) (countsOf xs) (countsOf ys)
+
+-- one byte n times
+pub times-none : (byte : ℕ) → times 0 byte ≡ counts 0 0 0 0
+times-none byte = counts-eq (share-none (isPlaced byte)) (share-none (isLined byte)) (share-none (isSpanned byte)) (share-none (isSure byte))
+
+times-more : (n byte : ℕ) → plus (times 1 byte) (times n byte) ≡ times (suc n) byte
+times-more n byte = counts-eq (share-more n (isPlaced byte)) (share-more n (isLined byte)) (share-more n (isSpanned byte)) (share-more n (isSure byte))
+
+pub counts-replicate : (n byte : ℕ) → countsOf (replicate n byte) ≡ times n byte
+counts-replicate zero byte = sym (times-none byte)
+counts-replicate (suc n) byte = ap (plus (times 1 byte)) (counts-replicate n byte) ∙ times-more n byte
+
+-- ---- the store
+pub fill-turn : (xs : List ℕ) (j left byte : ℕ) → 0 < left → sets xs j (replicate left byte) ≡ sets (set xs j byte) (j + 1) (replicate (left - 1) byte)
+fill-turn xs j zero byte h = absurd (omega arith)
+fill-turn xs j (suc left) byte h = simp (towards-suc, sub-one)
+
+pub fill-done : (xs : List ℕ) (j left byte : ℕ) → left ≡ 0 → sets xs j (replicate left byte) ≡ xs
+fill-done xs j left byte e = rw e
+
+sets-append : (xs : List ℕ) (j : ℕ) (ys zs : List ℕ) → sets xs j (ys ++ zs) ≡ sets (sets xs j ys) (j + length ys) zs
+sets-append xs j [] zs = rw add-zero
+sets-append xs j (y ∷ ys) zs =
+    let e : j + suc (length ys) ≡ suc j + length ys = omega arith in
+    rw e (sets-append (set xs j y) (suc j) ys zs)
+
+-- bytes stored behind others
+pub stored-after : (xs before after : List ℕ) (i : ℕ) → length before ≡ i → sets (sets xs 0 before) i after ≡ sets xs 0 (before ++ after)
+stored-after xs before after i e =
+    let p : 0 + length before ≡ i = omega arith in
+    sym (sets-append xs 0 before after ∙ rw p)
+
+zeros-more : (k m : ℕ) → zeros k ++ zeros m ≡ zeros (k + m)
+zeros-more zero m = rw zero-add
+zeros-more (suc k) m =
+    let e : suc k + m ≡ suc (k + m) = omega arith in
+    rw e (ap (λ t. 0 ∷ t) (zeros-more k m))
+
+-- zeros behind what was written are as good as the store's own
+pub padded-zeros : (n k : ℕ) (xs : List ℕ) → length xs + k ≤ n → padded n xs ≡ padded n (xs ++ zeros k)
+unfolding padded
+padded-zeros n k xs h =
+    let l : length (xs ++ zeros k) ≡ length xs + k = length-append xs (zeros k) ∙ ap (λ t. length xs + t) (length-replicate k 0) in
+    let m : k + (n - length (xs ++ zeros k)) ≡ n - length xs = omega (arith, l) in
+    sym (append-assoc xs (zeros k) (zeros (n - length (xs ++ zeros k))) ∙ ap (λ t. xs ++ t) (zeros-more k (n - length (xs ++ zeros k)) ∙ ap zeros m))

@@ -1,0 +1,166 @@
+-- The loop of `walk_marks`: what comes of the whole table is what comes of the rest, behind the bytes that are placed. One law for each way on
+-- from a turn. Assumes nothing.
+use mathlib.Core.Path.{_≡_, refl, sym, ap, subst, _∙_}
+use mathlib.Core.List.{List, [], _++_, append-assoc, append-nil}
+use Prim.Native.Nat.{ℕ, zero, suc, _+_, _-_, _≤_, _<_, min}
+use native.Mathlib.Omega.{arith}
+use lib.ListN.{length, replicate, length-append, length-replicate}
+use lib.Seq.{sets, length-sets}
+use borrow.Author.Tests.{eq-eqb, ne-eqb, lt-ltb, le-ltb}
+use Rattle.refusals.specs.Numbers.{accepted, inputTooLong, noRoom, numberRange}
+use Rattle.refusals.specs.Limits.{mostBytes}
+use Rattle.clearing.specs.Lent.{zeros, padded}
+use Rattle.clearing.proofs.Laws.{sets-padded}
+use Rattle.lineentry.specs.declared.Span.{Span}
+use Rattle.lineentry.specs.declared.Entry.{Entry}
+use Rattle.lineentry.specs.declared.Entry.the-variants.{Covers, Stop, OutOfRange}
+use Rattle.lineentry.specs.Entry.{entryAt}
+use Rattle.lineentry.proofs.Entries.{entry-places}
+use Rattle.sources.specs.declared.Counts.{Counts}
+use Rattle.sources.specs.declared.Sourced.{Sourced}
+use Rattle.sources.specs.Source.{sourceOf}
+use Rattle.sources.specs.Marks.{Marks, marked, denied, behind, fromEntry, marks, sources, isPlaced, isLined, isSpanned, isSure, counts, times, plus, countsOf, told, answerOf, bytesOf}
+use Rattle.sources.proofs.Counting.{plus-none, share-most, counts-append, counts-replicate, stored-after, padded-zeros}
+
+-- ---- one turn
+pub marks-ended : (turns : ℕ) (s : List ℕ) (line p left : ℕ) → left ≡ 0 → marks turns s line p left ≡ marked []
+marks-ended zero s line p left e = refl
+marks-ended (suc turns) s line p left e = rw (eq-eqb left 0 e)
+
+marks-entry : (turns : ℕ) (s : List ℕ) (line p left : ℕ) → 0 < left → left ≤ turns → marks turns s line p left ≡ fromEntry (marks (turns - 1) s) s p left (entryAt s line p)
+marks-entry zero s line p left h k = absurd (omega arith)
+marks-entry (suc turns) s line p left h k =
+    let e : suc turns - 1 ≡ turns = omega arith in
+    rw (e, ne-eqb left 0 (λ z. omega arith))
+
+behind-none : (m : Marks) → behind [] m ≡ m
+behind-none (marked bytes) = refl
+behind-none (denied number place) = refl
+
+behind-twice : (xs ys : List ℕ) (m : Marks) → behind xs (behind ys m) ≡ behind (xs ++ ys) m
+behind-twice xs ys (marked bytes) = ap marked (sym (append-assoc xs ys bytes))
+behind-twice xs ys (denied number place) = refl
+
+-- ---- the loop's invariant
+-- The store has n bytes and was cleared where the loop begins; `c` counts what is placed.
+pub record Going (s : List ℕ) (total n : ℕ) (goal : Marks) (xs : List ℕ) (c : Counts) (line at i : ℕ) : Type 0 where
+  pub placed : List ℕ
+  pub count : length placed ≡ i
+  pub upto : i ≤ total
+  pub room : total ≤ n
+  pub same : length xs ≡ n
+  pub holds : xs ≡ sets (zeros n) 0 placed
+  pub tallied : c ≡ countsOf placed
+  pub few-entries : c .«from_entries» ≤ i
+  pub few-lines : c .«with_line» ≤ i
+  pub few-columns : c .«with_columns» ≤ i
+  pub few-sure : c .sure ≤ i
+  pub turns : ℕ
+  pub enough : total - i ≤ turns
+  pub comes : goal ≡ behind placed (marks turns s line at (total - i))
+
+-- the answer r and the store's contents ys are the goal's
+abbrev pub Ends : ℕ → Marks → Sourced → List ℕ → Type 0
+Ends n goal r ys = (r ≡ answerOf goal) × (ys ≡ bytesOf n goal)
+
+ends-marked : (n : ℕ) (goal : Marks) (bytes : List ℕ) (c : Counts) {r : Sourced} {ys : List ℕ} → goal ≡ marked bytes → r ≡ told accepted 0 c → c ≡ countsOf bytes → ys ≡ padded n bytes → Ends n goal r ys
+unfolding bytesOf
+ends-marked n goal bytes c e p q h = rw e (p ∙ ap (told accepted 0) q, h)
+
+pub ends-zero : (n : ℕ) {goal : Marks} {number place : ℕ} {r : Sourced} {ys : List ℕ} → goal ≡ denied number place → (r ≡ told number place (counts 0 0 0 0)) × (ys ≡ zeros n) → Ends n goal r ys
+unfolding bytesOf
+ends-zero n e x = rw e x
+
+-- where the loop begins: the store was passed with n bytes, and is cleared
+pub going-start : (s : List ℕ) (count first n : ℕ) (xs : List ℕ) (c : Counts) → count ≤ n → length xs ≡ n → xs ≡ zeros n → c ≡ counts 0 0 0 0
+    → Going s count (length xs) (marks count s first 0 count) xs c first 0 0
+going-start s count first n xs c h l e q =
+    record {
+      placed = [];
+      count = refl;
+      upto = omega arith;
+      room = omega arith;
+      same = refl;
+      holds = e ∙ ap zeros (sym l);
+      tallied = q;
+      few-entries = rw q (omega arith);
+      few-lines = rw q (omega arith);
+      few-columns = rw q (omega arith);
+      few-sure = rw q (omega arith);
+      turns = count;
+      enough = omega arith;
+      comes =
+          let z : count - 0 ≡ count = omega arith in
+          rw z (sym (behind-none (marks count s first 0 count)));
+    }
+
+-- the store that was passed is as long as the store where the loop begins
+pub at-length : {n k : ℕ} (goal : Marks) {r : Sourced} {ys : List ℕ} → n ≡ k → Ends n goal r ys → Ends k goal r ys
+at-length goal {r} {ys} e x = subst (λ j. Ends j goal r ys) e x
+
+module _ {s : List ℕ} {total n : ℕ} {goal : Marks} {xs : List ℕ} {c : Counts} {line at i : ℕ} (g : Going s total n goal xs c line at i) where
+  at-entry : (e : Entry) → i < total → entryAt s line at ≡ e → goal ≡ behind (g .placed) (fromEntry (marks (g .turns - 1) s) s at (total - i) e)
+  at-entry e h q =
+      g .comes
+      ∙ ap (behind (g .placed)) (marks-entry (g .turns) s line at (total - i) (omega arith) (g .enough) ∙ ap (fromEntry (marks (g .turns - 1) s) s at (total - i)) q)
+
+  -- what is placed, in the cleared store
+  padded-placed : xs ≡ padded n (g .placed)
+  padded-placed = g .holds ∙ sets-padded n (g .placed) (omega (arith, g .count, g .upto, g .room))
+
+  pub ends-stop : {r : Sourced} → i < total → entryAt s line at ≡ Stop → r ≡ told accepted 0 c → Ends n goal r xs
+  ends-stop {r} h q e =
+      ends-marked n goal (g .placed ++ zeros (total - i)) c (at-entry Stop h q) e
+      (g .tallied ∙ sym (counts-append (g .placed) (zeros (total - i)) ∙ ap (plus (countsOf (g .placed))) (counts-replicate (total - i) 0) ∙ plus-none (countsOf (g .placed))))
+      (padded-placed ∙ padded-zeros n (total - i) (g .placed) (omega (arith, g .count, g .upto, g .room)))
+
+  pub ends-refused : {r : Sourced} {ys : List ℕ} → i < total → entryAt s line at ≡ OutOfRange → (r ≡ told numberRange at (counts 0 0 0 0)) × (ys ≡ zeros (length xs)) → Ends n goal r ys
+  ends-refused h q e = ends-zero n (at-entry OutOfRange h q) (e .0, e .1 ∙ ap zeros (g .same))
+
+  pub ends-all : {r : Sourced} → total ≤ i → r ≡ told accepted 0 c → Ends n goal r xs
+  ends-all {r} h e =
+      ends-marked n goal (g .placed ++ []) c (g .comes ∙ ap (behind (g .placed)) (marks-ended (g .turns) s line at (total - i) (omega arith))) e
+      (g .tallied ∙ ap countsOf (sym (append-nil (g .placed)))) (padded-placed ∙ ap (padded n) (sym (append-nil (g .placed))))
+
+  pub goes-on : (x : Span) (ys : List ℕ) (m byte : ℕ) (d : Counts) → i < total → entryAt s line at ≡ Covers x → m ≡ min (x .instructions) (total - i) → byte ≡ sourceOf s at (x .line) (x .missing)
+      → ys ≡ sets xs i (replicate m byte) → d ≡ plus c (times m byte) → Going s total n goal ys d (x .line) (x .next) (i + m)
+  goes-on x ys m byte d h q k b e w =
+      let z : 0 < x .instructions = entry-places s line at x q in
+      let l : total - i - x .instructions ≡ total - (i + m) = omega arith in
+      let more = replicate m byte in
+      record {
+        placed = g .placed ++ more;
+        count = omega (arith, length-append (g .placed) more, length-replicate m byte, g .count);
+        upto = omega (arith, g .upto);
+        room = g .room;
+        same = ap length e ∙ length-sets xs i more ∙ g .same;
+        holds = e ∙ rw (g .holds) (stored-after (zeros n) (g .placed) more i (g .count));
+        tallied = w ∙ rw (g .tallied) (sym (counts-append (g .placed) more ∙ ap (plus (countsOf (g .placed))) (counts-replicate m byte)));
+        few-entries = rw w (omega (arith, g .few-entries, share-most m (isPlaced byte)));
+        few-lines = rw w (omega (arith, g .few-lines, share-most m (isLined byte)));
+        few-columns = rw w (omega (arith, g .few-columns, share-most m (isSpanned byte)));
+        few-sure = rw w (omega (arith, g .few-sure, share-most m (isSure byte)));
+        turns = g .turns - 1;
+        enough = omega (arith, g .enough);
+        comes =
+            rw (← k, ← b, behind-twice (g .placed) more (marks (g .turns - 1) s (x .line) (x .next) (total - i - x .instructions)), l)
+            at (at-entry (Covers x) h q);
+      }
+
+-- ---- the answer of a whole table, case by case: 14, 17, then the walk
+module _ (s : List ℕ) (first count capacity : ℕ) where
+  pub sources-long : mostBytes < length s → sources s first count capacity ≡ denied inputTooLong 0
+  unfolding sources
+  sources-long h = rw (lt-ltb mostBytes (length s) h)
+
+  pub sources-short : length s ≤ mostBytes → capacity < count → sources s first count capacity ≡ denied noRoom capacity
+  unfolding sources
+  sources-short h k = rw (le-ltb mostBytes (length s) h, lt-ltb capacity count k)
+
+  pub sources-walks : length s ≤ mostBytes → count ≤ capacity → sources s first count capacity ≡ marks count s first 0 count
+  unfolding sources
+  sources-walks h k = rw (le-ltb mostBytes (length s) h, le-ltb capacity count k)
+
+pub ends-walk : (s : List ℕ) (first count capacity : ℕ) (n x : ℕ) {r : Sourced} {ys : List ℕ} → length s ≤ mostBytes → count ≤ capacity → x ≡ first
+    → Ends n (marks count s x 0 count) r ys → Ends n (sources s first count capacity) r ys
+ends-walk s first count capacity n x′ h k e x = rw (sources-walks s first count capacity h k, ← e) x

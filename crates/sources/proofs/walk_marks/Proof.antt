@@ -1,0 +1,141 @@
+-- `sources::walk_marks` meets its contract: the loop's invariant is that what is left still comes to the same bytes, and each way out of a
+-- turn is a law of proofs/Going. Assumes nothing.
+use mathlib.Core.Path.{sym, _∙_}
+use Prim.Native.Nat.{_-_}
+use native.Mathlib.Omega.{arith}
+use lib.ListN.{length}
+use Rattle.lineentry.proofs.Entries.{entry-places, refused-inside}
+use Rattle.sources.specs.Marks.{marks}
+use Rattle.sources.proofs.Going.{Going, going-start, at-length, ends-stop, ends-refused, ends-all, goes-on}
+use borrow.Author.Needs.{needs}
+use Rattle.sources.proofs.walk_marks.Statement.{statement}
+use Rattle.sources.proofs.walk_marks.Tie as tie
+use Rattle.sources.proofs.walk_marks.Reads as reads
+use Rattle.sources.proofs.walk_marks.Lts as lts
+use Rattle.clearing.proofs.clear_bytes.Reads as clear-bytes-reads
+use Rattle.lineentry.proofs.read_entry.Reads as read-entry-reads
+use Rattle.sources.proofs.answer.Reads as answer-reads
+use Rattle.sources.proofs.count_more.Reads as count-more-reads
+use Rattle.sources.proofs.fill.Reads as fill-reads
+use Rattle.sources.proofs.none.Reads as none-reads
+use Rattle.sources.proofs.refuse.Reads as refuse-reads
+use Rattle.sources.proofs.smaller.Reads as smaller-reads
+use Rattle.sources.proofs.source_of.Reads as source-of-reads
+
+abbrev Inv-loop : tie.InvT-loop
+Inv-loop table first count bytes₀ total counts₀ line₀ at₀ i₀ bytes counts line at i =
+    Going table count (length bytes₀) (marks count table first 0 count) bytes counts line at i
+
+abbrev μ-loop : tie.MeasureT-loop
+μ-loop table first count bytes₀ total counts₀ line₀ at₀ i₀ bytes counts line at i = count - i
+
+clear-bytes-requires : tie.Need-clear-bytes-requires Inv-loop μ-loop
+clear-bytes-requires c κs = search needs
+
+none-requires : tie.Need-none-requires Inv-loop μ-loop
+none-requires c κs = search needs
+
+loop-holds : tie.Need-loop-holds Inv-loop μ-loop
+loop-holds c = going-start _ _ _ _ _ _ (c .before .before .before .before .before .before .before .pre .1) (c .before .before .before .clear-bytes .kept .0) (c .before .before .before .clear-bytes .ensures) (c .none .ensures)
+
+read-entry-requires : tie.Need-read-entry-requires Inv-loop μ-loop
+read-entry-requires c κs = search needs
+
+enum-told : tie.Need-enum-told Inv-loop μ-loop
+enum-told c = search needs
+
+cast-refuse : tie.Need-cast-refuse Inv-loop μ-loop
+cast-refuse c = omega (arith, refused-inside _ _ _ (sym (c .before .before .before .read-entry .ensures) ∙ c .before .enum-told .given .1))
+
+refuse-requires : tie.Need-refuse-requires Inv-loop μ-loop
+refuse-requires c κs = search needs
+
+same-length : tie.Need-same-length Inv-loop μ-loop
+same-length c = search needs
+
+returns : tie.Need-returns Inv-loop μ-loop
+returns c = at-length _ (c .before .before .before .before .before .before .before .before .before .before .before .before .clear-bytes .kept .0) (ends-refused (c .before .before .before .before .before .before .before .before .loop .inv) (omega arith) (sym (c .before .before .before .before .before .before .read-entry .ensures) ∙ c .before .before .before .before .enum-told .given .1) (c .before .before .refuse .ensures))
+
+enum-told-2 : tie.Need-enum-told-2 Inv-loop μ-loop
+enum-told-2 c = search needs
+
+answer-requires : tie.Need-answer-requires Inv-loop μ-loop
+answer-requires c κs = search needs
+
+same-length-2 : tie.Need-same-length-2 Inv-loop μ-loop
+same-length-2 c = search needs
+
+returns-2 : tie.Need-returns-2 Inv-loop μ-loop
+returns-2 c = at-length _ (c .before .before .before .before .before .before .before .before .before .clear-bytes .kept .0) (ends-stop (c .before .before .before .before .before .loop .inv) (omega arith) (sym (c .before .before .before .read-entry .ensures) ∙ c .before .enum-told2 .given .1) (c .answer .ensures))
+
+enum-known-span : tie.Need-enum-known-span Inv-loop μ-loop
+enum-known-span c = search needs
+
+source-of-requires : tie.Need-source-of-requires Inv-loop μ-loop
+source-of-requires c κs = search needs
+
+sub-smaller : tie.Need-sub-smaller Inv-loop μ-loop
+sub-smaller c = search needs
+
+smaller-requires : tie.Need-smaller-requires Inv-loop μ-loop
+smaller-requires c κs = search needs
+
+fill-requires : tie.Need-fill-requires Inv-loop μ-loop
+fill-requires c κs = search needs
+
+cast-count-more : tie.Need-cast-count-more Inv-loop μ-loop
+cast-count-more c = omega (arith, c .before .before .before .before .smaller .ensures .1, c .before .before .before .before .before .before .before .before .before .before .before .before .before .before .before .before .before .before .before .fits .count)
+
+count-more-requires : tie.Need-count-more-requires Inv-loop μ-loop
+count-more-requires c κs = (omega (arith, c .before .before .before .before .smaller .ensures .1, c .before .before .before .before .before .before .before .before .before .before .before .loop .inv .upto, c .before .before .before .before .before .before .before .before .before .before .before .before .before .before .before .before .before .before .before .fits .count), c .before .before .before .before .before .before .before .before .before .before .before .loop .inv .few-entries, c .before .before .before .before .before .before .before .before .before .before .before .loop .inv .few-lines, c .before .before .before .before .before .before .before .before .before .before .before .loop .inv .few-columns, c .before .before .before .before .before .before .before .before .before .before .before .loop .inv .few-sure)
+
+add-i : tie.Need-add-i Inv-loop μ-loop
+add-i c = omega (arith, c .before .before .before .before .before .smaller .ensures .1, c .before .before .before .before .before .before .before .before .before .before .before .before .loop .inv .upto, c .before .before .before .before .before .before .before .before .before .before .before .before .before .before .before .before .before .before .before .before .fits .count)
+
+loop-less : tie.Need-loop-less Inv-loop μ-loop
+loop-less c = let z = entry-places _ _ _ _ (sym (c .before .before .before .before .before .before .before .before .before .before .read-entry .ensures) ∙ c .before .before .before .before .before .before .before .before .span .given .1) in omega (arith, z, c .before .before .before .before .before .smaller .ensures .0)
+
+loop-again : tie.Need-loop-again Inv-loop μ-loop
+loop-again c = goes-on (c .before .before .before .before .before .before .before .before .before .before .before .before .loop .inv) _ _ _ _ _ (omega arith) (sym (c .before .before .before .before .before .before .before .before .before .before .read-entry .ensures) ∙ c .before .before .before .before .before .before .before .before .span .given .1) (c .before .before .before .before .before .smaller .ensures .0) (c .before .before .before .before .before .before .source-of .ensures) (c .before .before .before .fill .ensures) (c .count-more .ensures)
+
+answer-requires-2 : tie.Need-answer-requires-2 Inv-loop μ-loop
+answer-requires-2 c κs = search needs
+
+same-length-3 : tie.Need-same-length-3 Inv-loop μ-loop
+same-length-3 c = search needs
+
+returns-3 : tie.Need-returns-3 Inv-loop μ-loop
+returns-3 c = at-length _ (c .before .before .before .before .before .before .clear-bytes .kept .0) (ends-all (c .before .before .loop .inv) (omega arith) (c .answer2 .ensures))
+
+pub walk-marks-spec : {M : Type 1} → statement M
+walk-marks-spec =
+    tie.close
+    (tie.spec
+    Inv-loop
+    μ-loop
+    clear-bytes-requires
+    none-requires
+    loop-holds
+    read-entry-requires
+    enum-told
+    cast-refuse
+    refuse-requires
+    same-length
+    returns
+    enum-told-2
+    answer-requires
+    same-length-2
+    returns-2
+    enum-known-span
+    source-of-requires
+    sub-smaller
+    smaller-requires
+    fill-requires
+    cast-count-more
+    count-more-requires
+    add-i
+    loop-less
+    loop-again
+    answer-requires-2
+    same-length-3
+    returns-3)

@@ -1,0 +1,297 @@
+// Where each instruction's place comes from: a byte for each, which tells whether an entry gave it, what the entry has, and whether a byte of
+// the entry was missing. The walk is `linetable`'s, with a byte where that has a record.
+ghost use mathlib.Core.Path.{_≡_};
+ghost use mathlib.Core.Bool.{_&&_, not};
+ghost use Prim.Native.Nat.{_+_, _<_, _≤_, min};
+ghost use lib.ListN.{length, replicate};
+ghost use lib.Seq.{sets};
+ghost use Rattle.refusals.specs.Limits.{mostBytes};
+ghost use Rattle.clearing.specs.Lent.{zeros};
+ghost use Rattle.lineentry.specs.Line.{moved, asSigned};
+ghost use Rattle.linetable.specs.Answer.{firstLine};
+ghost use Rattle.sources.specs.Source.{numberAt, longFrom, longAt, above, aboveAfter, bit, sum, longSource, sourceOf};
+ghost use Rattle.sources.specs.Marks.{marks, sources, has, share, counts, times, plus, told, answerOf, bytesOf};
+use lineentry::Entry;
+use lineentry::Moved;
+use lineentry::Varint;
+
+// 0 as a line is kept.
+const ORIGIN: u32 = 0x8000_0000;
+
+// A number of an entry, and the place after it.
+pub struct Number {
+    pub value: u32,
+    pub next: usize,
+}
+
+// The numbers of code 14 behind its line step.
+pub struct LongForm {
+    pub end_step: u32,
+    pub column: u32,
+    pub end_column: u32,
+}
+
+// How many instructions are from an entry, have a line, have both columns too, and have a row that is sure.
+pub struct Counts {
+    pub from_entries: u32,
+    pub with_line: u32,
+    pub with_columns: u32,
+    pub sure: u32,
+}
+
+// A refusal's number and place, or the counts.
+pub struct Sourced {
+    pub refusal: u32,
+    pub place: u32,
+    pub from_entries: u32,
+    pub with_line: u32,
+    pub with_columns: u32,
+    pub sure: u32,
+}
+
+fn number_at(table: &[u8], at: usize) -> Number
+    ensures { λ r. ⌜ r ≡ numberAt (now (table .entry)) at ⌝ }
+{
+    match lineentry::lt_read_varint(table, at) {
+        Varint::TooLong => Number { value: 0, next: at },
+        Varint::Value {
+            value,
+            next,
+            missing: _,
+        } => Number { value, next },
+    }
+}
+
+// The numbers of code 14 from its end-line step on.
+fn long_from(table: &[u8], at: usize) -> LongForm
+    ensures { λ r. ⌜ r ≡ longFrom (now (table .entry)) at ⌝ }
+{
+    let end = number_at(table, at);
+    let column = number_at(table, end.next);
+    let last = number_at(table, column.next);
+    LongForm {
+        end_step: end.value,
+        column: column.value,
+        end_column: last.value,
+    }
+}
+
+fn long_at(table: &[u8], at: usize) -> LongForm
+    ensures { λ r. ⌜ r ≡ longAt (now (table .entry)) at ⌝ }
+{
+    let step = number_at(table, at);
+    long_from(table, step.next)
+}
+
+fn both(a: bool, b: bool) -> bool
+    ensures { λ r. ⌜ r ≡ (a && b) ⌝ }
+{
+    if a { b } else { false }
+}
+
+fn is_above(line: u32) -> bool
+    ensures { λ r. ⌜ r ≡ above line ⌝ }
+{
+    ORIGIN < line
+}
+
+// The line after a step is above 0.
+fn above_after(line: u32, step: u32) -> bool
+    ensures { λ r. ⌜ r ≡ aboveAfter (moved line (asSigned step)) ⌝ }
+{
+    match lineentry::move_line(line, lineentry::as_signed(step)) {
+        Moved::Outside => false,
+        Moved::To(end) => is_above(end),
+    }
+}
+
+fn weigh(weight: u8, given: bool) -> u8
+    ensures { λ r. ⌜ (r ≡ bit weight given) × (r ≤ weight) ⌝ }
+{
+    if given { weight } else { 0 }
+}
+
+fn sum_of(line: bool, column: bool, end_column: bool, positive: bool, missing: bool) -> u8
+    ensures { λ r. ⌜ r ≡ sum line column «end_column» positive missing ⌝ }
+{
+    let a = weigh(2, line);
+    let b = weigh(4, column);
+    let c = weigh(8, end_column);
+    let d = weigh(16, positive);
+    let e = weigh(32, missing);
+    1 + a + b + c + d + e
+}
+
+// Code 14, whose numbers start at a place: each column is there where its number is not 0.
+fn long_source(table: &[u8], at: usize, line: u32, missing: bool) -> u8
+    ensures { λ r. ⌜ r ≡ longSource (now (table .entry)) at line missing ⌝ }
+{
+    let long = long_at(table, at);
+    let end = above_after(line, long.end_step);
+    let positive = both(is_above(line), end);
+    sum_of(
+        true,
+        0 < long.column,
+        0 < long.end_column,
+        positive,
+        missing,
+    )
+}
+
+// The byte for the entry at a place, which has this line and of which a byte was missing or not.
+fn source_of(table: &[u8], at: usize, line: u32, missing: bool) -> u8
+    ensures { λ r. ⌜ r ≡ sourceOf (now (table .entry)) at line missing ⌝ }
+{
+    let first = lineentry::lt_byte(table, at);
+    let code = first.value as u32 / 8 % 16;
+    if code == 15 {
+        return sum_of(false, false, false, false, missing);
+    }
+    if code == 14 {
+        return long_source(table, first.next, line, missing);
+    }
+    let columns = code < 13;
+    sum_of(true, columns, columns, is_above(line), missing)
+}
+
+fn has_bit(weight: u8, byte: u8) -> bool
+    requires { ⌜ 0 < weight ⌝ }
+    ensures { λ r. ⌜ r ≡ has weight byte ⌝ }
+{
+    byte / weight % 2 == 1
+}
+
+fn share_of(n: u32, given: bool) -> u32
+    ensures { λ r. ⌜ (r ≡ share n given) × (r ≤ n) ⌝ }
+{
+    if given { n } else { 0 }
+}
+
+fn times_of(n: u32, byte: u8) -> Counts
+    ensures { λ r. ⌜ (r ≡ times n byte) × (r .«from_entries» ≤ n) × (r .«with_line» ≤ n) × (r .«with_columns» ≤ n) × (r .sure ≤ n) ⌝ }
+{
+    let line = has_bit(2, byte);
+    let columns = both(has_bit(4, byte), has_bit(8, byte));
+    let sure = both(has_bit(16, byte), !has_bit(32, byte));
+    Counts {
+        from_entries: share_of(n, has_bit(1, byte)),
+        with_line: share_of(n, line),
+        with_columns: share_of(n, both(line, columns)),
+        sure: share_of(n, both(line, sure)),
+    }
+}
+
+// Counts of i instructions, and n more of one byte.
+fn count_more(before: Counts, i: usize, n: u32, byte: u8) -> Counts
+    requires { ⌜ (i + n < 0x100000000) × (before .«from_entries» ≤ i) × (before .«with_line» ≤ i) × (before .«with_columns» ≤ i) × (before .sure ≤ i) ⌝ }
+    ensures { λ r. ⌜ r ≡ plus before (times n byte) ⌝ }
+{
+    let more = times_of(n, byte);
+    Counts {
+        from_entries: before.from_entries + more.from_entries,
+        with_line: before.with_line + more.with_line,
+        with_columns: before.with_columns + more.with_columns,
+        sure: before.sure + more.sure,
+    }
+}
+
+// Stores one byte for n instructions, from one on.
+fn fill(bytes: &mut [u8], from: usize, n: usize, byte: u8)
+    requires { ⌜ from + n ≤ length (now bytes) ⌝ }
+    ensures { λ _. ⌜ now (bytes .exit) ≡ sets (now (bytes .entry)) from (replicate n byte) ⌝ }
+{
+    let mut j = from;
+    let mut left = n;
+    while 0 < left {
+        bytes[j] = byte;
+        j += 1;
+        left -= 1;
+    }
+}
+
+fn answer(refusal: u32, place: u32, counts: Counts) -> Sourced
+    ensures { λ r. ⌜ r ≡ told refusal place counts ⌝ }
+{
+    Sourced {
+        refusal,
+        place,
+        from_entries: counts.from_entries,
+        with_line: counts.with_line,
+        with_columns: counts.with_columns,
+        sure: counts.sure,
+    }
+}
+
+fn none() -> Counts
+    ensures { λ r. ⌜ r ≡ counts 0 0 0 0 ⌝ }
+{
+    Counts {
+        from_entries: 0,
+        with_line: 0,
+        with_columns: 0,
+        sure: 0,
+    }
+}
+
+// A refusal leaves every byte zero.
+fn refuse(bytes: &mut [u8], number: u32, place: u32) -> Sourced
+    ensures { λ r. ⌜ (r ≡ told number place (counts 0 0 0 0)) × (now (bytes .exit) ≡ zeros (length (now (bytes .entry)))) ⌝ }
+{
+    clearing::clear_bytes(bytes);
+    answer(number, place, none())
+}
+
+fn smaller(a: usize, b: usize) -> usize
+    ensures { λ r. ⌜ (r ≡ min a b) × (r ≤ b) ⌝ }
+{
+    if a <= b { a } else { b }
+}
+
+// Gives every instruction its entry's byte, entry by entry; those left over stay zero.
+fn walk_marks(table: &[u8], first: u32, count: u32, bytes: &mut [u8]) -> Sourced
+    requires { ⌜ (length (now table) ≤ mostBytes) × (count ≤ length (now bytes)) ⌝ }
+    ensures { λ r. ⌜ (r ≡ answerOf (marks count (now (table .entry)) first 0 count))
+        × (now (bytes .exit) ≡ bytesOf (length (now (bytes .entry))) (marks count (now (table .entry)) first 0 count)) ⌝ }
+{
+    let total = count as usize;
+    clearing::clear_bytes(bytes);
+    let mut counts = none();
+    let mut line = first;
+    let mut at = 0;
+    let mut i = 0;
+    while i < total {
+        match lineentry::read_entry(table, line, at) {
+            Entry::OutOfRange => {
+                return refuse(bytes, refusals::NUMBER_RANGE, at as u32);
+            }
+            Entry::Stop => {
+                return answer(refusals::ACCEPTED, 0, counts);
+            }
+            Entry::Covers(span) => {
+                let source = source_of(table, at, span.line, span.missing);
+                let n = smaller(span.instructions, total - i);
+                fill(bytes, i, n, source);
+                counts = count_more(counts, i, n as u32, source);
+                i += n;
+                line = span.line;
+                at = span.next;
+            }
+        }
+    }
+    answer(refusals::ACCEPTED, 0, counts)
+}
+
+// A byte for each instruction, from a first line as code objects have it.
+pub fn sources_of_table(table: &[u8], first_line: i32, count: u32, bytes: &mut [u8]) -> Sourced
+    ensures { λ r. ⌜ (r ≡ answerOf (sources (now (table .entry)) (firstLine «first_line») count (length (now (bytes .entry)))))
+        × (now (bytes .exit) ≡ bytesOf (length (now (bytes .entry))) (sources (now (table .entry)) (firstLine «first_line») count (length (now (bytes .entry))))) ⌝ }
+{
+    if (refusals::MOST_BYTES as usize) < table.len() {
+        return refuse(bytes, refusals::INPUT_TOO_LONG, 0);
+    }
+    if bytes.len() < count as usize {
+        return refuse(bytes, refusals::NO_ROOM, bytes.len() as u32);
+    }
+    let first = lineentry::as_signed(signed::bits32(first_line));
+    walk_marks(table, first, count, bytes)
+}
