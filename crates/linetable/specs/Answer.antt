@@ -3,7 +3,7 @@
 use lib.IntN.{ℤ}
 use mathlib.Core.Bool.{cond}
 use mathlib.Core.List.{List, [], _∷_, _++_}
-use Prim.Native.Nat.{ℕ, zero, suc, _+_, _-_, _*_}
+use Prim.Native.Nat.{ℕ, zero, suc, _+_, _-_, _*_, _/_, min}
 use lib.ListN.{length, replicate, getD}
 use lib.Dec.{ltb}
 use mir.Syntax.{w32}
@@ -29,6 +29,10 @@ located s first count capacity =
     cond (ltb mostBytes (length s)) (refused inputTooLong 0)
     (cond (ltb capacity count) (refused noRoom capacity)
     (walk count s (atLine first) first 0 count))
+
+-- where a store of numbers, four an instruction, and a store of locations are lent, the smaller is the capacity
+abbrev pub locatedBoth : (table : List ℕ) → (first : ℤ) → (count : ℕ) → (flat : List ℕ) → (out : List Location) → Reading
+locatedBoth s first count flat out = located s (firstLine first) count (min (length flat / 4) (length out))
 
 abbrev pub answer : Reading → Located
 answer (done at k whole) = Done k whole

@@ -10,7 +10,7 @@ ghost use Rattle.refusals.specs.Limits.{mostBytes};
 ghost use Rattle.clearing.specs.Lent.{zeros};
 ghost use Rattle.lineentry.specs.Entry.{atLine};
 ghost use Rattle.linetable.specs.Walk.{walk};
-ghost use Rattle.linetable.specs.Answer.{firstLine, located, answer, numbers, recordsOf, locationsOf, locationAt, locationsFrom};
+ghost use Rattle.linetable.specs.Answer.{firstLine, located, locatedBoth, answer, numbers, recordsOf, locationsOf, locationAt, locationsFrom};
 use lineentry::Entry;
 use lineentry::Location;
 
@@ -214,9 +214,9 @@ pub fn linetable_to_locations(
     flat: &mut [u32],
     out: &mut [Location],
 ) -> Located
-    ensures { λ r. ⌜ (r ≡ answer (located (now (table .entry)) (firstLine «first_line») count (min (length (now (flat .entry)) / 4) (length (now (out .entry))))))
-        × (now (flat .exit) ≡ recordsOf (length (now (flat .entry))) (located (now (table .entry)) (firstLine «first_line») count (min (length (now (flat .entry)) / 4) (length (now (out .entry))))))
-        × (now (out .exit) ≡ locationsOf (length (now (out .entry))) (located (now (table .entry)) (firstLine «first_line») count (min (length (now (flat .entry)) / 4) (length (now (out .entry)))))) ⌝ }
+    ensures { λ r. ⌜ (r ≡ answer (locatedBoth (now (table .entry)) «first_line» count (now (flat .entry)) (now (out .entry))))
+        × (now (flat .exit) ≡ recordsOf (length (now (flat .entry))) (locatedBoth (now (table .entry)) «first_line» count (now (flat .entry)) (now (out .entry))))
+        × (now (out .exit) ≡ locationsOf (length (now (out .entry))) (locatedBoth (now (table .entry)) «first_line» count (now (flat .entry)) (now (out .entry)))) ⌝ }
 {
     let k = out.len();
     let r = records_within(table, first_line, count, flat, k);

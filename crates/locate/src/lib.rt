@@ -1,9 +1,8 @@
 // The line table of a code object by its node: the slice at a bytes node's place and size is handed on to the location reader.
 ghost use mathlib.Core.Path.{_≡_};
-ghost use Prim.Native.Nat.{_/_};
 ghost use lib.ListN.{length};
-ghost use Rattle.linetable.specs.Answer.{firstLine, answer, recordsOf};
-ghost use Rattle.locate.specs.Part.{locatedAt};
+ghost use Rattle.linetable.specs.Answer.{answer, recordsOf};
+ghost use Rattle.locate.specs.Part.{locatedNode};
 use linetable::Located;
 
 // Four numbers for each instruction, as `linetable_to_records` gives them for the node's bytes.
@@ -16,8 +15,8 @@ pub fn locate_node(
     count: u32,
     records: &mut [u32],
 ) -> Located
-    ensures { λ r. ⌜ (r ≡ answer (locatedAt (now (input .entry)) (now (nodes .entry)) used node (firstLine «first_line») count (length (now (records .entry)) / 4)))
-        × (now (records .exit) ≡ recordsOf (length (now (records .entry))) (locatedAt (now (input .entry)) (now (nodes .entry)) used node (firstLine «first_line») count (length (now (records .entry)) / 4))) ⌝ }
+    ensures { λ r. ⌜ (r ≡ answer (locatedNode (now (input .entry)) (now (nodes .entry)) used node «first_line» count (now (records .entry))))
+        × (now (records .exit) ≡ recordsOf (length (now (records .entry))) (locatedNode (now (input .entry)) (now (nodes .entry)) used node «first_line» count (now (records .entry)))) ⌝ }
 {
     if (refusals::MOST_BYTES as usize) < input.len() {
         return linetable::refuse(records, refusals::INPUT_TOO_LONG, 0);

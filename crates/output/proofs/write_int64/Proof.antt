@@ -54,7 +54,12 @@ same-length-4 : tie.Need-same-length-4
 same-length-4 c = search needs
 
 returns-4 : tie.Need-returns-4
-returns-4 c = let e : 18446744073709551616 - le64 (c .before .before .before .before .before .before .before .before .before .before .args .s .now) (c .before .before .before .before .before .before .before .before .before .before .args .place) ≡ 18446744073709551615 - c .before .before .before .before .before .before .before .le64 .result + 1 = omega (arith, c .before .before .before .before .before .before .before .le64 .ensures) in puts-as (c .before .before .write-digits2 .ensures) (int64-negative (c .before .before .before .before .before .before .before .before .before .before .args .s .now) (λ i. omega (arith, c .before .before .before .before .before .before .before .before .shared-slice-known .given i)) (c .before .before .before .before .before .before .before .before .before .before .args .place) (c .before .before .before .before .before .before .before .before .before .before .pre .1) (omega (arith, c .before .before .before .before .before .before .before .le64 .ensures)) (omega (arith, c .before .before .before .before .before .before .before .le64 .ensures)) ∙ ap (λ m. longBytes (record { negative = true; magnitude = m })) e)
+returns-4 c =
+    let read = c .before .before .before .before .before .before .before in
+    let a = read .before .before .before .args in
+    let e : 18446744073709551616 - le64 (a .s .now) (a .place) ≡ 18446744073709551615 - read .le64 .result + 1 = omega (arith, read .le64 .ensures) in
+    puts-as (c .before .before .write-digits2 .ensures)
+    (int64-negative (a .s .now) (λ i. omega (arith, read .before .shared-slice-known .given i)) (a .place) (read .before .before .before .pre .1) (omega (arith, read .le64 .ensures)) (omega (arith, read .le64 .ensures)) ∙ ap (λ m. longBytes (record { negative = true; magnitude = m })) e)
 
 pub write-int64-spec : {M : Type 1} → statement M
 write-int64-spec =
