@@ -25,7 +25,7 @@
 extern "C" {
 #endif
 
-/* ---- Refusals: the numbers of document 01's table, by name. */
+/* ---- Refusals: the numbers of document 01's table, and from 19 on document 02's, by name. */
 
 enum {
     SILL_EOF_OBJECT = 1,
@@ -46,12 +46,14 @@ enum {
     SILL_BAD_TABLE = 16,
     SILL_NO_ROOM = 17,
     SILL_NUMBER_RANGE = 18,
+    SILL_NO_MARKER = 19,
 };
 
 /* ---- Varints: six bits a byte, 0x40 meaning more. */
 
 typedef struct {
-    uint32_t refusal; /* 17: no room, place is the output's capacity; 18: the smallest 32-bit integer, at 0; see sill_write */
+    uint32_t refusal; /* 17: no room, place is the output's capacity; 18: the smallest 32-bit integer, at 0; see
+                         sill_write_exceptions and sill_write */
     uint32_t place;
     uint32_t written; /* how many bytes */
 } sill_written_t;
@@ -76,6 +78,26 @@ sill_written_t sill_write_varint_with_start(uint8_t *out, size_t out_len, uint32
 /* Big-endian reading at any position, also beyond the end; with_start asks for 0x80 on the first byte. */
 sill_found_t sill_read_varint(const uint8_t *data, size_t data_len, size_t at);
 sill_found_t sill_read_varint_with_start(const uint8_t *data, size_t data_len, size_t at);
+
+/* ---- Exception tables: which instructions a handler guards. Five numbers an entry: the first instruction, how many there
+ * are, the handler's first instruction, the stack depth, and 1 where the last instruction is pushed, else 0. */
+
+typedef struct {
+    uint32_t refusal; /* 14: the table is too long, at 0; 19: an entry's first byte has no marker, place is that byte; 2: no
+                         byte is left for a later number, place is table_len, or a number is cut by the end, place is its
+                         start; 18: a number is 2^32 or more, place is its start; 17: the entry, itself read whole, has no
+                         room, place is the capacity in entries */
+    uint32_t place;
+    uint32_t count; /* how many entries */
+} sill_exceptions_t;
+
+/* All entries of a table, in order. The capacity is entries_len / 5. 0x80 on a later number is not looked at. */
+sill_exceptions_t sill_read_exceptions(const uint8_t *table, size_t table_len, uint32_t *entries, size_t entries_len);
+
+/* All whole groups of five numbers, in order and in the shortest form; a remainder is not looked at. Entry by entry: 18 at 0
+ * where the depth is 2^31 or more or the last number is above 1; then 17 at out_len, which counts as at most
+ * 4,294,967,295. What is written reads as the same entries. */
+sill_written_t sill_write_exceptions(const uint32_t *entries, size_t entries_len, uint8_t *out, size_t out_len);
 
 /* ---- Line tables: where each instruction of a code object comes from. */
 

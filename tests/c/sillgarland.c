@@ -135,6 +135,50 @@ static void test_writing(void)
     expect(memcmp(out, "\0\0\0\0\0\0\0\0\0\0\0\0\0\0\x07\x07", 16) == 0, "and the fourteen lent bytes are zero");
 }
 
+/* ---- exception tables */
+
+/* Two entries, read and written back; then a table without room, without a marker, cut, and numbers that no table has. */
+static void test_exceptions(void)
+{
+    static const uint8_t table[] = {0x84, 0x03, 0x0A, 0x03, 0xC1, 0x00, 0x02, 0x41, 0x05, 0x00};
+    uint32_t entries[12];
+    uint8_t out[12];
+    memset(entries, 7, sizeof entries);
+    sill_exceptions_t read = sill_read_exceptions(table, LENGTH(table), entries, LENGTH(entries));
+    expect(read.refusal == 0 && read.place == 0 && read.count == 2, "two entries");
+    expect(entries[0] == 4 && entries[1] == 3 && entries[2] == 10 && entries[3] == 1 && entries[4] == 1, "the first");
+    expect(entries[5] == 64 && entries[6] == 2 && entries[7] == 69 && entries[8] == 0 && entries[9] == 0, "the second");
+    expect(all_zero(entries + 10, 2), "and zeros follow");
+
+    memset(out, 7, sizeof out);
+    sill_written_t written = sill_write_exceptions(entries, 12, out, LENGTH(out));
+    expect(written.refusal == 0 && written.written == 10, "both entries are written, the remainder is not");
+    expect(memcmp(out, table, 10) == 0 && out[10] == 0 && out[11] == 0, "as they stood in the table, and zeros follow");
+    written = sill_write_exceptions(entries, 10, out, 9);
+    expect(written.refusal == SILL_NO_ROOM && written.place == 9 && written.written == 0, "no room for the last byte");
+    expect(out[0] == 0 && out[8] == 0, "and the output is zero");
+
+    read = sill_read_exceptions(table, LENGTH(table), entries, 9);
+    expect(read.refusal == SILL_NO_ROOM && read.place == 1 && read.count == 0, "room for one entry");
+    expect(all_zero(entries, 9), "and the entries are zero");
+    read = sill_read_exceptions(table, 9, entries, 0);
+    expect(read.refusal == SILL_NO_ROOM && read.place == 0, "the first entry has no room before the second is cut");
+    read = sill_read_exceptions(table, 9, entries, 12);
+    expect(read.refusal == SILL_DATA_TOO_SHORT && read.place == 9, "no byte is left for a later number: at the end");
+    read = sill_read_exceptions(table, 8, entries, 12);
+    expect(read.refusal == SILL_DATA_TOO_SHORT && read.place == 7, "a cut number: at its start");
+    read = sill_read_exceptions(table + 1, 9, entries, 12);
+    expect(read.refusal == SILL_NO_MARKER && read.place == 0, "no marker: at the entry");
+
+    entries[3] = 0x80000000u;
+    written = sill_write_exceptions(entries, 5, out, 0);
+    expect(written.refusal == SILL_NUMBER_RANGE && written.place == 0, "a depth of 2^31");
+    entries[3] = 0x7FFFFFFFu;
+    entries[4] = 2;
+    written = sill_write_exceptions(entries, 5, out, 0);
+    expect(written.refusal == SILL_NUMBER_RANGE && written.place == 0, "a last-instruction bit of 2");
+}
+
 /* ---- line tables */
 
 /* A line step, an entry without a place, one whose only byte is missing, and one left over. */
@@ -289,6 +333,7 @@ int main(void)
     test_sheets();
     test_leaves();
     test_writing();
+    test_exceptions();
     test_lines();
     test_salvage();
     test_sources();

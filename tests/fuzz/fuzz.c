@@ -115,6 +115,42 @@ static void hold_salvage(const uint8_t *table, size_t len, int32_t first, uint32
     hold(!l.refusal && l.whole && l.from_entries == count, "a repaired table is not whole");
 }
 
+/* Entries that are read are written in no more bytes, and these read as the same entries; one entry or one byte short is 17. */
+static void hold_exceptions(const uint8_t *table, size_t len) {
+    const uint8_t *at = lend_bytes(&inputs, table, len);
+    size_t room = 5 * (len / 4) + len % 5;
+    uint32_t *entries = lend_words(&nodes_a, room), *again = lend_words(&records_a, room);
+    sill_exceptions_t e = sill_read_exceptions(at, len, entries, room);
+    hold(!e.refusal || (!e.count && e.place <= len), "a refused exception table");
+    hold(5 * (size_t)e.count <= room && all_zero(entries + 5 * e.count, 4 * (room - 5 * e.count)), "entries past those read");
+    if (e.refusal || !e.count) return;
+    uint8_t *out = lend_bytes(&outs, NULL, len);
+    sill_written_t w = sill_write_exceptions(entries, 5 * (size_t)e.count, out, len);
+    hold(!w.refusal && w.written <= len && all_zero(out + w.written, len - w.written), "entries are written longer");
+    sill_exceptions_t same = sill_read_exceptions(out, w.written, again, room);
+    hold(!memcmp(&same, &e, sizeof e) && !memcmp(entries, again, 4 * room), "written entries read otherwise");
+    uint32_t *fewer = lend_words(&records_a, 5 * (size_t)e.count - 1);
+    sill_exceptions_t full = sill_read_exceptions(at, len, fewer, 5 * (size_t)e.count - 1);
+    hold(full.refusal == 17 && full.place == e.count - 1, "one entry short is not 17");
+    uint8_t *shorter = lend_bytes(&outs2, NULL, w.written - 1);
+    sill_written_t cut = sill_write_exceptions(entries, 5 * (size_t)e.count, shorter, w.written - 1);
+    hold(cut.refusal == 17 && cut.place == w.written - 1 && all_zero(shorter, w.written - 1), "one byte short is not 17");
+}
+
+/* Entries that no reading made: the input's own bytes, of which some are numbers that no table has. */
+static void hostile_exceptions(const uint8_t *data, size_t len) {
+    size_t words = len / 4;
+    uint32_t *entries = lend_words(&nodes_a, words);
+    memcpy(entries, data, 4 * words);
+    for (size_t i = 4; i < words; i += 5) entries[i] %= 3;
+    uint8_t *out = lend_bytes(&outs, NULL, 24 * (words / 5));
+    sill_written_t w = sill_write_exceptions(entries, words, out, 24 * (words / 5));
+    int in_range = 1;
+    for (size_t i = 0; i + 5 <= words; i += 5) in_range &= entries[i + 3] < 0x80000000u && entries[i + 4] < 2;
+    hold(in_range ? !w.refusal : w.refusal == 18 && !w.place && !w.written, "numbers that no exception table has");
+    hold(all_zero(out + w.written, 24 * (words / 5) - w.written), "a table past what was written");
+}
+
 /* The leaf of each node, the line table of each node of bytes, on stores that a reading made. */
 static void ask_nodes(const reading *r) {
     uint32_t used = r->answer.nodes, most = used < 64 ? used : 64;
@@ -188,6 +224,8 @@ static void others(const uint8_t *data, size_t len) {
     hold_lines(data, len, sum % 2 ? (int32_t)first : 1, sum % 300, NULL);
     hold_sources(data, len, sum % 2 ? (int32_t)first : 1, sum % 300);
     hold_salvage(data, len, sum % 2 ? (int32_t)first : 1, sum % 300);
+    hold_exceptions(data, len);
+    hostile_exceptions(data, len);
     uint32_t *list[5];
     size_t names = len < 512 ? len : 512;
     for (int i = 0; i < 5; i++) list[i] = lend_words(&lists[i], names - (names && sum % 7 == (uint32_t)i));

@@ -39,7 +39,14 @@ use Rattle.varint.specs.Writing.{littleEndian, bigEndian, bigEndianWithStart}
 use Rattle.varint.specs.Reading.{readVarint, readVarintWithStart}
 use Rattle.varint.specs.Answers.{stored, storedSigned}
 use Rattle.varint.proofs.Refusals.{Told, varint-told, with-start-told}
+use Rattle.exceptiontable.specs.declared.Decoded.{Decoded}
+use Rattle.exceptiontable.specs.declared.Decoded.the-variants as decoded
+use Rattle.exceptiontable.specs.declared.Encoded.{Encoded}
+use Rattle.exceptiontable.specs.declared.Encoded.the-variants as encoded
+use Rattle.exceptiontable.specs.Reading.{decodedOf}
+use Rattle.exceptiontable.specs.Writing.{encodedOf}
 use Rattle.output.specs.declared.Wrote.the-variants as wrote
+use Rattle.sillgarland.specs.Exceptions.{decodedStruct, decodedAs, encodedStruct, encodedAs}
 use Rattle.sillgarland.specs.Leaves.{leafStruct}
 use Rattle.sillgarland.specs.Locals.{splitStruct}
 use Rattle.salvage.specs.Salvage.{salvaged, Account, salvage}
@@ -53,6 +60,7 @@ use Rattle.sillgarland.specs.Salvage.{salvagedStruct}
 use Rattle.sillgarland.specs.Sources.{sourcedStruct}
 use Rattle.sillgarland.specs.Values.{readStruct, ReadAs, wroteStruct, WroteAs}
 use Rattle.sillgarland.specs.Varints.{writtenAs, foundStruct}
+use Rattle.sillgarland.specs.declared.exceptions.SillExceptions.{SillExceptions}
 use Rattle.sillgarland.specs.declared.leaves.SillLeaf.{SillLeaf}
 use Rattle.sillgarland.specs.declared.locals.SillSplit.{SillSplit}
 use Rattle.sillgarland.specs.declared.locations.SillLocated.{SillLocated}
@@ -65,6 +73,7 @@ use Rattle.sillgarland.proofs as sillgarland
 use Rattle.promises.specs.Calls.{sillWrite}
 use Rattle.promises.specs.Demand1.{InTable, Ends, answers, refuses, Zero, LocateEnds, VarintEnds, FoundEnds, Demand1}
 use Rattle.promises.proofs.Reading.{writtenBy}
+use Rattle.promises.proofs.Exceptions.{TabledDecoded, decoded-in-table, TabledEncoded, encoded-in-table}
 use Rattle.promises.proofs.Numbers.{Tabled, reading-in-table, leaf-in-table, TabledLines, located-in-table, located-at-in-table, TabledSplit, split-in-table, TabledStore, stored-in-table, signed-in-table, told-in-table, written-in-table}
 
 -- Each kind of definition: what its contract says of an outcome gives the end.
@@ -148,6 +157,16 @@ found-ends : (count at : ℕ) (x : Found) → Told count at at x → (r : SillFo
 found-ends count at (found.Number value next) t r e = answers (some (value, next)) e
 found-ends count at found.Nothing t r e = answers none e
 found-ends count at (found.Refused n p) t r e = refuses n p (told-in-table (t .1)) e tt
+
+decoded-ends : (o : Decoded × List ℕ) (lent : List ℕ) → TabledDecoded (length lent) o → (r : SillExceptions) (left : List ℕ) → (r, left) ≡ decodedAs o
+    → Ends r (λ count. decodedStruct (decoded.Done count)) (λ number place. decodedStruct (decoded.Refused number place)) (Zero lent left)
+decoded-ends (decoded.Done count, xs) lent t r left e = answers count (ap (λ x. x .0) e)
+decoded-ends (decoded.Refused n p, xs) lent t r left e = refuses n p (t .0) (ap (λ x. x .0) e) (ap (λ x. x .1) e ∙ t .1)
+
+encoded-ends : (o : Encoded × List ℕ) (lent : List ℕ) → TabledEncoded (length lent) o → (r : SillWritten) (left : List ℕ) → (r, left) ≡ encodedAs o
+    → Ends r (λ count. encodedStruct (encoded.Done count)) (λ number place. encodedStruct (encoded.Refused number place)) (Zero lent left)
+encoded-ends (encoded.Done count, xs) lent t r left e = answers count (ap (λ x. x .0) e)
+encoded-ends (encoded.Refused n p, xs) lent t r left e = refuses n p (t .0) (ap (λ x. x .0) e) (ap (λ x. x .1) e ∙ t .1)
 
 pub demand-1 : Demand1
 demand-1 =
@@ -278,6 +297,24 @@ demand-1 =
             asks-nothing = λ κs a. tt;
             returns = λ M. sillgarland.varints.sill_write_varint_with_start.Met.met;
             ends = λ c. varint-ends (stored (length (now (c .args .0))) (bigEndianWithStart (c .args .1 .0))) (now (c .args .0)) (stored-in-table _ (bigEndianWithStart (c .args .1 .0))) (c .result) _ (c .meets);
+          };
+      sill-read-exceptions =
+          record {
+            asks-nothing = λ κs a. tt;
+            returns = λ M. sillgarland.exceptions.sill_read_exceptions.Met.met;
+            ends =
+                λ c.
+                let room = length (now (c .args .1 .0)) in
+                decoded-ends (decodedOf (now (c .args .0)) room) (now (c .args .1 .0)) (decoded-in-table (now (c .args .0)) room) (c .result) _ (c .meets);
+          };
+      sill-write-exceptions =
+          record {
+            asks-nothing = λ κs a. tt;
+            returns = λ M. sillgarland.exceptions.sill_write_exceptions.Met.met;
+            ends =
+                λ c.
+                let room = length (now (c .args .1 .0)) in
+                encoded-ends (encodedOf (now (c .args .0)) room) (now (c .args .1 .0)) (encoded-in-table (now (c .args .0)) room) (c .result) _ (c .meets);
           };
       sill-read-varint =
           record {

@@ -4,6 +4,7 @@ pub mod Signed
 pub mod Wtf8
 pub mod Lineentry
 pub mod Varint
+pub mod Exceptiontable
 pub mod Localsplus
 pub mod Linetable
 pub mod Rows
@@ -25,6 +26,7 @@ pub mod Locate
 pub mod Sillgarland
 pub mod Numbers
 pub mod Reading
+pub mod Exceptions
 pub mod Demand1
 pub mod Demand2
 pub mod Asked

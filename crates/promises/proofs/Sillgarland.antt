@@ -79,3 +79,9 @@ sill-read-varint-agrees κs a asked r r′ ws ws′ p p′ = (one p p′, refl)
 
 pub sill-read-varint-with-start-agrees : Agree sillgarland.varints.sill_read_varint_with_start.ended sillgarland.varints.sill_read_varint_with_start.Reads.Asked sillgarland.varints.sill_read_varint_with_start.Reads.Learnt
 sill-read-varint-with-start-agrees κs a asked r r′ ws ws′ p p′ = (one p p′, refl)
+
+pub sill-read-exceptions-agrees : Agree sillgarland.exceptions.sill_read_exceptions.ended sillgarland.exceptions.sill_read_exceptions.Reads.Asked sillgarland.exceptions.sill_read_exceptions.Reads.Learnt
+sill-read-exceptions-agrees κs a asked r r′ ws ws′ p p′ = (λ i. one p p′ i .0, λ i. (tt, (one p p′ i .1, tt)))
+
+pub sill-write-exceptions-agrees : Agree sillgarland.exceptions.sill_write_exceptions.ended sillgarland.exceptions.sill_write_exceptions.Reads.Asked sillgarland.exceptions.sill_write_exceptions.Reads.Learnt
+sill-write-exceptions-agrees κs a asked r r′ ws ws′ p p′ = (λ i. one p p′ i .0, λ i. (tt, (one p p′ i .1, tt)))

@@ -31,6 +31,9 @@ use Rattle.sources.specs.Marks.{counts, told}
 use Rattle.varint.specs.declared.Written.the-variants as varint
 use Rattle.varint.specs.declared.Found.the-variants as found
 use Rattle.output.specs.declared.Wrote.the-variants as wrote
+use Rattle.exceptiontable.specs.declared.Decoded.the-variants as decoded
+use Rattle.exceptiontable.specs.declared.Encoded.the-variants as encoded
+use Rattle.sillgarland.specs.Exceptions.{decodedStruct, encodedStruct}
 use Rattle.sillgarland.specs.Leaves.{leafStruct}
 use Rattle.sillgarland.specs.Locals.{splitStruct}
 use Rattle.sillgarland.specs.Locations.{locatedStruct}
@@ -45,7 +48,7 @@ use Rattle.sillgarland.proofs as sillgarland
 use Rattle.promises.specs.Agreement.{Asks, Tells, InModels}
 use Rattle.promises.specs.Calls.{Call}
 
--- the numbers of 01's table
+-- the numbers of 01's table, with those that 02 adds
 abbrev pub InTable : ℕ → Type 0
 InTable number = (accepted < number) × (number ≤ lastNumber)
 
@@ -134,6 +137,16 @@ pub record Demand1 : Type 2 where
       × Zero (now (c .args .1 .1 .1 .1 .1 .1 .1 .0)) (c .last .1 .1 .1 .1 .1 .1 .1 .0)
       × Zero (now (c .args .1 .1 .1 .1 .1 .1 .1 .1 .0)) (c .last .1 .1 .1 .1 .1 .1 .1 .1 .0)
       × Zero (now (c .args .1 .1 .1 .1 .1 .1 .1 .1 .1 .0)) (c .last .1 .1 .1 .1 .1 .1 .1 .1 .1 .0)))
+  pub sill-read-exceptions :
+      EachCall sillgarland.exceptions.sill_read_exceptions.ended sillgarland.exceptions.sill_read_exceptions.Reads.Asked sillgarland.exceptions.sill_read_exceptions.Reads.Learnt sillgarland.exceptions.sill_read_exceptions.Statement.statement
+      (λ c.
+      Ends (c .result) (λ count. decodedStruct (decoded.Done count)) (λ number place. decodedStruct (decoded.Refused number place))
+      (Zero (now (c .args .1 .0)) (c .last .1 .0)))
+  pub sill-write-exceptions :
+      EachCall sillgarland.exceptions.sill_write_exceptions.ended sillgarland.exceptions.sill_write_exceptions.Reads.Asked sillgarland.exceptions.sill_write_exceptions.Reads.Learnt sillgarland.exceptions.sill_write_exceptions.Statement.statement
+      (λ c.
+      Ends (c .result) (λ count. encodedStruct (encoded.Done count)) (λ number place. encodedStruct (encoded.Refused number place))
+      (Zero (now (c .args .1 .0)) (c .last .1 .0)))
   pub sill-write-varint :
       EachCall sillgarland.varints.sill_write_varint.ended sillgarland.varints.sill_write_varint.Reads.Asked sillgarland.varints.sill_write_varint.Reads.Learnt sillgarland.varints.sill_write_varint.Statement.statement
       (λ c. VarintEnds (c .result) (Zero (now (c .args .0)) (c .last .0)))

@@ -1,9 +1,12 @@
 -- What document 02's requests, and the sources of rows beside them, promise, each on a page of its own crate, over the definitions that the
 -- exports' contracts cite.
+use Rattle.exceptiontable.specs.Promised.{Promised as ExceptionTablesPromised}
 use Rattle.salvage.specs.Promised.{Promised as RepairPromised}
 use Rattle.sources.specs.Beside.{BesideLocated}
 
 pub record Requests : Type 0 where
+  -- K1: "Write the same entries back in shortest form .. a written table reads as the same entries."
+  pub exception-tables : ExceptionTablesPromised
   -- K9: "a repair that takes a table, first line and instruction count and makes a whole one"
   pub repair : RepairPromised
   -- the bytes of `sill_sources` beside the places of `sill_locate`

@@ -60,6 +60,10 @@ noRoom = 17
 abbrev pub numberRange : ℕ
 numberRange = 18
 
--- the last of the table
+-- 02, K1: "a missing marker is 19"
+abbrev pub noMarker : ℕ
+noMarker = 19
+
+-- the last of the table, with those that 02 adds
 abbrev pub lastNumber : ℕ
-lastNumber = numberRange
+lastNumber = noMarker

@@ -39,8 +39,10 @@ pub const NO_ROOM: u32 = 17;
 
 pub const NUMBER_RANGE: u32 = 18;
 
+pub const NO_MARKER: u32 = 19;
+
 // The last of the table.
-pub const LAST_NUMBER: u32 = NUMBER_RANGE;
+pub const LAST_NUMBER: u32 = NO_MARKER;
 
 // The longest input, the largest capacity that counts, the deepest nesting that counts, and "no entry".
 pub const MOST_BYTES: u32 = 16_777_216;

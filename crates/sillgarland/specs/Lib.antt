@@ -5,3 +5,4 @@ pub mod Salvage
 pub mod Sources
 pub mod Leaves
 pub mod Values
+pub mod Exceptions

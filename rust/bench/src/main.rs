@@ -1,6 +1,8 @@
 //! The port and the carried Rust side by side, in one run: tools/bench builds and calls it. Never a test: it prints times
 //! and holds nobody to them.
 #[cfg(carried)]
+mod exceptions;
+#[cfg(carried)]
 mod linetable;
 #[cfg(carried)]
 mod python;
@@ -26,15 +28,18 @@ fn main() -> ExitCode {
             return ExitCode::from(2);
         }
     };
-    match text.and_then(|text| Ok((linetable::of_cpython(&text)?, modules(&text)))) {
+    match text.and_then(|text| Ok((linetable::of_cpython(&text)?, exceptions::of_cpython(&text), modules(&text)))) {
         Err(fault) => {
             eprintln!("bench: {fault}");
             ExitCode::FAILURE
         }
-        Ok((tables, modules)) => {
+        Ok((tables, handlers, modules)) => {
             let wanted = |part: &str| words.is_empty() || words.iter().any(|word| word == part);
             if wanted("varint") {
                 varint::run();
+            }
+            if wanted("exceptions") {
+                exceptions::run(handlers);
             }
             if wanted("lines") {
                 linetable::run(tables);
@@ -52,7 +57,7 @@ fn main() -> ExitCode {
 
 /// What is timed; all where none is named.
 #[cfg(carried)]
-const PARTS: [&str; 4] = ["varint", "lines", "read", "write"];
+const PARTS: [&str; 5] = ["varint", "exceptions", "lines", "read", "write"];
 
 /// The modules of the file, as CPython marshals them.
 #[cfg(carried)]

@@ -1,5 +1,6 @@
 //! What CPython says of its own code, in the file that tools/cpython-tables writes: the positions of every instruction,
 //! the split of the local names, the entries of the exception tables.
+use crate::exceptions;
 use crate::lent::Part;
 use crate::linetable::{self, LineTables, Origin, locate};
 use crate::localsplus::{self, split};
@@ -10,14 +11,14 @@ use crate::salvage;
 use crate::subject::Subject;
 use crate::tally::Tally;
 use crate::text::{of_hex, of_numbers};
-use sillgarland_sys::{self as sys, Found, Location, refusals};
+use sillgarland_sys::{Location, refusals};
 
 /// Holds the port to every line of the file.
 pub fn hold(text: &str) -> bool {
     let mut positions = Tally::new("cpython positions");
     let mut cuts = Tally::new("cpython cut tables");
     let mut names = Tally::new("cpython names");
-    let mut exceptions = Tally::new("cpython exceptions");
+    let mut handlers = Tally::new("cpython exceptions");
     let mut values = Tally::new("cpython values");
     let mut nodes = Tally::new("cpython positions by node");
     let mut repairs = Tally::new("cpython tables repaired, cut at every byte");
@@ -37,7 +38,10 @@ pub fn hold(text: &str) -> bool {
                 names.count("code objects, names split alike", hold_names(&ask, &said));
             }),
             Some("exceptions") => of_exceptions(row).map(|(table, said)| {
-                exceptions.count("exception tables, every entry alike", hold_exceptions(&table, &said));
+                handlers.count(
+                    "exception tables, every entry alike, and written as they were",
+                    hold_exceptions(&table, &said),
+                );
             }),
             Some("module") => Marshalled::of_row(row).map(|marshalled| {
                 module = counted(&mut values, "modules, values alike", marshalled);
@@ -55,7 +59,7 @@ pub fn hold(text: &str) -> bool {
             positions.count("", Err(format!("malformed: {row}")));
         }
     }
-    [positions, cuts, repairs, names, exceptions, values, nodes].map(Tally::finish).iter().all(|held| *held)
+    [positions, cuts, repairs, names, handlers, values, nodes].map(Tally::finish).iter().all(|held| *held)
 }
 
 fn counted(tally: &mut Tally, class: &'static str, marshalled: Marshalled) -> Option<Module> {
@@ -193,30 +197,10 @@ fn of_exceptions(row: &str) -> Option<(Vec<u8>, Vec<Entry>)> {
     Some((of_hex(table)?, entries))
 }
 
-/// The entries, read with the port's varints: a marked start, a length, a target, and depth and bit together.
+/// Every entry as dis has it, in instructions, and the table's own bytes where the entries are written.
 fn hold_exceptions(table: &[u8], said: &[Entry]) -> Result<(), String> {
-    let (mut at, mut entries) = (0, Vec::new());
-    while at < table.len() {
-        let start = number(sys::sill_read_varint_with_start, table, &mut at)?;
-        let length = number(sys::sill_read_varint, table, &mut at)?;
-        let target = number(sys::sill_read_varint, table, &mut at)?;
-        let depth = number(sys::sill_read_varint, table, &mut at)?;
-        entries.push([2 * start, 2 * (start + length), 2 * target, depth / 2, depth % 2]);
-    }
-    if entries != said {
-        return Err(format!("{table:02x?}: {entries:?} and not {said:?}"));
-    }
-    Ok(())
-}
-
-type Reader = unsafe extern "C" fn(*const u8, usize, usize) -> Found;
-
-fn number(reader: Reader, table: &[u8], at: &mut usize) -> Result<u64, String> {
-    // SAFETY: the bytes are lent for the length given.
-    let answered = unsafe { reader(table.as_ptr(), table.len(), *at) };
-    if answered.found != 1 {
-        return Err(format!("{table:02x?} at {at}: {answered:?}"));
-    }
-    *at = answered.next as usize;
-    Ok(u64::from(answered.value))
+    let in_instructions = |[start, end, target, depth, last]: &Entry| {
+        [start / 2, (end - start) / 2, target / 2, *depth, *last].map(|number| number as u32)
+    };
+    exceptions::hold_table(table, said.iter().flat_map(in_instructions).collect())
 }

@@ -1,5 +1,6 @@
 //! Every exported function between pages that fault: what it is lent ends, or begins, where a page stands that nobody may
 //! touch, so one byte read or written outside ends the run. The answers are held to the same as without.
+use crate::exceptions::{self, Exceptions};
 use crate::memory::{Mode, lend};
 use crate::read::Reads;
 use crate::salvage::{self, Salvages};
@@ -36,6 +37,11 @@ pub fn hold() -> bool {
             tally.count("sources of instructions", held::<Sources>(&asked, &answer));
         }
         ask::<localsplus::LocalNames>(&mut tally, "splits", localsplus::carried_side::asks_to_list());
+        for asked in exceptions::random_asks(25, OF_EACH) {
+            let answer = exceptions::by_the_model(&asked);
+            last_asked(&Exceptions::row(&asked, &answer));
+            tally.count("exception tables read and written", held::<Exceptions>(&asked, &answer));
+        }
         ask::<Reads>(&mut tally, "values read, with their leaves", values::random_inputs(21, OF_EACH));
         last_asked("a writing from a single record");
         hostile::ask_single_records(&mut tally, "writings from one record of every letter, size and count");

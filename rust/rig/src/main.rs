@@ -4,6 +4,7 @@
 mod beside;
 mod corpus;
 mod cpython;
+mod exceptions;
 mod extremes;
 #[cfg(carried)]
 mod goldens;
@@ -55,6 +56,7 @@ mod write_model;
 mod write_same;
 mod writing;
 
+use exceptions::Exceptions;
 use linetable::LineTables;
 use localsplus::LocalNames;
 use options::{Options, Task, USAGE};
@@ -99,6 +101,7 @@ fn run(options: Options) -> Result<bool, String> {
             println!("{USAGE}");
             Ok(true)
         }
+        Task::Exceptions => Ok(exceptions::hold(17, EXCEPTIONS)),
         Task::Extremes => Ok(extremes::hold()),
         Task::HasRust => {
             println!("{}", if cfg!(carried) { "yes" } else { "no" });
@@ -132,7 +135,10 @@ fn beside_the_rust(options: &Options) -> Result<bool, String> {
     Ok(true)
 }
 
-/// What document 01 alone tells: the leaf question and writing on any stores, and demand 3 at every room.
+/// How many random exception tables, read and written.
+const EXCEPTIONS: usize = 1_000_000;
+
+/// What documents 01 and 02 alone tell: the leaf question and writing on any stores, exception tables, and demand 3 at every room.
 fn without_the_rust() -> Result<bool, String> {
     let found = corpus::inputs()?;
     Ok(all([
@@ -140,6 +146,7 @@ fn without_the_rust() -> Result<bool, String> {
         hostile::hold(15, 1_500_000),
         salvage::hold(16, 400_000),
         sources::hold(17, 400_000),
+        exceptions::hold(18, EXCEPTIONS),
         sweep::hold(13, || values::inputs_to_sweep(14, 200_000).chain(found.iter().cloned())),
     ]))
 }
@@ -157,7 +164,7 @@ fn replay_answers() -> bool {
         |folder| all([replay::<Varints>(folder), replay::<LineTables>(folder), replay::<LocalNames>(folder)]);
     let fixed = all([replay_all("fixed"), replay::<Reads>("fixed"), replay::<Writes>("fixed")]);
     let vectors = all([replay_all("vectors"), replay::<ReadStores>("vectors"), replay::<Leaves>("vectors")]);
-    let written = all([replay::<WriteStores>("vectors"), replay::<Salvages>("vectors"), replay::<Sources>("vectors")]);
+    let written = all([replay::<WriteStores>("vectors"), replay::<Salvages>("vectors"), replay::<Sources>("vectors"), replay::<Exceptions>("vectors")]);
     all([fixed, vectors, written])
 }
 

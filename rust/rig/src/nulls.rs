@@ -1,7 +1,8 @@
 //! A null pointer with length 0 is an empty slice: every exported function, called so, answers as for no bytes and no room.
 use crate::tally::Tally;
-use sillgarland_sys::{Found, Leaf, Located, Read, Salvaged, Sourced, Split, Written, refusals};
+use sillgarland_sys::{Exceptions, Found, Leaf, Located, Read, Salvaged, Sourced, Split, Written, refusals};
 use sillgarland_sys::{sill_leaf, sill_locate_node, sill_read, sill_salvage, sill_sources, sill_write};
+use sillgarland_sys::{sill_read_exceptions, sill_write_exceptions};
 use sillgarland_sys::{sill_locate, sill_locations, sill_read_varint, sill_read_varint_with_start, sill_split};
 use sillgarland_sys::{
     sill_write_signed_varint, sill_write_varint, sill_write_varint_be, sill_write_varint_with_start,
@@ -26,6 +27,10 @@ pub fn hold() -> bool {
         count(&mut tally, "sill_write_varint_with_start", sill_write_varint_with_start(m, 0, 0), no_room);
         count(&mut tally, "sill_read_varint", sill_read_varint(n, 0, 0), none);
         count(&mut tally, "sill_read_varint_with_start", sill_read_varint_with_start(n, 0, 0), none);
+        let no_entries = Exceptions { refusal: refusals::ACCEPTED, place: 0, count: 0 };
+        count(&mut tally, "sill_read_exceptions", sill_read_exceptions(n, 0, w, 0), no_entries);
+        let nothing = Written { refusal: refusals::ACCEPTED, place: 0, written: 0 };
+        count(&mut tally, "sill_write_exceptions", sill_write_exceptions(null(), 0, m, 0), nothing);
         count(&mut tally, "sill_locate", sill_locate(n, 0, 1, 0, w, 0), no_instructions);
         count(&mut tally, "sill_locations", sill_locations(n, 0, 1, 0, w, 0, null_mut(), 0), no_instructions);
         let empty = Salvaged {

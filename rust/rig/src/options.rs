@@ -7,7 +7,8 @@ usage: rig [--tables FILE]                       compare with the carried Rust, 
        rig --values [--tables FILE]              compare the reading of values with the carried Rust, nothing else
        rig --writes [--tables FILE]              compare the writing of values with the carried Rust, nothing else
        rig --guard                               ask all between pages that fault, nothing else
-       rig --rooms                               what document 01 alone tells: every room, leaves and writing of any stores
+       rig --rooms                               what the documents alone tell: every room, leaves, writing of any stores
+       rig --exceptions                          exception tables: the model, and the carried Rust beside it, nothing else
        rig --goldens PATH..                      compare on golden files; without a PATH, say how
        rig --extremes                            values and line tables of 16 MiB in each extreme shape, timed
        rig --has-rust                            say yes or no: whether it was built with the carried Rust
@@ -34,6 +35,7 @@ pub enum Task {
     Writes,
     Guard,
     Rooms,
+    Exceptions,
     Replay,
     Goldens(Vec<String>),
     HasRust,
@@ -69,6 +71,7 @@ impl Options {
                 "--goldens" => {
                     options.set(Task::Goldens(words.by_ref().collect()))?;
                 }
+                "--exceptions" => options.set(Task::Exceptions)?,
                 "--extremes" => options.set(Task::Extremes)?,
                 "--has-rust" => options.set(Task::HasRust)?,
                 "--exact" => options.set(Task::Exact)?,

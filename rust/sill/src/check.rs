@@ -131,6 +131,9 @@ impl Findings {
             self.code_objects += 1;
             self.instructions += code.instructions();
             self.add_lines(start, &code, records);
+            if let Err(refused) = code.handlers() {
+                self.refused.add(|| format!("exception table of {}: {}", named(&code), refused.after(start)));
+            }
             if let Some(at) = code.out_of_name_order() {
                 self.name_order.add(|| out_of_order(&code, at));
             }

@@ -48,8 +48,8 @@ are not followed. One line a file, in order:
   accepted   with how many values, code objects and instructions it holds, and how many of these its line tables say to have
              no place: a repair leaves such, and compilers do too;
   refused    with number, name and place, and what is expected there. Places count bytes from the file's start. Bytes after
-             the last whole value are a refusal, with the place where they begin. Of a line table that is refused, also the
-             code object and the last row that was placed before the refused entry;
+             the last whole value are a refusal, with the place where they begin. Of a line table or an exception table that
+             is refused, also the code object, and of a line table the last row that was placed before the refused entry;
   NOT WHOLE  with the first code object whose line table is cut or damaged, how many of its instructions have their line from
              the table, how many there are, and the first (from 0) whose line is not, with the line that it would show.
 
@@ -70,12 +70,14 @@ pub const SHOW: Page = Page {
     summary: "show the values of a file as a tree",
     text: "\
 A line for each value: its place (the byte at which its contents begin), its type letter, and what it holds, indented below
-the value it belongs to. Long texts and bytes are cut in the tree, never in JSON. A value that is shared is shown where it first
-stands; later lines name that place.
+the value it belongs to; of a code object also its numbers and its handlers. Long texts and bytes are cut in the tree, never in
+JSON. A value that is shared is shown where it first stands; later lines name that place.
 
 JSON is one list: an object for each value of the file, and one with the refusal where reading ended early. Each node has
 letter, place, size and type, and value or children; a float has its bits beside it, a text with surrogates its bytes; bytes are
-hexadecimal, and a whole number outside 64 bits is a string. A shared value is \"same_as\": the place where it is written out.",
+hexadecimal, and a whole number outside 64 bits is a string. A shared value is \"same_as\": the place where it is written out.
+A code object has its handlers, the entries of its exception table: start, length and target in instructions, depth, and whether
+the last instruction is pushed (lasti). Where that table is damaged, handlers is null and handlers_refused says why.",
     options: &[
         Known { short: Some('d'), long: "depth", word: Some("N"), text: "show no more than N levels below each value" },
         Known { short: None, long: "json", word: None, text: "as JSON, for machines" },
@@ -87,11 +89,13 @@ pub const LINES: Page = Page {
     name: "lines",
     operands: "FILE",
     takes: 1..=1,
-    summary: "show where each instruction of each code object comes from",
+    summary: "show where each instruction of each code object comes from, and its handlers",
     text: "\
 For each code object its name, file and first line, and whether its line table is whole. Then a line for each instruction: its
 number (from 0), its two bytes, and line:column to line:column (from 1). Instructions that no entry of the line table placed
-are marked '! not from the table': the line they show is the code object's first line, whatever their own was.",
+are marked '! not from the table': the line they show is the code object's first line, whatever their own was. Then a line for
+each handler, an entry of the exception table: its first instruction, the instructions that it guards, the stack depth, whether
+the last instruction is pushed, and the rows that the guarded instructions come from.",
     options: &[HELP],
 };
 

@@ -1,8 +1,8 @@
-//! `sill lines`: where each instruction of each code object comes from.
+//! `sill lines`: where each instruction of each code object comes from, and which handler guards it.
 use crate::options::Arguments;
 use crate::terminal::{Colour, Colours};
 use crate::{Outcome, files, text};
-use sillgarland::{Code, Lines, Located, Locations, Reader, Records};
+use sillgarland::{Code, Handler, Lines, Located, Locations, Reader, Records};
 use std::io::{self, Write};
 use std::path::Path;
 
@@ -32,22 +32,51 @@ fn show_code(out: &mut dyn Write, start: usize, code: &Code, records: &mut Recor
         text::name(code.file()),
         code.first_line()
     )?;
-    match code.lines(records) {
+    let (locations, outcome) = match code.lines(records) {
         Err(refused) => {
             writeln!(out, "line table refused: {}", refused.after(start))?;
-            Ok(Outcome::Bad)
+            (None, Outcome::Bad)
         }
         Ok(Lines::Whole(locations)) => {
             writeln!(out, "{}, the line table is whole", text::count(locations.len(), "instruction"))?;
-            show_locations(out, code, locations)?;
-            Ok(Outcome::Good)
+            (Some(locations), Outcome::Good)
         }
         Ok(Lines::NotWhole(locations)) => {
             let all = text::count(locations.len(), "instruction");
             writeln!(out, "{all}, NOT WHOLE: the line table places {} of them", locations.from_entries())?;
-            show_locations(out, code, locations)?;
+            (Some(locations), Outcome::Bad)
+        }
+    };
+    if let Some(locations) = locations {
+        show_locations(out, code, locations)?;
+    }
+    Ok(outcome.max(show_handlers(out, start, code, locations)?))
+}
+
+fn show_handlers(out: &mut dyn Write, start: usize, code: &Code, locations: Option<Locations>) -> io::Result<Outcome> {
+    match code.handlers() {
+        Err(refused) => {
+            writeln!(out, "exception table refused: {}", refused.after(start))?;
             Ok(Outcome::Bad)
         }
+        Ok(handlers) => {
+            for handler in handlers {
+                let rows = locations.map_or(String::new(), |locations| rows(&handler, locations));
+                writeln!(out, "{}{rows}", text::handler(&handler))?;
+            }
+            Ok(Outcome::Good)
+        }
+    }
+}
+
+/// The rows that the guarded instructions come from, as far as entries of the line table placed them.
+fn rows(handler: &Handler, locations: Locations) -> String {
+    let guarded = handler.guarded(locations.from_entries());
+    let lines = || locations.iter().skip(guarded.start).take(guarded.len()).map(|at| at.location());
+    match (lines().map(|at| at.line).min(), lines().map(|at| at.end_line).max()) {
+        (Some(first), Some(last)) if first == last => format!(", row {first}"),
+        (Some(first), Some(last)) => format!(", rows {first} to {last}"),
+        _ => ", no row known".to_string(),
     }
 }
 

@@ -1,5 +1,5 @@
 //! Values, names and counts as they stand in a line for people.
-use sillgarland::{Content, Text, Value};
+use sillgarland::{Content, Handler, Text, Value};
 use std::path::Path;
 
 /// How much of a text, and of bytes, a line shows.
@@ -45,6 +45,18 @@ pub fn holds(value: Value) -> String {
             format!("code object {}, first line {}, {instructions}", name(code.qualified_name()), code.first_line())
         }
     }
+}
+
+/// An entry of an exception table.
+pub fn handler(handler: &Handler) -> String {
+    let Handler { start, length, target, depth, lasti } = handler;
+    let guards = match length {
+        0 => "no instruction".to_string(),
+        1 => format!("instruction {start}"),
+        _ => format!("instructions {start} to {}", handler.end() - 1),
+    };
+    let pushed = if *lasti { ", the last instruction pushed" } else { "" };
+    format!("handler at instruction {target} for {guards}, depth {depth}{pushed}")
 }
 
 /// A float as it reads back; of a NaN its bits, which are more than one.
@@ -103,6 +115,17 @@ mod tests {
         assert_eq!(shown(b"s\x02\0\0\0a\xFF"), "2 bytes 61 ff");
         assert_eq!(shown(b"z\x06a\"\\\n'b"), r#""a\"\\\n'b""#);
         assert_eq!(shown(b"z\x03\xED\xB2\x80"), "\"\\udc80\"");
+    }
+
+    #[test]
+    fn handlers_in_words() {
+        let shown = |start, length, lasti| handler(&Handler { start, length, target: 9, depth: 2, lasti });
+        assert_eq!(shown(4, 3, false), "handler at instruction 9 for instructions 4 to 6, depth 2");
+        assert_eq!(
+            shown(4, 1, true),
+            "handler at instruction 9 for instruction 4, depth 2, the last instruction pushed"
+        );
+        assert_eq!(shown(4, 0, false), "handler at instruction 9 for no instruction, depth 2");
     }
 
     #[test]

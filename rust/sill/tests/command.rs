@@ -57,8 +57,33 @@ fn code_with(instructions: usize, first_line: i32, table: &[u8], exceptions: &[u
     parts.concat()
 }
 
+/// A code object of eight instructions, two of them at row 11, with these bytes for its exception table.
+fn guarded(exceptions: &[u8]) -> Vec<u8> {
+    code_with(8, 10, &counted(b's', &[0xE9, 0x02, 0xFD]), &counted(b's', exceptions))
+}
+
 mod checking {
     use super::*;
+
+    /// Document 02, K1: behind a whole entry one without its marker, then a table that ends before its last number.
+    #[test]
+    fn a_damaged_exception_table() {
+        let table = [0x84, 0x03, 0x0A, 0x03, 0x04];
+        let golden = [b"N", &guarded(&table)[..]].concat();
+        let path = file(&folder("handlers"), "damaged.golden", &golden);
+        let (status, shown, _) = ended(&["check", &path]);
+        assert_eq!(status, 1);
+        let at = golden.len() - 1;
+        let told = format!("refused    {path}: exception table of code object total: 19 NoMarker at byte {at}: ");
+        assert!(shown.starts_with(&told), "{shown}");
+        let golden = guarded(&table[..3]);
+        let path = file(&folder("handlers"), "cut.golden", &golden);
+        let (status, shown, _) = ended(&["check", &path]);
+        assert_eq!(status, 1);
+        assert!(shown.contains(&format!("code object total: 2 DataTooShort at byte {}: ", golden.len())), "{shown}");
+        let path = file(&folder("handlers"), "sound.golden", &guarded(&table[..4]));
+        assert_eq!(ended(&["check", "--quiet", &path]).0, 0);
+    }
 
     /// Document 02, K2: a line step of 2^32 or more, behind an entry that places two instructions at row 11.
     #[test]
@@ -242,6 +267,43 @@ mod showing {
         assert_eq!(status, 0);
         assert!(shown.contains("      40  7a 0b  212:8 to 212:17\n"), "{shown}");
         assert!(!shown.contains('!'), "{shown}");
+    }
+
+    /// The entry guards instructions 0 to 2, of which two come from row 11 and one from no place at the same row.
+    #[test]
+    fn handlers_and_their_rows() {
+        let golden = guarded(&[0x80, 0x03, 0x06, 0x03, 0x87, 0x01, 0x06, 0x04]);
+        let path = file(&folder("guards"), "sound.golden", &golden);
+        let (status, shown, _) = ended(&["lines", &path]);
+        let lines: Vec<&str> = shown.lines().collect();
+        assert_eq!((status, lines.len()), (0, 11), "{shown}");
+        let first = "handler at instruction 6 for instructions 0 to 2, depth 1, the last instruction pushed, row 11";
+        assert_eq!(lines[9..], [first, "handler at instruction 6 for instruction 7, depth 2, row 11"]);
+        let (status, shown, _) = ended(&["show", "--depth", "0", &path]);
+        assert_eq!(status, 0);
+        assert!(shown.contains("; handler at instruction 6 for instruction 7, depth 2 …\n"), "{shown}");
+        let (_, shown, _) = ended(&["show", "--json", &path]);
+        let listed = "\"handlers\":[{\"start\":0,\"length\":3,\"target\":6,\"depth\":1,\"lasti\":true},\
+                      {\"start\":7,\"length\":1,\"target\":6,\"depth\":2,\"lasti\":false}]";
+        assert!(shown.contains(listed), "{shown}");
+    }
+
+    #[test]
+    fn a_damaged_exception_table_is_told() {
+        let golden = [b"N", &guarded(&[0x80, 0x44, 0x40, 0x40, 0x40, 0x40, 0x00, 0x06, 0x03])[..]].concat();
+        let path = file(&folder("guards"), "damaged.golden", &golden);
+        let (status, shown, _) = ended(&["lines", &path]);
+        assert_eq!(status, 1);
+        let told = format!("exception table refused: 18 NumberRange at byte {}: ", golden.len() - 8);
+        assert!(shown.lines().last().unwrap().starts_with(&told), "{shown}");
+        let (status, shown, _) = ended(&["show", &path]);
+        assert_eq!((status, shown.contains(&told)), (0, true), "{shown}");
+        let (_, shown, _) = ended(&["show", "--json", &path]);
+        let told = format!(
+            "\"handlers\":null,\"handlers_refused\":{{\"number\":18,\"name\":\"NumberRange\",\"place\":{},",
+            golden.len() - 8
+        );
+        assert!(shown.contains(&told), "{shown}");
     }
 
     #[test]

@@ -27,6 +27,15 @@ pub struct Found {
     pub next: u64,
 }
 
+/// What reading an exception table answers: how many entries there are, five numbers each.
+#[repr(C)]
+#[derive(Clone, Copy, Debug, PartialEq, Eq)]
+pub struct Exceptions {
+    pub refusal: u32,
+    pub place: u32,
+    pub count: u32,
+}
+
 /// What reading a line table answers: how many instructions came from entries, and whether the table was whole.
 #[repr(C)]
 #[derive(Clone, Copy, Debug, PartialEq, Eq)]
@@ -116,6 +125,13 @@ unsafe extern "C" {
     pub fn sill_write_varint_with_start(out: *mut u8, out_len: usize, value: u32) -> Written;
     pub fn sill_read_varint(data: *const u8, data_len: usize, at: usize) -> Found;
     pub fn sill_read_varint_with_start(data: *const u8, data_len: usize, at: usize) -> Found;
+    pub fn sill_read_exceptions(
+        table: *const u8,
+        table_len: usize,
+        entries: *mut u32,
+        entries_len: usize,
+    ) -> Exceptions;
+    pub fn sill_write_exceptions(entries: *const u32, entries_len: usize, out: *mut u8, out_len: usize) -> Written;
     pub fn sill_locate(
         table: *const u8,
         table_len: usize,
@@ -215,7 +231,7 @@ unsafe extern "C" {
     ) -> Written;
 }
 
-/// Hands document 01's refusals to a macro, each as `CONSTANT Name = number,`. Every table of refusals is made from this list.
+/// Hands the refusals of documents 01 and 02 to a macro, each as `CONSTANT Name = number,`. Every table of refusals is made from this list.
 #[macro_export]
 macro_rules! each_refusal {
     ($table:ident) => {
@@ -238,11 +254,12 @@ macro_rules! each_refusal {
             BAD_TABLE BadTable = 16,
             NO_ROOM NoRoom = 17,
             NUMBER_RANGE NumberRange = 18,
+            NO_MARKER NoMarker = 19,
         }
     };
 }
 
-/// The refusal numbers and limits of document 01, under the names of the crate `refusals`.
+/// The refusal numbers and limits of documents 01 and 02, under the names of the crate `refusals`.
 pub mod refusals {
     pub const ACCEPTED: u32 = 0;
 

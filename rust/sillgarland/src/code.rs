@@ -104,9 +104,13 @@ impl<'a> Code<'a> {
         self.part(8)
     }
 
-    /// The exception table's bytes.
+    /// The exception table's bytes; [`handlers`](Self::handlers) reads it.
     pub fn exception_table(&self) -> &'a [u8] {
         self.part(9).bytes()
+    }
+
+    pub(crate) fn exception_table_place(&self) -> usize {
+        self.part(9).place()
     }
 
     /// The position of the first local name that breaks document 01's name order, if one does: Local names (cells or

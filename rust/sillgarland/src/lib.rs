@@ -33,6 +33,7 @@
 
 mod code;
 mod golden;
+mod handlers;
 mod lines;
 mod reader;
 mod refusal;
@@ -43,6 +44,7 @@ mod write;
 
 pub use code::{Code, NUMBERS, PARTS};
 pub use golden::Golden;
+pub use handlers::{Handler, exception_table, handlers};
 pub use lines::{Lines, Located, Location, Locations, Records};
 pub use reader::Reader;
 pub use refusal::{Place, Refusal, Refused};

@@ -1,10 +1,10 @@
-//! Document 01's refusals: number, name and place, and what each means for the person whose file was refused.
+//! The refusals of documents 01 and 02: number, name and place, and what each means for the person whose file was refused.
 use sillgarland_sys::refusals::LAST_NUMBER;
 use std::fmt;
 
 macro_rules! refusals {
     ($($constant:ident $name:ident = $number:literal,)*) => {
-        /// Why nothing was read, written or located; the numbers and names are document 01's.
+        /// Why nothing was read, written or located; the numbers and names are those of documents 01 and 02.
         #[allow(missing_docs)] // each is explained by its `meaning`
         #[derive(Clone, Copy, Debug, PartialEq, Eq, PartialOrd, Ord, Hash)]
         pub enum Refusal {
@@ -30,7 +30,7 @@ impl Refusal {
         ALL.get(at).copied()
     }
 
-    /// Document 01's number.
+    /// Its number in documents 01 and 02.
     pub fn number(self) -> u32 {
         self as u32
     }
@@ -64,8 +64,10 @@ impl Refusal {
             Refusal::NoRoom => "what is written does not fit",
             Refusal::NumberRange => {
                 "a number here leaves its range: a code object's argument counts add up to 2^32 or more, \
-                 or a line table's entry has a number of 2^32 or more or steps to a line out of 32 bits"
+                 a line table's entry has a number of 2^32 or more or steps to a line out of 32 bits, \
+                 or an exception table's number is 2^32 or more or its depth 2^31 or more"
             }
+            Refusal::NoMarker => "an entry of an exception table is expected here, and this byte has no start marker",
         }
     }
 }
@@ -156,7 +158,7 @@ mod tests {
             assert_eq!(Refusal::of_number(*number).unwrap().to_string(), format!("{number} {name}"));
         }
         assert_eq!(Refusal::EofObject.number(), 1);
-        assert_eq!(Refusal::NumberRange.number(), refusals::NUMBER_RANGE);
+        assert_eq!(Refusal::NoMarker.number(), LAST_NUMBER);
     }
 
     #[test]

@@ -1,6 +1,6 @@
 //! The tree as JSON, nothing cut but by --depth.
 use super::walk::{Entered, Met, Parted, walk};
-use sillgarland::{Code, Content, Golden, NUMBERS, Place, Refused, Text};
+use sillgarland::{Code, Content, Golden, Handler, NUMBERS, Place, Refused, Text};
 use std::fmt::Write as _;
 use std::io::{self, Write};
 
@@ -13,7 +13,7 @@ pub fn show(input: &[u8], depth: usize, out: &mut dyn Write) -> io::Result<bool>
         show_value(start, golden, depth, out)
     })?;
     if let Some(refused) = refused {
-        write!(out, "{before}{}", refusal(&refused))?;
+        write!(out, "{before}{{\"refused\":{}}}", refusal(&refused))?;
     }
     writeln!(out, "\n]")?;
     Ok(refused.is_some())
@@ -47,7 +47,7 @@ fn opening(entered: &Entered, start: usize) -> String {
         let _ = write!(shown, ",\"same_as\":{place}");
         return shown;
     }
-    let (kind, holds) = holds(value.content());
+    let (kind, holds) = holds(value.content(), start);
     let _ = write!(shown, ",\"place\":{place},\"size\":{},\"type\":\"{kind}\"{holds}", value.size());
     match parted {
         Parted::Leaf | Parted::Again => {}
@@ -58,7 +58,7 @@ fn opening(entered: &Entered, start: usize) -> String {
 }
 
 /// A value's type, and its fields with a comma before each.
-fn holds(content: Content) -> (&'static str, String) {
+fn holds(content: Content, start: usize) -> (&'static str, String) {
     match content {
         Content::None => ("none", String::new()),
         Content::Stop => ("stop", String::new()),
@@ -76,7 +76,7 @@ fn holds(content: Content) -> (&'static str, String) {
         Content::FrozenSet(_) => ("frozenset", String::new()),
         Content::Slice(_) => ("slice", String::new()),
         Content::Dict(_) => ("dict", String::new()),
-        Content::Code(code) => ("code", numbers(&code)),
+        Content::Code(code) => ("code", numbers(&code) + &handlers(&code, start)),
     }
 }
 
@@ -90,6 +90,22 @@ fn numbers(code: &Code) -> String {
     let numbers = NUMBERS.iter().zip(code.numbers());
     let shown: String = numbers.map(|(name, number)| format!(",\"{}\":{number}", name.replace('-', "_"))).collect();
     format!("{shown},\"first_line\":{}", code.first_line())
+}
+
+/// The entries of the exception table, or null and the refusal.
+fn handlers(code: &Code, start: usize) -> String {
+    match code.handlers() {
+        Err(refused) => format!(",\"handlers\":null,\"handlers_refused\":{}", refusal(&refused.after(start))),
+        Ok(handlers) => {
+            let shown: Vec<String> = handlers.iter().map(handler).collect();
+            format!(",\"handlers\":[{}]", shown.join(","))
+        }
+    }
+}
+
+fn handler(handler: &Handler) -> String {
+    let Handler { start, length, target, depth, lasti } = handler;
+    format!("{{\"start\":{start},\"length\":{length},\"target\":{target},\"depth\":{depth},\"lasti\":{lasti}}}")
 }
 
 /// JSON has no NaN and no infinity: these are null, and the bits say which.
@@ -112,7 +128,7 @@ fn refusal(refused: &Refused) -> String {
         other => string(&other.to_string()),
     };
     let (number, meaning) = (refusal.number(), string(refusal.meaning()));
-    format!("{{\"refused\":{{\"number\":{number},\"name\":\"{refusal:?}\",\"place\":{place},\"meaning\":{meaning}}}}}")
+    format!("{{\"number\":{number},\"name\":\"{refusal:?}\",\"place\":{place},\"meaning\":{meaning}}}")
 }
 
 fn string(text: &str) -> String {

@@ -30,15 +30,20 @@ fn show_line(entered: &Entered, start: usize, out: &mut dyn Write) -> io::Result
     }
     match parted {
         Parted::Again => writeln!(out, "the same as at byte {place}: {}", text::holds(*value)),
-        Parted::Cut => writeln!(out, "{} …", holds(*value)),
-        Parted::Leaf | Parted::Whole => writeln!(out, "{}", holds(*value)),
+        Parted::Cut => writeln!(out, "{} …", holds(*value, start)),
+        Parted::Leaf | Parted::Whole => writeln!(out, "{}", holds(*value, start)),
     }
 }
 
-/// What it holds; of a code object also its numbers.
-fn holds(value: Value) -> String {
-    let numbers = value.as_code().map(|code| {
-        NUMBERS.iter().zip(code.numbers()).map(|(name, number)| format!(", {name} {number}")).collect::<String>()
-    });
-    text::holds(value) + &numbers.unwrap_or_default()
+/// What it holds; of a code object also its numbers and its handlers.
+fn holds(value: Value, start: usize) -> String {
+    let shown = text::holds(value);
+    let Some(code) = value.as_code() else { return shown };
+    let numbers: String =
+        NUMBERS.iter().zip(code.numbers()).map(|(name, number)| format!(", {name} {number}")).collect();
+    let handlers = match code.handlers() {
+        Err(refused) => format!("; exception table refused: {}", refused.after(start)),
+        Ok(handlers) => handlers.iter().map(|handler| format!("; {}", text::handler(handler))).collect(),
+    };
+    shown + &numbers + &handlers
 }

@@ -1,0 +1,5 @@
+pub mod Places
+pub mod Decoding
+pub mod Encoding
+pub mod ReadsBack
+pub mod Promised
