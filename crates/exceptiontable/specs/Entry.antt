@@ -1,5 +1,5 @@
 -- An entry of an exception table, as five numbers, and stores of such entries.
--- CPython, InternalDocs/exception_handling.md: "start-offset, length, target, depth and lasti"; 02, K1: "four big-endian varints an
+-- CPython, InternalDocs/exception_handling.md, the format of the table: start, length, target, and depth with lasti; 02, K1: "four big-endian varints an
 -- entry (start, length, target, depth x 2 plus the last-instruction bit)".
 use Prim.Native.Nat.{ℕ, zero, suc, _+_, _*_, _/_, _%_}
 use mathlib.Core.List.{List, [], _∷_, _++_}

@@ -1,5 +1,5 @@
 -- What an exception table reads as: 02, K1, over the big-endian varints of `varint`, with K5.
--- CPython, InternalDocs/exception_handling.md: "each entry is encoded as four varints .. The first varint of an entry has the start bit".
+-- CPython, InternalDocs/exception_handling.md, the format of the table: an entry is four varints, and its first byte has the start bit.
 use Prim.Native.Nat.{ℕ, zero, suc, _+_, _*_, _/_, _%_}
 use mathlib.Core.Bool.{cond}
 use mathlib.Core.List.{List, [], _∷_}
