@@ -47,6 +47,13 @@ enum {
     SILL_NO_ROOM = 17,
     SILL_NUMBER_RANGE = 18,
     SILL_NO_MARKER = 19,
+    SILL_NO_SUCH_START = 20,
+    SILL_ALREADY_ENDED = 21,
+    SILL_REPEATED_TAG = 22,
+    SILL_NO_SUCH_FIELD = 23,
+    SILL_NOT_JOINED = 24,
+    SILL_TRAILING_BYTES = 25,
+    SILL_VALUE_TOO_LONG = 26,
 };
 
 /* ---- Varints: six bits a byte, 0x40 meaning more. */

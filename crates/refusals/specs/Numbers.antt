@@ -1,4 +1,4 @@
--- 01, 'Numbers given when nothing is read': the number of each refusal, under the name that the table gives it.
+-- 01, 'Numbers given when nothing is read', and 02's requests: the number of each refusal, under the name that the table gives it.
 -- Contracts and definitions of every crate say the name; no bare number stands elsewhere.
 use Prim.Native.Nat.{ℕ}
 
@@ -64,6 +64,34 @@ numberRange = 18
 abbrev pub noMarker : ℕ
 noMarker = 19
 
--- the last of the table, with those that 02 adds
+-- 02, K4: "n beyond the count, or no k-th start (k counts from 1), 20 at 0"
+abbrev pub noSuchStart : ℕ
+noSuchStart = 20
+
+-- 02, K6: "a call after an accepted final one is 21 at 0"
+abbrev pub alreadyEnded : ℕ
+alreadyEnded = 21
+
+-- 02, K8: "repeated tag 22"
+abbrev pub repeatedTag : ℕ
+repeatedTag = 22
+
+-- 02, K8: "a tag in neither, no such edition, or saving a file whose edition is missing or already saved, 23"; K13: "other fields or edition 23"
+abbrev pub noSuchField : ℕ
+noSuchField = 23
+
+-- 02, K12: "not whole (a refused table is not) or lines that do not meet 24 at 0"
+abbrev pub notJoined : ℕ
+notJoined = 24
+
+-- 02, K13: "trailing bytes 25 at their start"
+abbrev pub trailingBytes : ℕ
+trailingBytes = 25
+
+-- 02, K13: "a value above 65,535 bytes 26 at its start"
+abbrev pub valueTooLong : ℕ
+valueTooLong = 26
+
+-- the last of the table, with those that 02 adds (K14: "for N from 1 to 26")
 abbrev pub lastNumber : ℕ
-lastNumber = noMarker
+lastNumber = valueTooLong

@@ -1,4 +1,4 @@
-// The refusal numbers and the limits of document 01, each named once for the code of every crate.
+// The refusal numbers of documents 01 and 02 and the limits of 01, each named once for the code of every crate.
 // `specs/Numbers` and `specs/Limits` name the same numbers for the definitions.
 
 pub const ACCEPTED: u32 = 0;
@@ -41,8 +41,22 @@ pub const NUMBER_RANGE: u32 = 18;
 
 pub const NO_MARKER: u32 = 19;
 
+pub const NO_SUCH_START: u32 = 20;
+
+pub const ALREADY_ENDED: u32 = 21;
+
+pub const REPEATED_TAG: u32 = 22;
+
+pub const NO_SUCH_FIELD: u32 = 23;
+
+pub const NOT_JOINED: u32 = 24;
+
+pub const TRAILING_BYTES: u32 = 25;
+
+pub const VALUE_TOO_LONG: u32 = 26;
+
 // The last of the table.
-pub const LAST_NUMBER: u32 = NO_MARKER;
+pub const LAST_NUMBER: u32 = VALUE_TOO_LONG;
 
 // The longest input, the largest capacity that counts, the deepest nesting that counts, and "no entry".
 pub const MOST_BYTES: u32 = 16_777_216;

@@ -255,6 +255,13 @@ macro_rules! each_refusal {
             NO_ROOM NoRoom = 17,
             NUMBER_RANGE NumberRange = 18,
             NO_MARKER NoMarker = 19,
+            NO_SUCH_START NoSuchStart = 20,
+            ALREADY_ENDED AlreadyEnded = 21,
+            REPEATED_TAG RepeatedTag = 22,
+            NO_SUCH_FIELD NoSuchField = 23,
+            NOT_JOINED NotJoined = 24,
+            TRAILING_BYTES TrailingBytes = 25,
+            VALUE_TOO_LONG ValueTooLong = 26,
         }
     };
 }

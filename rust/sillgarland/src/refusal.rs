@@ -68,6 +68,18 @@ impl Refusal {
                  or an exception table's number is 2^32 or more or its depth 2^31 or more"
             }
             Refusal::NoMarker => "an entry of an exception table is expected here, and this byte has no start marker",
+            Refusal::NoSuchStart => "no instruction or start of a row has this number",
+            Refusal::AlreadyEnded => "this reading by piece has ended, or its state is none that a call leaves",
+            Refusal::RepeatedTag => "the field that starts here has the tag of a field before it",
+            Refusal::NoSuchField => {
+                "the field or edition that is asked for is not there, or a file to be saved has none or one that is \
+                 saved already"
+            }
+            Refusal::NotJoined => {
+                "both line tables must be whole, and the second must start from the line that the first leaves"
+            }
+            Refusal::TrailingBytes => "the golden's values end here, and bytes follow",
+            Refusal::ValueTooLong => "the value that starts here is longer than 65,535 bytes, the most that a field holds",
         }
     }
 }
@@ -158,7 +170,8 @@ mod tests {
             assert_eq!(Refusal::of_number(*number).unwrap().to_string(), format!("{number} {name}"));
         }
         assert_eq!(Refusal::EofObject.number(), 1);
-        assert_eq!(Refusal::NoMarker.number(), LAST_NUMBER);
+        assert_eq!(Refusal::NoMarker.number(), 19);
+        assert_eq!(Refusal::ValueTooLong.number(), LAST_NUMBER);
     }
 
     #[test]
