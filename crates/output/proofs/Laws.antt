@@ -18,7 +18,7 @@ use Rattle.writing.specs.Canonical.{bytes32, bytes64, sized, ascii, codeString}
 use Rattle.writing.proofs.Numbers.{part-next, part-append, word-bytes, long-bytes, two-bytes}
 use Rattle.output.specs.declared.Wrote.{Wrote}
 use Rattle.output.specs.declared.Wrote.the-variants as wrote
-use Rattle.output.specs.Puts.{Puts, Short}
+use Rattle.output.specs.Puts.{Puts}
 
 -- Room, or none.
 
@@ -129,20 +129,6 @@ module _ (o : List ℕ) (at letter : ℕ) (s : List ℕ) (from size : ℕ) (h : 
       rw n (sets-sized o at letter size (contents s from size) e f) in
       placed (omega arith) (omega arith) q
 
--- a one-byte length, and then a part of the input
-module _ (o : List ℕ) (at : ℕ) (s : List ℕ) (from size : ℕ) (h : from + size ≤ length s) where
-  pub short-full : {n : ℕ} → at ≤ length o → length o < at + (2 + size) → n ≡ length o
-      → Puts (emit (0x7A ∷ length (contents s from size) ∷ contents s from size) ended) at o (wrote.Refused noRoom n) o
-  short-full k l e = full k (omega (arith, contents-length s from size h)) e
-
-  pub short-placed : {o′ : List ℕ} → at + 2 + size ≤ length o → o′ ≡ sets (set (set o at 0x7A) (at + 1) size) (at + 2) (contents s from size)
-      → Puts (emit (0x7A ∷ length (contents s from size) ∷ contents s from size) ended) at o (wrote.Done (at + 2 + size)) o′
-  short-placed {o′} l e =
-      let n = contents-length s from size h in
-      let q : o′ ≡ sets o at (0x7A ∷ length (contents s from size) ∷ contents s from size) =
-      rw n (e ∙ sets-second o at 0x7A size (contents s from size)) in
-      placed (omega arith) (omega arith) q
-
 -- a block of the input, read as numbers and stored as their bytes
 module _ (o : List ℕ) (at : ℕ) (s : List ℕ) (small : (i : ℕ) → getD s i 0 < 256) (from : ℕ) where
   pub four-stored : {w : ℕ} {o′ : List ℕ} → from + 4 ≤ length s → w ≡ le32 s from → o′ ≡ sets o at (bytes32 w) → o′ ≡ sets o at (contents s from 4)
@@ -211,62 +197,6 @@ pub storing-all : {o₀ : List ℕ} {at : ℕ} {s : List ℕ} {from size : ℕ} 
 storing-all {o₀} {at} {s} {from} {size} {o} {i} k h =
     let e : from + i ≡ from + size = omega arith in
     sym (ap (λ f. sets o (at + i) (slice f (from + size) s)) e ∙ ap (λ p. sets o (at + i) p) (slice-empty (from + size) s)) ∙ k .comes
-
--- so many bytes of the part are below 128, and the rest tells
-pub record Plain (s : List ℕ) (from size i : ℕ) : Type 0 where
-  pub within : i ≤ size
-  pub comes : ascii (slice (from + i) (from + size) s) ≡ ascii (contents s from size)
-
-pub plain-none : (s : List ℕ) (from size : ℕ) → Plain s from size 0
-plain-none s from size =
-    let f : from + 0 ≡ from = omega arith in
-    record { within = omega arith; comes = ap (λ k. ascii (slice k (from + size) s)) f }
-
-pub plain-more : {s : List ℕ} {from size i : ℕ} → Plain s from size i → from + size ≤ length s → i < size → getD s (from + i) 0 < 128 → Plain s from size (i + 1)
-unfolding ascii
-plain-more {s} {from} {size} {i} k h l b =
-    record {
-      within = omega arith;
-      comes = sym (ap ascii (part-next s from i (from + size) (omega arith) h) ∙ rw (lt-ltb (getD s (from + i) 0) 128 b) refl) ∙ k .comes;
-    }
-
-pub plain-not : {s : List ℕ} {from size i : ℕ} → Plain s from size i → from + size ≤ length s → i < size → 128 ≤ getD s (from + i) 0
-    → false ≡ ascii (contents s from size)
-unfolding ascii
-plain-not {s} {from} {size} {i} k h l b =
-    sym (ap ascii (part-next s from i (from + size) (omega arith) h) ∙ rw (le-ltb (getD s (from + i) 0) 128 b) refl) ∙ k .comes
-
-pub plain-all : {s : List ℕ} {from size i : ℕ} → Plain s from size i → size ≤ i → true ≡ ascii (contents s from size)
-unfolding ascii
-plain-all {s} {from} {size} {i} k h =
-    let e : from + i ≡ from + size = omega arith in
-    sym (ap (λ f. ascii (slice f (from + size) s)) e ∙ ap ascii (slice-empty (from + size) s)) ∙ k .comes
-
--- A code string.
-
-pub short-long : (s : List ℕ) (from size : ℕ) → from + size ≤ length s → 255 < size → Short s from size false
-short-long s from size h l =
-    record {
-      small = λ e. let z : _≡_ {A = ℕ} 0 1 = cc in absurd (omega arith);
-      tells = rw (le-ltb (length (contents s from size)) 256 (omega (arith, contents-length s from size h))) refl;
-    }
-
-pub short-few : {s : List ℕ} {from size : ℕ} {r : Bool} → from + size ≤ length s → size ≤ 255 → r ≡ ascii (contents s from size) → Short s from size r
-short-few {s} {from} {size} {r} h l e =
-    record {
-      small = λ _. omega arith;
-      tells = rw (lt-ltb (length (contents s from size)) 256 (omega (arith, contents-length s from size h))) e;
-    }
-
-pub string-short : {s : List ℕ} {from size : ℕ} {r : Bool} → Short s from size r → r ≡ true
-    → codeString (contents s from size) ≡ 0x7A ∷ length (contents s from size) ∷ contents s from size
-unfolding codeString
-string-short k e = rw (← k .tells, e) refl
-
-pub string-long : {s : List ℕ} {from size : ℕ} {r : Bool} → Short s from size r → r ≡ false
-    → codeString (contents s from size) ≡ sized 0x75 (contents s from size)
-unfolding codeString
-string-long k e = rw (← k .tells, e) refl
 
 -- a put of the same bytes
 pub puts-as : {bs cs o o′ : List ℕ} {at : ℕ} {r : Wrote} → Puts (emit bs ended) at o r o′ → cs ≡ bs → Puts (emit cs ended) at o r o′

@@ -2,15 +2,11 @@
 -- What a put does with the output: the bytes of a writing come behind those that are written, or it is refused.
 -- 01, 'Writing it back': "then room for its own bytes as they come (17)".
 use mathlib.Core.Path.{_≡_}
-use Prim.Native.Nat.{ℕ, _≤_, _<_}
-use mathlib.Core.Bool.{Bool, true, _&&_}
+use Prim.Native.Nat.{ℕ, _≤_}
 use mathlib.Core.List.{List}
 use lib.ListN.{length, take, drop}
-use lib.Dec.{ltb}
 use Rattle.grammar.specs.Reading.{Answer, gives, stops}
-use Rattle.grammar.specs.Fields.{contents}
 use Rattle.writing.specs.Writing.{Writing, into}
-use Rattle.writing.specs.Canonical.{ascii}
 use Rattle.writing.specs.Answer.{mostOutput}
 use Rattle.output.specs.declared.Wrote.{Wrote}
 use Rattle.output.specs.declared.Wrote.the-variants as wrote
@@ -29,8 +25,3 @@ Agrees (wrote.Refused number place) at o o′ answer = answer ≡ stops number p
 pub record Puts (w : Writing) (at : ℕ) (before : List ℕ) (r : Wrote) (after : List ℕ) : Type 0 where
   pub same : length after ≡ length before
   pub exact : Agrees r at before after (into (length before) (take at before) w)
-
--- "`z` if ASCII and under 256 bytes": whether the bytes are so
-pub record Short (s : List ℕ) (from size : ℕ) (r : Bool) : Type 0 where
-  pub small : r ≡ true → size < 256
-  pub tells : r ≡ (ltb (length (contents s from size)) 256 && ascii (contents s from size))

@@ -2,22 +2,13 @@
 // What a value's own bytes are is `writing`'s Canonical; where they come from is the caller's.
 ghost use mathlib.Core.Path.{_≡_};
 ghost use mathlib.Core.List.{[], _∷_};
-ghost use Prim.Native.Nat.{_+_, _*_, _≤_, _<_};
+ghost use Prim.Native.Nat.{_+_, _≤_};
 ghost use lib.ListN.{length};
 ghost use lib.Seq.{sets};
-ghost use Rattle.grammar.specs.LetterNames.{shortLetter};
-ghost use Rattle.refusals.specs.Limits.{mostBytes};
-ghost use Rattle.grammar.specs.Letters.{long};
-ghost use Rattle.grammar.specs.Fields.{contents, le64, fields, span, items};
-ghost use Rattle.grammar.specs.Leaf.{magnitude};
+ghost use Rattle.grammar.specs.Fields.{contents};
 ghost use Rattle.writing.specs.Writing.{emit, ended};
-ghost use Rattle.writing.specs.Canonical.{bytes32, bytes64, sized, ascii, codeString, digitsOf, digitBytes, bitsOf, ofBits, longBytes, integerBytes};
-ghost use Rattle.writing.specs.Shape.{longAt};
-ghost use Rattle.output.specs.Puts.{Open, Puts, Short};
-use grammar::WRITTEN_INT;
-use grammar::WRITTEN_LONG;
-use grammar::WRITTEN_SHORT;
-use grammar::WRITTEN_UNICODE;
+ghost use Rattle.writing.specs.Canonical.{bytes32, bytes64, sized};
+ghost use Rattle.output.specs.Puts.{Open, Puts};
 
 // A writer's answer: how many bytes are written, or a refusal's number and place.
 pub enum Wrote {
@@ -100,7 +91,7 @@ fn store_ends(out: &mut [u8], at: usize, s: &[u8], from: usize, size: usize)
 }
 
 // The same for any number of bytes, the common ones without a loop.
-fn store_slice(out: &mut [u8], at: usize, s: &[u8], from: usize, size: usize)
+pub fn store_slice(out: &mut [u8], at: usize, s: &[u8], from: usize, size: usize)
     requires { ⌜ (at + size ≤ length (now out)) × (from + size ≤ length (now s)) ⌝ }
     ensures { λ _. ⌜ now (out .exit) ≡ sets (now (out .entry)) at (contents (now (s .entry)) from size) ⌝ }
 {
@@ -184,174 +175,4 @@ pub fn write_vec(out: &mut [u8], at: u32, letter: u8, s: &[u8], from: u32, size:
     store_u32(out, place + 1, size);
     store_slice(out, place + 5, s, from as usize, count);
     Wrote::Done(at + 5 + size)
-}
-
-// Whether bytes of the input are all below 128.
-fn is_ascii(s: &[u8], from: usize, size: usize) -> bool
-    requires { ⌜ from + size ≤ length (now s) ⌝ }
-    ensures { λ r. ⌜ r ≡ ascii (contents (now (s .entry)) from size) ⌝ }
-{
-    let mut i = 0;
-    while i < size {
-        if 128 <= s[from + i] {
-            return false;
-        }
-        i += 1;
-    }
-    true
-}
-
-// Whether bytes of the input are few and ASCII.
-fn is_short(s: &[u8], from: u32, size: u32) -> bool
-    requires { ⌜ from + size ≤ length (now s) ⌝ }
-    ensures { λ r. ⌜ Short (now (s .entry)) from size r ⌝ }
-{
-    if 255 < size {
-        return false;
-    }
-    is_ascii(s, from as usize, size as usize)
-}
-
-// A one-byte length, and so many bytes of the input.
-fn write_short(out: &mut [u8], at: u32, s: &[u8], from: u32, size: u32) -> Wrote
-    requires { ⌜ Open at (now out) × (from + size ≤ length (now s)) × (size < 256) ⌝ }
-    ensures { λ r. ⌜ Puts (emit (shortLetter ∷ length (contents (now (s .entry)) from size) ∷ contents (now (s .entry)) from size) ended) at (now (out .entry)) r (now (out .exit)) ⌝ }
-{
-    let room = out.len();
-    let place = at as usize;
-    let count = size as usize;
-    if room - place < 2 + count {
-        return Wrote::Refused(refusals::NO_ROOM, room as u32);
-    }
-    out[place] = WRITTEN_SHORT;
-    out[place + 1] = size as u8;
-    store_slice(out, place + 2, s, from as usize, count);
-    Wrote::Done(at + 2 + size)
-}
-
-// A code string.
-pub fn write_marshal_str(out: &mut [u8], at: u32, s: &[u8], from: u32, size: u32) -> Wrote
-    requires { ⌜ Open at (now out) × (from + size ≤ length (now s)) ⌝ }
-    ensures { λ r. ⌜ Puts (emit (codeString (contents (now (s .entry)) from size)) ended) at (now (out .entry)) r (now (out .exit)) ⌝ }
-{
-    if is_short(s, from, size) {
-        return write_short(out, at, s, from, size);
-    }
-    write_vec(out, at, WRITTEN_UNICODE, s, from, size)
-}
-
-// How many digits of 15 bits a number outside signed 32 bits has.
-fn digits_in(magnitude: u64) -> u32
-    requires { ⌜ 2147483648 ≤ magnitude ⌝ }
-    ensures { λ r. ⌜ (r ≡ length (digitsOf magnitude)) × (3 ≤ r) × (r ≤ 5) ⌝ }
-{
-    if magnitude < 0x2000_0000_0000 {
-        return 3;
-    }
-    if magnitude < 0x1000_0000_0000_0000 {
-        return 4;
-    }
-    5
-}
-
-// The digits of a number, the least first.
-fn store_digits(out: &mut [u8], at: usize, magnitude: u64)
-    requires { ⌜ at + 2 * length (digitsOf magnitude) ≤ length (now out) ⌝ }
-    ensures { λ _. ⌜ now (out .exit) ≡ sets (now (out .entry)) at (digitBytes (digitsOf magnitude)) ⌝ }
-{
-    let mut left = magnitude;
-    let mut place = at;
-    while 0 < left {
-        let digit = left % 32768;
-        out[place] = (digit % 256) as u8;
-        out[place + 1] = (digit / 256 % 256) as u8;
-        left = left / 32768;
-        place += 2;
-    }
-}
-
-// The count of digits, its sign being the number's.
-fn signed_count(negative: bool, count: u32) -> u32
-    requires { ⌜ 0 < count ⌝ }
-    ensures { λ r. ⌜ r ≡ bitsOf 4294967296 (record { negative = negative; magnitude = count }) ⌝ }
-{
-    if negative {
-        return 0xFFFF_FFFF - count + 1;
-    }
-    count
-}
-
-// An integer outside signed 32 bits.
-fn write_digits(out: &mut [u8], at: u32, negative: bool, magnitude: u64) -> Wrote
-    requires { ⌜ Open at (now out) × (2147483648 ≤ magnitude) ⌝ }
-    ensures { λ r. ⌜ Puts (emit (longBytes (record { negative = negative; magnitude = magnitude })) ended) at (now (out .entry)) r (now (out .exit)) ⌝ }
-{
-    let room = out.len();
-    let place = at as usize;
-    let count = digits_in(magnitude);
-    if room - place < 5 + 2 * count as usize {
-        return Wrote::Refused(refusals::NO_ROOM, room as u32);
-    }
-    out[place] = WRITTEN_LONG;
-    store_u32(out, place + 1, signed_count(negative, count));
-    store_digits(out, place + 5, magnitude);
-    Wrote::Done(at + 5 + 2 * count)
-}
-
-// A whole number of 64 bits that stands at a place.
-pub fn write_int64(out: &mut [u8], at: u32, s: &[u8], place: u32) -> Wrote
-    requires { ⌜ Open at (now out) × (place + 8 ≤ length (now s)) ⌝ }
-    ensures { λ r. ⌜ Puts (emit (integerBytes (ofBits 9223372036854775808 (le64 (now (s .entry)) place))) ended) at (now (out .entry)) r (now (out .exit)) ⌝ }
-{
-    let bits = fields::le64(s, place as usize);
-    if bits < 0x8000_0000 {
-        return write_slice(out, at, WRITTEN_INT, s, place, 4);
-    }
-    if 0xFFFF_FFFF_8000_0000 <= bits {
-        return write_slice(out, at, WRITTEN_INT, s, place, 4);
-    }
-    if bits < 0x8000_0000_0000_0000 {
-        return write_digits(out, at, false, bits);
-    }
-    write_digits(out, at, true, 0xFFFF_FFFF_FFFF_FFFF - bits + 1)
-}
-
-// The number of up to three digits that stand at a place.
-fn few_digits(s: &[u8], at: usize, count: u32) -> u64
-    requires { ⌜ (at + 2 * count ≤ length (now s)) × (count ≤ 3) ⌝ }
-    ensures { λ r. ⌜ r ≡ magnitude (now (s .entry)) count at ⌝ }
-{
-    if count == 0 {
-        return 0;
-    }
-    let low = fields::le16(s, at) as u64;
-    if count == 1 {
-        return low;
-    }
-    let middle = fields::le16(s, at + 2) as u64;
-    if count == 2 {
-        return low + 32768 * middle;
-    }
-    low + 32768 * (middle + 32768 * fields::le16(s, at + 2 + 2) as u64)
-}
-
-// A long that stands at a place, with its count: its digits are the fewest already.
-pub fn write_pylong(out: &mut [u8], at: u32, s: &[u8], place: u32, size: u32) -> Wrote
-    requires { ⌜ Open at (now out) × (fields (now s) long place ≡ span place size (items 0)) × (length (now s) ≤ mostBytes) ⌝ }
-    ensures { λ r. ⌜ Puts (emit (integerBytes (longAt (now (s .entry)) place)) ended) at (now (out .entry)) r (now (out .exit)) ⌝ }
-{
-    if 10 < size {
-        return write_slice(out, at, WRITTEN_LONG, s, place, size);
-    }
-    let value = few_digits(s, place as usize + 4, (size - 4) / 2);
-    if fields::le32(s, place as usize) < 0x8000_0000 {
-        if value < 0x8000_0000 {
-            return write_len(out, at, WRITTEN_INT, value as u32);
-        }
-        return write_slice(out, at, WRITTEN_LONG, s, place, size);
-    }
-    if value <= 0x8000_0000 {
-        return write_len(out, at, WRITTEN_INT, 0xFFFF_FFFF - value as u32 + 1);
-    }
-    write_slice(out, at, WRITTEN_LONG, s, place, size)
 }

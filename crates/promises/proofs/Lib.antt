@@ -17,6 +17,8 @@ pub mod Readsteps
 pub mod Reader
 pub mod Leaf
 pub mod Output
+pub mod Outputtext
+pub mod Outputlongs
 pub mod Writecheck
 pub mod Writeleaves
 pub mod Writenames

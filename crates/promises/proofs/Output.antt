@@ -53,6 +53,9 @@ puts-one (wrote.Refused n p) (wrote.Refused n′ p′) x y =
 pub store-u32-agrees : Agree output.store_u32.ended output.store_u32.Reads.Asked output.store_u32.Reads.Learnt
 store-u32-agrees κs a asked r r′ ws ws′ p p′ = (refl, λ i. (one p p′ i, (tt, (tt, tt))))
 
+pub store-slice-agrees : Agree output.store_slice.ended output.store_slice.Reads.Asked output.store_slice.Reads.Learnt
+store-slice-agrees κs a asked r r′ ws ws′ p p′ = (refl, λ i. (one p p′ i, (tt, (tt, (tt, (tt, tt))))))
+
 pub write-u8-agrees : AgreeAs output.write_u8.ended (λ κs a. whereDone) output.write_u8.Reads.Asked output.write_u8.Reads.Learnt
 write-u8-agrees κs a asked r r′ ws ws′ p p′ = (puts-one r r′ p p′ .0, λ done i. (puts-one r r′ p p′ .1 done i, (tt, (tt, tt))))
 
@@ -67,12 +70,3 @@ write-slice-agrees κs a asked r r′ ws ws′ p p′ = (puts-one r r′ p p′ 
 
 pub write-vec-agrees : AgreeAs output.write_vec.ended (λ κs a. whereDone) output.write_vec.Reads.Asked output.write_vec.Reads.Learnt
 write-vec-agrees κs a asked r r′ ws ws′ p p′ = (puts-one r r′ p p′ .0, λ done i. (puts-one r r′ p p′ .1 done i, (tt, (tt, (tt, (tt, (tt, tt)))))))
-
-pub write-marshal-str-agrees : AgreeAs output.write_marshal_str.ended (λ κs a. whereDone) output.write_marshal_str.Reads.Asked output.write_marshal_str.Reads.Learnt
-write-marshal-str-agrees κs a asked r r′ ws ws′ p p′ = (puts-one r r′ p p′ .0, λ done i. (puts-one r r′ p p′ .1 done i, (tt, (tt, (tt, (tt, tt))))))
-
-pub write-int64-agrees : AgreeAs output.write_int64.ended (λ κs a. whereDone) output.write_int64.Reads.Asked output.write_int64.Reads.Learnt
-write-int64-agrees κs a asked r r′ ws ws′ p p′ = (puts-one r r′ p p′ .0, λ done i. (puts-one r r′ p p′ .1 done i, (tt, (tt, (tt, tt)))))
-
-pub write-pylong-agrees : AgreeAs output.write_pylong.ended (λ κs a. whereDone) output.write_pylong.Reads.Asked output.write_pylong.Reads.Learnt
-write-pylong-agrees κs a asked r r′ ws ws′ p p′ = (puts-one r r′ p p′ .0, λ done i. (puts-one r r′ p p′ .1 done i, (tt, (tt, (tt, (tt, tt))))))

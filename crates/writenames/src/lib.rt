@@ -32,7 +32,7 @@ pub fn write_string(
         return output::Wrote::Refused(refusals::TOO_DEEP, node);
     }
     let n = stores::node_of(nodes, node);
-    output::write_marshal_str(out, at, s, n.place, n.size)
+    outputtext::write_marshal_str(out, at, s, n.place, n.size)
 }
 
 // The names of a chain, one after another.

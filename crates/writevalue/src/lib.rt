@@ -83,7 +83,7 @@ fn write_eight(s: &[u8], out: &mut [u8], letter: u32, place: u32, at: u32) -> ou
     if letter == FLOAT_LETTER {
         return output::write_slice(out, at, WRITTEN_FLOAT, s, place, 8);
     }
-    output::write_int64(out, at, s, place)
+    outputlongs::write_int64(out, at, s, place)
 }
 
 // A node's own bytes, in front of its children.
@@ -103,7 +103,7 @@ fn write_front(s: &[u8], out: &mut [u8], n: stores::Node, class: u32, at: u32) -
             n.place,
             16,
         )),
-        fields::LONG_CLASS => whole(output::write_pylong(out, at, s, n.place, n.size)),
+        fields::LONG_CLASS => whole(outputlongs::write_pylong(out, at, s, n.place, n.size)),
         fields::SEQUENCE_CLASS => with_row(
             output::write_len(out, at, n.letter as u8, n.count),
             false,

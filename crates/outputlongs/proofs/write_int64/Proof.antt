@@ -1,6 +1,6 @@
 -- Carried by the laws of integers of 64 bits. Assumes nothing.
 use Rattle.output.proofs.Laws.{puts-as}
-use Rattle.output.proofs.Integers.{int64-low, int64-high, int64-positive, int64-negative}
+use Rattle.outputlongs.proofs.Integers.{int64-low, int64-high, int64-positive, int64-negative}
 use Rattle.grammar.specs.Fields.{le64}
 use Rattle.writing.specs.Canonical.{longBytes}
 use native.Mathlib.Omega.{arith}
@@ -8,8 +8,8 @@ use mathlib.Core.Bool.{true, false}
 use Prim.Native.Nat.{ℕ, _+_, _-_}
 use mathlib.Core.Path.{_≡_, sym, ap, _∙_}
 use borrow.Author.Needs.{needs}
-use Rattle.output.proofs.write_int64.Statement.{statement}
-use Rattle.output.proofs.write_int64.Tie as tie
+use Rattle.outputlongs.proofs.write_int64.Statement.{statement}
+use Rattle.outputlongs.proofs.write_int64.Tie as tie
 
 le64-requires : tie.Need-le64-requires
 le64-requires c κs = search needs

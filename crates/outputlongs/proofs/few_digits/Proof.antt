@@ -1,9 +1,9 @@
 -- One digit at a time. Assumes nothing.
-use Rattle.output.proofs.Integers.{digits-0, digits-1, digits-2, digits-3}
+use Rattle.outputlongs.proofs.Integers.{digits-0, digits-1, digits-2, digits-3}
 use native.Mathlib.Omega.{arith}
 use borrow.Author.Needs.{needs}
-use Rattle.output.proofs.few_digits.Statement.{statement}
-use Rattle.output.proofs.few_digits.Tie as tie
+use Rattle.outputlongs.proofs.few_digits.Statement.{statement}
+use Rattle.outputlongs.proofs.few_digits.Tie as tie
 
 returns : tie.Need-returns
 returns c = digits-0 (c .before .before .args .s .now) (c .before .before .args .count) (c .before .before .args .at) (omega arith)

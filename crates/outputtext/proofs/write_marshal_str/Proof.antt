@@ -1,9 +1,10 @@
 -- Carried by the laws of short strings. Assumes nothing.
-use Rattle.output.proofs.Laws.{string-short, string-long, puts-as}
+use Rattle.output.proofs.Laws.{puts-as}
+use Rattle.outputtext.proofs.Strings.{string-short, string-long}
 use native.Mathlib.Omega.{arith}
 use borrow.Author.Needs.{needs}
-use Rattle.output.proofs.write_marshal_str.Statement.{statement}
-use Rattle.output.proofs.write_marshal_str.Tie as tie
+use Rattle.outputtext.proofs.write_marshal_str.Statement.{statement}
+use Rattle.outputtext.proofs.write_marshal_str.Tie as tie
 
 is-short-requires : tie.Need-is-short-requires
 is-short-requires c κs = search needs

@@ -1,9 +1,9 @@
 -- Carried by `Plain`: the bytes that are left tell the same. Assumes nothing.
-use Rattle.output.proofs.Laws.{Plain, plain-none, plain-more, plain-not, plain-all}
+use Rattle.outputtext.proofs.Strings.{Plain, plain-none, plain-more, plain-not, plain-all}
 use Prim.Native.Nat.{_-_}
 use borrow.Author.Needs.{needs}
-use Rattle.output.proofs.is_ascii.Statement.{statement}
-use Rattle.output.proofs.is_ascii.Tie as tie
+use Rattle.outputtext.proofs.is_ascii.Statement.{statement}
+use Rattle.outputtext.proofs.is_ascii.Tie as tie
 
 abbrev Inv-loop : tie.InvT-loop
 Inv-loop s from size i₀ i = Plain s from size i

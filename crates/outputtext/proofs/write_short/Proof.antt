@@ -1,11 +1,11 @@
 -- Carried by the laws of room. Assumes nothing.
-use Rattle.output.proofs.Laws.{short-full, short-placed}
+use Rattle.outputtext.proofs.Strings.{short-full, short-placed}
 use lib.ListN.{length-set}
 use native.Mathlib.Omega.{arith}
 use mathlib.Core.Path.{_∙_}
 use borrow.Author.Needs.{needs}
-use Rattle.output.proofs.write_short.Statement.{statement}
-use Rattle.output.proofs.write_short.Tie as tie
+use Rattle.outputtext.proofs.write_short.Statement.{statement}
+use Rattle.outputtext.proofs.write_short.Tie as tie
 
 sub-if1 : tie.Need-sub-if1
 sub-if1 c = search needs

@@ -1,10 +1,10 @@
 -- Carried by `Digiting`: the digits of what is left still come to the same output. Assumes nothing.
-use Rattle.output.proofs.Integers.{Digiting, digiting-none, digiting-room, digiting-more, digiting-all}
+use Rattle.outputlongs.proofs.Integers.{Digiting, digiting-none, digiting-room, digiting-more, digiting-all}
 use lib.ListN.{length-set}
 use native.Mathlib.Omega.{arith}
 use borrow.Author.Needs.{needs}
-use Rattle.output.proofs.store_digits.Statement.{statement}
-use Rattle.output.proofs.store_digits.Tie as tie
+use Rattle.outputlongs.proofs.store_digits.Statement.{statement}
+use Rattle.outputlongs.proofs.store_digits.Tie as tie
 
 abbrev Inv-loop : tie.InvT-loop
 Inv-loop out₀ at magnitude left₀ place₀ out left place = Digiting out₀ at magnitude out left place

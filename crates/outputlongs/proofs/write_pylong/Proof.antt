@@ -1,11 +1,11 @@
 -- Carried by the laws of longs. Assumes nothing.
 use Rattle.writing.proofs.Digits.{long-within}
 use Rattle.output.proofs.Laws.{puts-as}
-use Rattle.output.proofs.Integers.{long-few, long-many, long-positive, long-great, long-negative, long-less, long-above}
+use Rattle.outputlongs.proofs.Integers.{long-few, long-many, long-positive, long-great, long-negative, long-less, long-above}
 use native.Mathlib.Omega.{arith}
 use borrow.Author.Needs.{needs}
-use Rattle.output.proofs.write_pylong.Statement.{statement}
-use Rattle.output.proofs.write_pylong.Tie as tie
+use Rattle.outputlongs.proofs.write_pylong.Statement.{statement}
+use Rattle.outputlongs.proofs.write_pylong.Tie as tie
 
 write-slice-requires : tie.Need-write-slice-requires
 write-slice-requires c κs = (c .before .before .before .before .pre .0, long-within (c .before .before .before .before .args .s .now) (λ i. omega (arith, c .before .before .shared-slice-known .given i)) (c .before .before .before .before .args .place) (c .before .before .before .before .args .size) (c .before .before .before .before .pre .1))

@@ -1,11 +1,11 @@
 -- Carried by the laws of room and of digits. Assumes nothing.
-use Rattle.output.proofs.Integers.{digits-full, digits-placed}
+use Rattle.outputlongs.proofs.Integers.{digits-full, digits-placed}
 use lib.ListN.{length-set}
 use native.Mathlib.Omega.{arith}
 use mathlib.Core.Path.{_∙_}
 use borrow.Author.Needs.{needs}
-use Rattle.output.proofs.write_digits.Statement.{statement}
-use Rattle.output.proofs.write_digits.Tie as tie
+use Rattle.outputlongs.proofs.write_digits.Statement.{statement}
+use Rattle.outputlongs.proofs.write_digits.Tie as tie
 
 digits-in-requires : tie.Need-digits-in-requires
 digits-in-requires c κs = search needs

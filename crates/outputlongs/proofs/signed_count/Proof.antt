@@ -2,8 +2,8 @@
 use mathlib.Core.Path.{refl}
 use native.Mathlib.Omega.{arith}
 use borrow.Author.Needs.{needs}
-use Rattle.output.proofs.signed_count.Statement.{statement}
-use Rattle.output.proofs.signed_count.Tie as tie
+use Rattle.outputlongs.proofs.signed_count.Statement.{statement}
+use Rattle.outputlongs.proofs.signed_count.Tie as tie
 
 sub-result : tie.Need-sub-result
 sub-result c = search needs

@@ -1,9 +1,9 @@
 -- Carried by the laws of short strings. Assumes nothing.
-use Rattle.output.proofs.Laws.{short-long, short-few}
+use Rattle.outputtext.proofs.Strings.{short-long, short-few}
 use native.Mathlib.Omega.{arith}
 use borrow.Author.Needs.{needs}
-use Rattle.output.proofs.is_short.Statement.{statement}
-use Rattle.output.proofs.is_short.Tie as tie
+use Rattle.outputtext.proofs.is_short.Statement.{statement}
+use Rattle.outputtext.proofs.is_short.Tie as tie
 
 returns : tie.Need-returns
 returns c = short-long _ _ _ (c .before .before .pre) (omega arith)

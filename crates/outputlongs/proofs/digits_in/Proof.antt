@@ -2,8 +2,8 @@
 use Rattle.writing.proofs.Digits.{three-digits, four-digits, five-digits}
 use mathlib.Core.Path.{sym}
 use native.Mathlib.Omega.{arith}
-use Rattle.output.proofs.digits_in.Statement.{statement}
-use Rattle.output.proofs.digits_in.Tie as tie
+use Rattle.outputlongs.proofs.digits_in.Statement.{statement}
+use Rattle.outputlongs.proofs.digits_in.Tie as tie
 
 returns : tie.Need-returns
 returns c = (sym (three-digits (c .before .args .magnitude) (omega arith) (omega arith)), omega arith, omega arith)
