@@ -29,7 +29,7 @@ use Rattle.promises.specs.Calls.{Reader, Writer, deserializeValue, sillR
 use Rattle.promises.specs.Demand2.{ReadFits, Demand2, rootRead}
 use Rattle.promises.specs.Demand3.{Demand3}
 use Rattle.promises.specs.Substance.{CallWith, Callable, RefusesAll, Constant, MadeUp, tuple, Invents, ReadsChildren, ShutOut}
-use Rattle.promises.proofs.Reader.{outcomeFrom}
+use Rattle.agreement.proofs.Reader.{outcomeFrom}
 use Rattle.promises.proofs.Reading.{Exactly}
 use Rattle.promises.proofs.Demand3.{exactly-so}
 

@@ -22,7 +22,7 @@ use Rattle.writer.proofs as writer
 use Rattle.sillgarland.specs.declared.values.SillRead.{SillRead}
 use Rattle.sillgarland.specs.declared.varints.SillWritten.{SillWritten}
 use Rattle.sillgarland.proofs as sillgarland
-use Rattle.promises.specs.Agreement.{Asks, Tells}
+use Rattle.agreement.specs.Agreement.{Asks, Tells}
 
 -- Arguments that meet what is asked; a result and the last contents of what was lent for writing; and the contract, which they meet.
 pub record Call (f : Ended) (asked : Asks f) (learnt : Tells f) : Type 0 where

@@ -45,7 +45,7 @@ use Rattle.sillgarland.specs.declared.locations.SillLocated.{SillLocated}
 use Rattle.sillgarland.specs.declared.varints.SillWritten.{SillWritten}
 use Rattle.sillgarland.specs.declared.varints.SillFound.{SillFound}
 use Rattle.sillgarland.proofs as sillgarland
-use Rattle.promises.specs.Agreement.{Asks, Tells, InModels}
+use Rattle.agreement.specs.Agreement.{Asks, Tells, InModels}
 use Rattle.promises.specs.Calls.{Call}
 
 -- the numbers of 01's table, with those that 02 adds

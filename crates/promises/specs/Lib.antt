@@ -1,13 +1,7 @@
-pub mod Agreement
-pub mod Partly
 pub mod Calls
 pub mod Demand1
 pub mod Demand2
 pub mod Asked
-pub mod Lines
-pub mod LittleEndian
-pub mod Leaves
-pub mod Floats
 pub mod Demand3
 pub mod Substance
 pub mod Requests

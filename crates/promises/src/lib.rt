@@ -1,1 +1,1 @@
-// One answer per input for each callable function, and the demands, each as a named theorem: statements about contracts only.
+// The demands and what the requests promise, each as a named theorem: statements about contracts only.

@@ -1,0 +1,29 @@
+-- One answer for each call of the functions of `lineentry`: the answer, by an equation.
+use mathlib.Core.Path.{refl}
+use Rattle.lineentry.proofs as lineentry
+use Rattle.agreement.specs.Agreement.{Agree}
+use Rattle.agreement.proofs.Same.{one}
+
+pub lt-byte-agrees : Agree lineentry.lt_byte.ended lineentry.lt_byte.Reads.Asked lineentry.lt_byte.Reads.Learnt
+lt-byte-agrees κs a asked r r′ ws ws′ p p′ = (one p p′, refl)
+
+pub lt-read-varint-agrees : Agree lineentry.lt_read_varint.ended lineentry.lt_read_varint.Reads.Asked lineentry.lt_read_varint.Reads.Learnt
+lt-read-varint-agrees κs a asked r r′ ws ws′ p p′ = (one p p′, refl)
+
+pub lt-read-signed-varint-agrees : Agree lineentry.lt_read_signed_varint.ended lineentry.lt_read_signed_varint.Reads.Asked lineentry.lt_read_signed_varint.Reads.Learnt
+lt-read-signed-varint-agrees κs a asked r r′ ws ws′ p p′ = (one p p′, refl)
+
+pub as-signed-agrees : Agree lineentry.as_signed.ended lineentry.as_signed.Reads.Asked lineentry.as_signed.Reads.Learnt
+as-signed-agrees κs a asked r r′ ws ws′ p p′ = (one p p′, refl)
+
+pub move-line-agrees : Agree lineentry.move_line.ended lineentry.move_line.Reads.Asked lineentry.move_line.Reads.Learnt
+move-line-agrees κs a asked r r′ ws ws′ p p′ = (one p p′, refl)
+
+pub show-line-agrees : Agree lineentry.show_line.ended lineentry.show_line.Reads.Asked lineentry.show_line.Reads.Learnt
+show-line-agrees κs a asked r r′ ws ws′ p p′ = (one p p′, refl)
+
+pub at-line-agrees : Agree lineentry.at_line.ended lineentry.at_line.Reads.Asked lineentry.at_line.Reads.Learnt
+at-line-agrees κs a asked r r′ ws ws′ p p′ = (one p p′, refl)
+
+pub read-entry-agrees : Agree lineentry.read_entry.ended lineentry.read_entry.Reads.Asked lineentry.read_entry.Reads.Learnt
+read-entry-agrees κs a asked r r′ ws ws′ p p′ = (one p p′, refl)

@@ -1,0 +1,87 @@
+-- One answer for each call of the functions of `sillgarland`, the exports: the struct of 01's numbers and every store, by an
+-- equation each.
+use mathlib.Core.Path.{_≡_, refl}
+use Prim.Native.Nat.{_/_, min}
+use lib.ListN.{length}
+use base.Logic.{id⊢}
+use contract.Monad.{fact}
+use denote.Ref.{now}
+use Rattle.localsplus.proofs.Theorems.{one-answer}
+use Rattle.linetable.specs.Walk.{Reading}
+use Rattle.linetable.specs.Answer.{located, firstLine, answer, recordsOf, locationsOf}
+use Rattle.sillgarland.specs.Locations.{locatedStruct}
+use Rattle.sillgarland.proofs as sillgarland
+use Rattle.agreement.specs.Agreement.{Tells, Agree, AgreeInModels}
+use Rattle.agreement.proofs.Same.{one, in-models}
+
+pub sill-leaf-agrees : Agree sillgarland.leaves.sill_leaf.ended sillgarland.leaves.sill_leaf.Reads.Asked sillgarland.leaves.sill_leaf.Reads.Learnt
+sill-leaf-agrees κs a asked r r′ ws ws′ p p′ = (one p p′, refl)
+
+pub sill-locate-node-agrees : Agree sillgarland.leaves.sill_locate_node.ended sillgarland.leaves.sill_locate_node.Reads.Asked sillgarland.leaves.sill_locate_node.Reads.Learnt
+sill-locate-node-agrees κs a asked r r′ ws ws′ p p′ = (one (p .0) (p′ .0), λ i. (tt, (tt, (tt, (tt, (tt, (tt, (one (p .1) (p′ .1) i, tt))))))))
+
+pub sill-split-agrees : Agree sillgarland.locals.sill_split.ended sillgarland.locals.sill_split.Reads.Asked sillgarland.locals.sill_split.Reads.Learnt
+sill-split-agrees κs a asked r r′ ws ws′ p p′ =
+    let e = one-answer refl refl refl refl refl (p .stores) (p′ .stores) in
+    (one (p .numbers) (p′ .numbers), λ i. (tt, (tt, (tt, (tt, (tt, (e .1 i, (e .2 i, (e .3 i, (e .4 i, (e .5 i, tt)))))))))))
+
+pub sill-locate-agrees : Agree sillgarland.locations.sill_locate.ended sillgarland.locations.sill_locate.Reads.Asked sillgarland.locations.sill_locate.Reads.Learnt
+sill-locate-agrees κs a asked r r′ ws ws′ p p′ = (one (p .0) (p′ .0), λ i. (tt, (tt, (tt, (one (p .1) (p′ .1) i, tt)))))
+
+-- The export over a slice of `Location`: its clauses, as they stand in the source, say a plain fact in every model.
+abbrev placed : Tells sillgarland.locations.sill_locations.ended
+placed κs a r e =
+    let reading : Reading = located (now (a .0)) (firstLine (a .1 .0)) (a .1 .1 .0) (min (length (now (a .1 .1 .1 .0)) / 4) (length (now (a .1 .1 .1 .1 .0)))) in
+    (r ≡ locatedStruct (answer reading))
+    × (now (e .1 .1 .1 .0) ≡ recordsOf (length (now (a .1 .1 .1 .0))) reading)
+    × (now (e .1 .1 .1 .1 .0) ≡ locationsOf (length (now (a .1 .1 .1 .1 .0))) reading)
+
+pub sill-locations-agrees : AgreeInModels sillgarland.locations.sill_locations.ended (λ M. sillgarland.locations.sill_locations.clauses)
+sill-locations-agrees =
+    in-models sillgarland.locations.sill_locations.ended (λ M. sillgarland.locations.sill_locations.clauses) placed
+    (λ M 𝓤 H A mem run κs a g r e. id⊢ 𝓤 (fact 𝓤 (placed κs a r e)))
+    (λ κs a asked r r′ ws ws′ p p′.
+    (one (p .0) (p′ .0), λ i. (tt, (tt, (tt, (one (p .1) (p′ .1) i, (one (p .2) (p′ .2) i, tt)))))))
+
+pub located-numbers-agrees : Agree sillgarland.locations.located_numbers.ended sillgarland.locations.located_numbers.Reads.Asked sillgarland.locations.located_numbers.Reads.Learnt
+located-numbers-agrees κs a asked r r′ ws ws′ p p′ = (one p p′, refl)
+
+pub sill-salvage-agrees : Agree sillgarland.repairs.sill_salvage.ended sillgarland.repairs.sill_salvage.Reads.Asked sillgarland.repairs.sill_salvage.Reads.Learnt
+sill-salvage-agrees κs a asked r r′ ws ws′ p p′ = (one (p .0) (p′ .0), λ i. (tt, (tt, (tt, (one (p .1) (p′ .1) i, tt)))))
+
+pub sill-sources-agrees : Agree sillgarland.origins.sill_sources.ended sillgarland.origins.sill_sources.Reads.Asked sillgarland.origins.sill_sources.Reads.Learnt
+sill-sources-agrees κs a asked r r′ ws ws′ p p′ = (one (p .0) (p′ .0), λ i. (tt, (tt, (tt, (one (p .1) (p′ .1) i, tt)))))
+
+pub sill-read-agrees : Agree sillgarland.values.sill_read.ended sillgarland.values.sill_read.Reads.Asked sillgarland.values.sill_read.Reads.Learnt
+sill-read-agrees κs a asked r r′ ws ws′ p p′ = (
+  one (p .numbers) (p′ .numbers),
+  λ i. (tt, (one (p .holds-nodes) (p′ .holds-nodes) i, (one (p .holds-entries) (p′ .holds-entries) i, (one (p .holds-slots) (p′ .holds-slots) i, (tt, tt))))),
+)
+
+pub sill-write-agrees : Agree sillgarland.values.sill_write.ended sillgarland.values.sill_write.Reads.Asked sillgarland.values.sill_write.Reads.Learnt
+sill-write-agrees κs a asked r r′ ws ws′ p p′ =
+    (one (p .numbers) (p′ .numbers), λ i. (tt, (tt, (tt, (tt, (tt, (tt, (tt, (one (p .holds) (p′ .holds) i, tt)))))))))
+
+pub sill-write-varint-agrees : Agree sillgarland.varints.sill_write_varint.ended sillgarland.varints.sill_write_varint.Reads.Asked sillgarland.varints.sill_write_varint.Reads.Learnt
+sill-write-varint-agrees κs a asked r r′ ws ws′ p p′ = (λ i. one p p′ i .0, λ i. (one p p′ i .1, (tt, tt)))
+
+pub sill-write-signed-varint-agrees : Agree sillgarland.varints.sill_write_signed_varint.ended sillgarland.varints.sill_write_signed_varint.Reads.Asked sillgarland.varints.sill_write_signed_varint.Reads.Learnt
+sill-write-signed-varint-agrees κs a asked r r′ ws ws′ p p′ = (λ i. one p p′ i .0, λ i. (one p p′ i .1, (tt, tt)))
+
+pub sill-write-varint-be-agrees : Agree sillgarland.varints.sill_write_varint_be.ended sillgarland.varints.sill_write_varint_be.Reads.Asked sillgarland.varints.sill_write_varint_be.Reads.Learnt
+sill-write-varint-be-agrees κs a asked r r′ ws ws′ p p′ = (λ i. one p p′ i .0, λ i. (one p p′ i .1, (tt, tt)))
+
+pub sill-write-varint-with-start-agrees : Agree sillgarland.varints.sill_write_varint_with_start.ended sillgarland.varints.sill_write_varint_with_start.Reads.Asked sillgarland.varints.sill_write_varint_with_start.Reads.Learnt
+sill-write-varint-with-start-agrees κs a asked r r′ ws ws′ p p′ = (λ i. one p p′ i .0, λ i. (one p p′ i .1, (tt, tt)))
+
+pub sill-read-varint-agrees : Agree sillgarland.varints.sill_read_varint.ended sillgarland.varints.sill_read_varint.Reads.Asked sillgarland.varints.sill_read_varint.Reads.Learnt
+sill-read-varint-agrees κs a asked r r′ ws ws′ p p′ = (one p p′, refl)
+
+pub sill-read-varint-with-start-agrees : Agree sillgarland.varints.sill_read_varint_with_start.ended sillgarland.varints.sill_read_varint_with_start.Reads.Asked sillgarland.varints.sill_read_varint_with_start.Reads.Learnt
+sill-read-varint-with-start-agrees κs a asked r r′ ws ws′ p p′ = (one p p′, refl)
+
+pub sill-read-exceptions-agrees : Agree sillgarland.exceptions.sill_read_exceptions.ended sillgarland.exceptions.sill_read_exceptions.Reads.Asked sillgarland.exceptions.sill_read_exceptions.Reads.Learnt
+sill-read-exceptions-agrees κs a asked r r′ ws ws′ p p′ = (λ i. one p p′ i .0, λ i. (tt, (one p p′ i .1, tt)))
+
+pub sill-write-exceptions-agrees : Agree sillgarland.exceptions.sill_write_exceptions.ended sillgarland.exceptions.sill_write_exceptions.Reads.Asked sillgarland.exceptions.sill_write_exceptions.Reads.Learnt
+sill-write-exceptions-agrees κs a asked r r′ ws ws′ p p′ = (λ i. one p p′ i .0, λ i. (tt, (one p p′ i .1, tt)))

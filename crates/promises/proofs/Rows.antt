@@ -1,8 +1,0 @@
--- One answer for each call of the function of `rows`: the summary of a row, by one equation.
-use mathlib.Core.Path.{refl}
-use Rattle.rows.proofs as rows
-use Rattle.promises.specs.Agreement.{Agree}
-use Rattle.promises.proofs.Same.{one}
-
-pub walk-row-agrees : Agree rows.walk_row.ended rows.walk_row.Reads.Asked rows.walk_row.Reads.Learnt
-walk-row-agrees κs a asked r r′ ws ws′ p p′ = (one p p′, refl)

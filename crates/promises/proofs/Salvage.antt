@@ -1,7 +1,0 @@
--- One answer for each call of the function of `salvage`: the list and the output, by an equation each.
-use Rattle.salvage.proofs as salvage
-use Rattle.promises.specs.Agreement.{Agree}
-use Rattle.promises.proofs.Same.{one}
-
-pub salvage-table-agrees : Agree salvage.salvage_table.ended salvage.salvage_table.Reads.Asked salvage.salvage_table.Reads.Learnt
-salvage-table-agrees κs a asked r r′ ws ws′ p p′ = (one (p .0) (p′ .0), λ i. (tt, (tt, (tt, (one (p .1) (p′ .1) i, tt)))))

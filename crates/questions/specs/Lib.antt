@@ -1,0 +1,4 @@
+pub mod Lines
+pub mod LittleEndian
+pub mod Leaves
+pub mod Floats
