@@ -19,7 +19,9 @@ pub mod Leaf
 pub mod Output
 pub mod Outputtext
 pub mod Outputlongs
+pub mod Chains
 pub mod Writecheck
+pub mod Cellnames
 pub mod Writeleaves
 pub mod Writenames
 pub mod Writevalue

@@ -21,17 +21,8 @@ looks-one t n true false p q = let z : _≡_ {A = ℕ} 1 0 = ap isHeld (one (sym
 looks-one t n false true p q = let z : _≡_ {A = ℕ} 0 1 = ap isHeld (one (sym p) (sym (q .holds-kids))) in absurd (omega arith)
 looks-one t n false false p q = refl
 
-pub linked-agrees : Agree writecheck.linked.ended writecheck.linked.Reads.Asked writecheck.linked.Reads.Learnt
-linked-agrees κs a asked r r′ ws ws′ p p′ = (one p p′, refl)
-
-pub is-string-agrees : Agree writecheck.is_string.ended writecheck.is_string.Reads.Asked writecheck.is_string.Reads.Learnt
-is-string-agrees κs a asked r r′ ws ws′ p p′ = (one p p′, refl)
-
 pub part-at-agrees : Agree writecheck.part_at.ended writecheck.part_at.Reads.Asked writecheck.part_at.Reads.Learnt
 part-at-agrees κs a asked r r′ ws ws′ p p′ = (one p p′, refl)
 
 pub look-agrees : Agree writecheck.look.ended writecheck.look.Reads.Asked writecheck.look.Reads.Learnt
 look-agrees κs a asked r r′ ws ws′ p p′ = (looks-one _ _ r r′ p p′, refl)
-
-pub belongs-agrees : Agree writecheck.belongs.ended writecheck.belongs.Reads.Asked writecheck.belongs.Reads.Learnt
-belongs-agrees κs a asked r r′ ws ws′ p p′ = (one p p′, refl)

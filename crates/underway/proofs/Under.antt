@@ -17,9 +17,9 @@ use Rattle.output.specs.declared.Wrote.{Wrote}
 use Rattle.output.specs.declared.Wrote.the-variants as wrote
 use Rattle.output.specs.Puts.{Open, Agrees, Puts}
 use Rattle.stores.specs.Written.{EntryIn}
-use Rattle.writecheck.specs.Looking.{isSome}
-use Rattle.writecheck.proofs.Groups.{some-of}
-use Rattle.writecheck.proofs.Chains.{onto, headed, entry-in, chain-none}
+use Rattle.chains.specs.Chained.{isSome}
+use Rattle.cellnames.proofs.Groups.{some-of}
+use Rattle.chains.proofs.Chains.{onto, headed, entry-in, chain-none}
 use Rattle.underway.specs.Onward.{Onward}
 use Rattle.underway.specs.Rows.{kidsFrom}
 

@@ -9,7 +9,7 @@ use Rattle.grammar.specs.Fields.{le32}
 use Rattle.grammar.specs.Record.{Tables, nodeOf, chain}
 use Rattle.writing.specs.Writing.{Writing, ended, emit}
 use Rattle.writing.specs.Steps.{isCode}
-use Rattle.writecheck.specs.Groups.{orNone}
+use Rattle.cellnames.specs.Groups.{orNone}
 
 -- the children of a chain
 abbrev pub kidsFrom : Tables → (count first : ℕ) → List ℕ

@@ -17,8 +17,9 @@ use Rattle.grammar.specs.Record.{Tables, holds, faulty, look, lookedAs, lookedO
 use Rattle.grammar.proofs.Tests.{never}
 use Rattle.grammar.proofs.Lettered.{class-passes}
 use Rattle.grammar.proofs.Passed.{sound-ruled, CodeRuled, code-ruled, sound-at, whole-some}
-use Rattle.writecheck.specs.Looking.{isSome, isNone, Held, Looks, Parts, after, partOf, evenly}
-use Rattle.writecheck.proofs.Chains.{onto, headed, chain-none, none-is, none-so, some-so}
+use Rattle.chains.specs.Chained.{isSome, isNone}
+use Rattle.writecheck.specs.Looking.{Held, Looks, Parts, after, partOf, evenly}
+use Rattle.chains.proofs.Chains.{onto, headed, chain-none, none-is, none-so, some-so}
 
 -- Part after part.
 

@@ -11,19 +11,12 @@ use lib.Dec.{eqb}
 use Rattle.grammar.specs.State.{nodeAt, entryAt}
 use Rattle.grammar.specs.Steps.{Rule, rules, codeParts, asNames}
 use Rattle.grammar.specs.Record.{Tables, tablesOf, holds, faulty, look, chain, nodeOf, soundAt, whole, suited, badString, badPart}
+use Rattle.chains.specs.Chained.{isNone}
 use Rattle.writecheck.specs.declared.Used.{Used}
 
 -- the stores that are lent
 abbrev pub lent : (input nodes entries : List ℕ) → Used → Tables
 lent input nodes entries used = tablesOf input nodes entries (used .nodes) (used .entries)
-
-abbrev pub isSome : {A : Type 0} → Option A → Bool
-isSome none = false
-isSome (some a) = true
-
-abbrev pub isNone : {A : Type 0} → Option A → Bool
-isNone none = true
-isNone (some a) = false
 
 -- a part of a code is what a rule asks
 abbrev pub fits : Tables → Rule → ℕ → Bool
@@ -38,26 +31,6 @@ pub record Held (t : Tables) (n : ℕ) : Type 0 where
 abbrev pub Looks : Tables → ℕ → Bool → Type 0
 Looks t n true = Held t n
 Looks t n false = look t n ≡ faulty n
-
--- entries alone: what a chain is made of
-abbrev pub links : (entries : List ℕ) → (used : ℕ) → Tables
-links entries used = tablesOf [] [] entries 0 used
-
--- sound bytes, and a sound string
-abbrev pub bytesAt : (input nodes : List ℕ) → (used node : ℕ) → Bool
-bytesAt input nodes used v = soundAt input nodes used v && isBytes (nodeAt nodes v .letter)
-
-abbrev pub stringAt : (input nodes : List ℕ) → (used node : ℕ) → Bool
-stringAt input nodes used v = soundAt input nodes used v && isString (nodeAt nodes v .letter)
-
--- so many entries, each linked to the one behind it
-pub record Straight (entries : List ℕ) (room first steps r : ℕ) : Type 0 where
-  pub few : r ≤ steps
-  pub each : (k : ℕ) → k < r → (first + k < room) × (entryAt entries (first + k) .next ≡ first + k + 1)
-
--- whether the children of a chain are all sound strings
-pub record Names (t : Tables) (first count : ℕ) (r : Bool) : Type 0 where
-  pub tells : (kids : List ℕ) → chain t count first ≡ some kids → r ≡ isNone (badString t kids)
 
 -- whether the ten parts of a code are what their rules ask
 pub record Parts (t : Tables) (first : ℕ) (r : Bool) : Type 0 where

@@ -12,9 +12,10 @@ use Rattle.output.specs.declared.Wrote.{Wrote}
 use Rattle.output.specs.declared.Wrote.the-variants as wrote
 use Rattle.output.specs.Puts.{Puts}
 use Rattle.writecheck.specs.declared.Used.{Used}
-use Rattle.writecheck.specs.Looking.{lent, isSome}
-use Rattle.writecheck.specs.Groups.{orNone}
-use Rattle.writecheck.proofs.Groups.{some-of}
+use Rattle.chains.specs.Chained.{isSome}
+use Rattle.writecheck.specs.Looking.{lent}
+use Rattle.cellnames.specs.Groups.{orNone}
+use Rattle.cellnames.proofs.Groups.{some-of}
 use Rattle.writeleaves.specs.declared.Rowed.{Rowed}
 use Rattle.writeleaves.specs.declared.Rowed.the-variants as rowed
 use Rattle.underway.specs.Onward.{Onward}

@@ -19,7 +19,8 @@ use Rattle.writecheck.specs.declared.Used.{Used}
 use Rattle.output.specs.declared.Wrote.{Wrote}
 use Rattle.output.specs.declared.Wrote.the-variants as wrote
 use Rattle.output.specs.Puts.{Puts}
-use Rattle.writecheck.specs.Looking.{lent, isSome}
+use Rattle.chains.specs.Chained.{isSome}
+use Rattle.writecheck.specs.Looking.{lent}
 use Rattle.underway.specs.Onward.{Onward}
 use Rattle.underway.specs.Rows.{kidsFrom}
 use Rattle.writeleaves.specs.declared.Leaf.{Leaf}

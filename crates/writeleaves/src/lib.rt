@@ -11,7 +11,8 @@ ghost use Rattle.grammar.specs.Record;
 ghost use Rattle.stores.specs.Written.{nodeOf};
 ghost use Rattle.writing.specs.Steps.{writing};
 ghost use Rattle.output.specs.Puts.{Open, Puts};
-ghost use Rattle.writecheck.specs.Looking.{lent, isSome};
+ghost use Rattle.chains.specs.Chained.{isSome};
+ghost use Rattle.writecheck.specs.Looking.{lent};
 ghost use Rattle.writeleaves.specs.Leaves.{textIf, ledOf, LeafIs, Leaves, Leads, Rows};
 use grammar::BYTES_LETTER;
 use grammar::INT_LETTER;
@@ -41,7 +42,7 @@ fn text_of(s: &[u8], n: stores::Node) -> Leaf
     requires { ⌜ length (now s) ≤ mostBytes ⌝ }
     ensures { λ r. ⌜ LeafIs (now (s .entry)) (nodeOf n) r ⌝ }
 {
-    if !writecheck::is_string(n.letter) {
+    if !chains::is_string(n.letter) {
         return Leaf::Other;
     }
     text_if(soundness::text_sound(s, n), n.place, n.size)

@@ -25,11 +25,12 @@ use Rattle.writing.proofs.Into.{each-append}
 use Rattle.output.specs.declared.Wrote.{Wrote}
 use Rattle.output.specs.declared.Wrote.the-variants as wrote
 use Rattle.output.specs.Puts.{Open, Puts}
-use Rattle.writecheck.specs.declared.Locals.{Locals}
-use Rattle.writecheck.specs.Looking.{isSome, stringAt, Held}
-use Rattle.writecheck.specs.Groups.{orNone, namesIn, kindsIn, localsIn, inGroup, groupFrom, groupIn, Listed}
+use Rattle.cellnames.specs.declared.Locals.{Locals}
+use Rattle.chains.specs.Chained.{isSome, stringAt}
+use Rattle.writecheck.specs.Looking.{Held}
+use Rattle.cellnames.specs.Groups.{orNone, namesIn, kindsIn, localsIn, inGroup, groupFrom, groupIn, Listed}
 use Rattle.writecheck.proofs.Codes.{look-plain}
-use Rattle.writecheck.proofs.Groups.{Along, along-none, Next, along-next, along-on, along-end, groups-are}
+use Rattle.cellnames.proofs.Groups.{Along, along-none, Next, along-next, along-on, along-end, groups-are}
 use Rattle.underway.specs.Onward.{Onward}
 use Rattle.underway.specs.Rows.{kidsFrom}
 use Rattle.writenames.specs.Names.{Localed}

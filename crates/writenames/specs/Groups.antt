@@ -12,8 +12,8 @@ use Rattle.writing.specs.Steps.{stringPart}
 use Rattle.output.specs.declared.Wrote.{Wrote}
 use Rattle.output.specs.declared.Wrote.the-variants as wrote
 use Rattle.output.specs.Puts.{Puts}
-use Rattle.writecheck.specs.declared.Locals.{Locals}
-use Rattle.writecheck.specs.Groups.{namesIn, kindsIn, groupIn}
+use Rattle.cellnames.specs.declared.Locals.{Locals}
+use Rattle.cellnames.specs.Groups.{namesIn, kindsIn, groupIn}
 use Rattle.writenames.specs.declared.Grouped.{Grouped}
 use Rattle.writenames.specs.declared.Grouped.the-variants as grouped
 

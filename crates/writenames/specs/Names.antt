@@ -11,7 +11,7 @@ use Rattle.grammar.specs.Record.{Tables, nodeOf, chain, whole, suited, badStrin
 use Rattle.writing.specs.Writing.{Writing, each}
 use Rattle.writing.specs.Names.{contentsOf, inGroups}
 use Rattle.writing.specs.Steps.{stringPart, namesPart, kidsOf}
-use Rattle.writecheck.specs.Looking.{isSome}
+use Rattle.chains.specs.Chained.{isSome}
 use Rattle.underway.specs.Rows.{kidsFrom}
 
 -- a chain is whole, and its children are sound strings

@@ -8,8 +8,9 @@ ghost use Rattle.refusals.specs.Limits.{mostBytes};
 ghost use Rattle.writing.specs.Writing.{ended};
 ghost use Rattle.writing.specs.Steps.{stringPart};
 ghost use Rattle.output.specs.Puts.{Open, Puts};
-ghost use Rattle.writecheck.specs.Looking.{lent, stringAt};
-ghost use Rattle.writecheck.specs.Groups.{Listed};
+ghost use Rattle.chains.specs.Chained.{stringAt};
+ghost use Rattle.writecheck.specs.Looking.{lent};
+ghost use Rattle.cellnames.specs.Groups.{Listed};
 ghost use Rattle.writenames.specs.Names.{Chained, Spelt, Tuples, Localed, namesFrom, namesOf, localsOf};
 ghost use Rattle.writenames.specs.Groups.{Group, AllGroups};
 use grammar::WRITTEN_TUPLE;
@@ -147,7 +148,7 @@ fn write_group(
     out: &mut [u8],
     used: writecheck::Used,
     allowance: u32,
-    locals: writecheck::Locals,
+    locals: cellnames::Locals,
     bit: u32,
     at: u32,
     counted: u32,
@@ -164,7 +165,7 @@ fn write_group(
     while i < count {
         let kind = s[kinds + i as usize];
         let name = stores::child_of(entries, e);
-        let member = writecheck::belongs(s, nodes, entries, used, locals, bit, kind, name);
+        let member = cellnames::belongs(s, nodes, entries, used, locals, bit, kind, name);
         match write_member(s, nodes, entries, out, used, allowance, member, name, p) {
             output::Wrote::Refused(number, place) => {
                 return Grouped::Refused(number, place);
@@ -188,7 +189,7 @@ fn write_groups(
     out: &mut [u8],
     used: writecheck::Used,
     allowance: u32,
-    locals: writecheck::Locals,
+    locals: cellnames::Locals,
     at: u32,
 ) -> Grouped
     requires { ⌜ Open at (now out) × Listed (lent (now s) (now nodes) (now entries) used) locals × (length (now s) ≤ mostBytes) ⌝ }
@@ -202,7 +203,7 @@ fn write_groups(
         used,
         allowance,
         locals,
-        writecheck::LOCAL,
+        cellnames::LOCAL,
         at,
         0,
     ) {
@@ -215,7 +216,7 @@ fn write_groups(
             used,
             allowance,
             locals,
-            writecheck::CELL,
+            cellnames::CELL,
             a,
             local,
         ) {
@@ -228,7 +229,7 @@ fn write_groups(
                 used,
                 allowance,
                 locals,
-                writecheck::FREE,
+                cellnames::FREE,
                 b,
                 cell,
             ),
@@ -256,7 +257,7 @@ pub fn write_locals(
     }
     let n = stores::node_of(nodes, node);
     let k = stores::node_of(nodes, kinds);
-    let locals = writecheck::Locals {
+    let locals = cellnames::Locals {
         first: n.first,
         count: n.count,
         kinds: k.place,

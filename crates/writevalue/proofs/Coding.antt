@@ -23,11 +23,12 @@ use Rattle.writing.proofs.Into.{then-then}
 use Rattle.output.specs.declared.Wrote.{Wrote}
 use Rattle.output.specs.declared.Wrote.the-variants as wrote
 use Rattle.output.specs.Puts.{Puts}
-use Rattle.writecheck.specs.Looking.{stringAt, Held, after, partOf}
+use Rattle.chains.specs.Chained.{stringAt}
+use Rattle.writecheck.specs.Looking.{Held, after, partOf}
 use Rattle.grammar.proofs.Tests.{none-some}
 use Rattle.grammar.proofs.Passed as told
 use Rattle.grammar.proofs.Passed.{unless-none, sound-ruled, CodeRuled, code-ruled, sound-at, chain-length, fits-some, fits-sound, fits-at, looked-held}
-use Rattle.writecheck.proofs.Chains.{onto, headed, chain-none}
+use Rattle.chains.proofs.Chains.{onto, headed, chain-none}
 use Rattle.writecheck.proofs.Codes.{part-of}
 use Rattle.underway.specs.Onward.{Onward}
 use Rattle.underway.specs.Rows.{rowOfNode, lineOf}

@@ -14,8 +14,9 @@ use Rattle.grammar.specs.Record.{Tables, faulty, look, chain, nodeOf, nodesIn, 
 use Rattle.writing.specs.Writing.{Writing, then, each}
 use Rattle.writing.specs.Shape.{classed}
 use Rattle.writing.specs.Steps.{shaped, looked, isCode, parted, writing}
-use Rattle.writecheck.specs.Looking.{isSome, Held, Looks}
-use Rattle.writecheck.specs.Groups.{orNone}
+use Rattle.chains.specs.Chained.{isSome}
+use Rattle.writecheck.specs.Looking.{Held, Looks}
+use Rattle.cellnames.specs.Groups.{orNone}
 use Rattle.grammar.proofs.Tests.{never}
 use Rattle.grammar.proofs.Passed.{sound-at, whole-some, chain-length, looked-held}
 use Rattle.writecheck.proofs.Codes.{only-code}

@@ -1,6 +1,6 @@
 -- The record and chain, and for a code its parts and its end. Assumes nothing.
 use Rattle.writecheck.proofs.Codes.{look-broken, look-plain, look-parts, look-ends}
-use Rattle.writecheck.proofs.Chains.{some-is}
+use Rattle.chains.proofs.Chains.{some-is}
 use Rattle.writecheck.specs.Looking.{lent}
 use Rattle.grammar.specs.Record
 use Rattle.grammar.specs.State.{Node}

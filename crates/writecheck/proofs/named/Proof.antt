@@ -1,5 +1,5 @@
 -- Carried by `Walking` over sound strings. Assumes nothing.
-use Rattle.writecheck.proofs.Chains.{Walking, walk-start, walk-stop, walk-more, walk-end, spelt, onto, spelt-outside, spelt-as, named-are}
+use Rattle.chains.proofs.Chains.{Walking, walk-start, walk-stop, walk-more, walk-end, spelt, onto, spelt-outside, spelt-as, named-are}
 use Rattle.writecheck.specs.Looking.{lent}
 use borrow.Author.Tests.{not-true, not-false}
 use native.Mathlib.Omega.{arith}

@@ -1,6 +1,6 @@
 -- The record and its chain, then the letter. Assumes nothing.
 use Rattle.writecheck.proofs.Suited.{part-broken, tuple-part}
-use Rattle.writecheck.proofs.Chains.{some-is, none-is}
+use Rattle.chains.proofs.Chains.{some-is, none-is}
 use Rattle.writecheck.specs.Looking.{lent}
 use Rattle.grammar.specs.Steps.{asTuple}
 use Rattle.grammar.specs.Record

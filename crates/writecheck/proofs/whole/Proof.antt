@@ -1,5 +1,5 @@
 -- The node's own record, then its chain. Assumes nothing.
-use Rattle.writecheck.proofs.Chains.{whole-not, whole-is}
+use Rattle.chains.proofs.Chains.{whole-not, whole-is}
 use Rattle.writecheck.specs.Looking.{lent}
 use Rattle.grammar.specs.State.{Node}
 use borrow.Author.Tests.{not-true, not-false}

@@ -1,6 +1,6 @@
 -- The record and its chain, then the names. Assumes nothing.
 use Rattle.writecheck.proofs.Suited.{part-broken, names-part}
-use Rattle.writecheck.proofs.Chains.{none-is}
+use Rattle.chains.proofs.Chains.{none-is}
 use Rattle.writecheck.specs.Looking.{lent}
 use Rattle.grammar.specs.Steps.{asNames}
 use Rattle.grammar.specs.Record

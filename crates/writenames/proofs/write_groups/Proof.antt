@@ -1,11 +1,11 @@
 -- One group after another, and each counts on. Assumes nothing.
 use Rattle.writenames.proofs.Naming.{groups-refused, groups-open, groups-count, groups-then, groups-all}
 use Rattle.localsplus.specs.Kind.{localBit, cellBit, freeBit}
-use Rattle.writecheck.specs.Groups.{groupIn}
+use Rattle.cellnames.specs.Groups.{groupIn}
 use Rattle.writecheck.specs.Looking.{lent}
 use Rattle.writing.specs.Steps.{stringPart}
 use mathlib.Core.List.{_++_}
-use Rattle.writecheck.proofs.Groups.{group-most}
+use Rattle.cellnames.proofs.Groups.{group-most}
 use native.Mathlib.Omega.{arith}
 use mathlib.Core.Path.{refl, _∙_}
 use borrow.Author.Needs.{needs}

@@ -7,7 +7,7 @@ use Prim.Native.Nat.{_-_}
 use lib.ListN.{length}
 use mathlib.Core.List.{_∷_}
 use Rattle.writing.specs.Canonical.{bytes32}
-use Rattle.writecheck.specs.Groups.{groupIn, kindsIn, namesIn}
+use Rattle.cellnames.specs.Groups.{groupIn, kindsIn, namesIn}
 use Rattle.writecheck.specs.Looking.{lent}
 use Rattle.writing.specs.Names.{contentsOf, inGroups}
 use Rattle.writing.specs.Steps.{stringPart, kidsOf}

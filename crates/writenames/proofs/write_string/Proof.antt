@@ -3,7 +3,7 @@ use Rattle.writing.specs.Names.{contentsOf}
 use Rattle.writing.specs.Canonical.{codeString}
 use Rattle.writing.specs.Writing.{emit, ended}
 use Rattle.writenames.proofs.Naming.{no-level, string-put}
-use Rattle.writecheck.proofs.Groups.{string-within}
+use Rattle.cellnames.proofs.Groups.{string-within}
 use Rattle.writecheck.specs.Looking.{lent}
 use Rattle.grammar.specs.State.{Node}
 use native.Mathlib.Omega.{arith}

@@ -1,0 +1,3 @@
+pub mod Round
+pub mod Chains
+pub mod Told
