@@ -4,6 +4,7 @@ pub mod Signed
 pub mod Wtf8
 pub mod Lineentry
 pub mod Varint
+pub mod Varintread
 pub mod Exceptiontable
 pub mod Localsplus
 pub mod Linetable

@@ -24,9 +24,3 @@ put-varint-be-agrees κs a asked r r′ ws ws′ p p′ = (one (p .0) (p′ .0),
 
 pub put-varint-with-start-agrees : Agree varint.put_varint_with_start.ended varint.put_varint_with_start.Reads.Asked varint.put_varint_with_start.Reads.Learnt
 put-varint-with-start-agrees κs a asked r r′ ws ws′ p p′ = (one (p .0) (p′ .0), λ i. (one (p .1) (p′ .1) i, (tt, (tt, tt))))
-
-pub read-varint-agrees : Agree varint.read_varint.ended varint.read_varint.Reads.Asked varint.read_varint.Reads.Learnt
-read-varint-agrees κs a asked r r′ ws ws′ p p′ = (one p p′, refl)
-
-pub read-varint-with-start-agrees : Agree varint.read_varint_with_start.ended varint.read_varint_with_start.Reads.Asked varint.read_varint_with_start.Reads.Learnt
-read-varint-with-start-agrees κs a asked r r′ ws ws′ p p′ = (one p p′, refl)

@@ -8,10 +8,10 @@ use native.Mathlib.Omega.{arith}
 use borrow.Author.Tests.{ltb-true}
 use lib.Dec.{ltb}
 use lib.ListN.{length, drop}
-use Rattle.varint.specs.Reading.{readGroups, readVarint, readVarintWithStart}
-use Rattle.varint.specs.declared.Found.{Found}
-use Rattle.varint.specs.declared.Found.the-variants as found
-use Rattle.varint.proofs.Refusals.{Told, varint-told, with-start-told}
+use Rattle.varintread.specs.Reading.{readGroups, readVarint, readVarintWithStart}
+use Rattle.varintread.specs.declared.Found.{Found}
+use Rattle.varintread.specs.declared.Found.the-variants as found
+use Rattle.varintread.proofs.Refusals.{Told, varint-told, with-start-told}
 use Rattle.exceptiontable.specs.Entry.{Entry}
 use Rattle.exceptiontable.specs.Reading.{takenAs, firstNumber, laterNumber, andThen, codeFrom, targetFrom, sizeFrom, entryAt}
 use Rattle.exceptiontable.specs.Promised.{Fit}

@@ -12,9 +12,9 @@ use lib.Dec.{ltb}
 use lib.ListN.{length, length-append}
 use Rattle.refusals.specs.Numbers.{dataTooShort, noMarker}
 use Rattle.varint.specs.Writing.{bigEndian, bigEndianWithStart}
-use Rattle.varint.specs.Reading.{readVarint, readVarintWithStart}
-use Rattle.varint.specs.declared.Found.{Found}
-use Rattle.varint.specs.declared.Found.the-variants as found
+use Rattle.varintread.specs.Reading.{readVarint, readVarintWithStart}
+use Rattle.varintread.specs.declared.Found.{Found}
+use Rattle.varintread.specs.declared.Found.the-variants as found
 use Rattle.varint.proofs.Groups.{size, size-some}
 use Rattle.varint.proofs.Bytes.{length-big, length-big-with-start}
 use Rattle.varint.proofs.ReadsBack.{big-endian-reads-back, with-start-reads-back}

@@ -9,9 +9,9 @@ use lib.ListN.{length}
 use Rattle.refusals.specs.Numbers.{dataTooShort, inputTooLong, noRoom, noMarker}
 use Rattle.refusals.specs.Limits.{mostBytes}
 use Rattle.clearing.specs.Lent.{zeros, padded}
-use Rattle.varint.specs.Reading.{readVarint, readVarintWithStart}
-use Rattle.varint.specs.declared.Found.{Found}
-use Rattle.varint.specs.declared.Found.the-variants as found
+use Rattle.varintread.specs.Reading.{readVarint, readVarintWithStart}
+use Rattle.varintread.specs.declared.Found.{Found}
+use Rattle.varintread.specs.declared.Found.the-variants as found
 use Rattle.exceptiontable.specs.Entry.{Entry, flat}
 use Rattle.exceptiontable.specs.declared.Taken.{Taken}
 use Rattle.exceptiontable.specs.declared.Taken.the-variants as taken

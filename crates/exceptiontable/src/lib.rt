@@ -11,7 +11,7 @@ ghost use Rattle.exceptiontable.specs.declared.Encoded.the-variants as E
 ghost use Rattle.exceptiontable.specs.Entry.{entryIn};
 ghost use Rattle.exceptiontable.specs.Reading.{firstNumber, laterNumber, codeFrom, targetFrom, sizeFrom, entryAt, decodedOf};
 ghost use Rattle.exceptiontable.specs.Writing.{bytesOf, encodedOf};
-use varint::Found;
+use varintread::Found;
 
 // A number of a table and the place behind it, or a refusal's number and place.
 pub enum Taken {
@@ -156,7 +156,7 @@ fn first_number(table: &[u8], at: usize) -> Taken
     requires { ⌜ (length (now table) ≤ mostBytes) × (at ≤ length (now table)) ⌝ }
     ensures { λ r. ⌜ r ≡ firstNumber (now (table .entry)) at ⌝ }
 {
-    match varint::read_varint_with_start(table, at) {
+    match varintread::read_varint_with_start(table, at) {
         Found::Number { value, next } => Taken::Number(value, next),
         Found::Nothing => Taken::Refused(refusals::NO_MARKER, at as u32),
         Found::Refused { number, place } => Taken::Refused(number, place as u32),
@@ -168,7 +168,7 @@ fn later_number(table: &[u8], at: usize) -> Taken
     requires { ⌜ length (now table) ≤ mostBytes ⌝ }
     ensures { λ r. ⌜ r ≡ laterNumber (now (table .entry)) at ⌝ }
 {
-    match varint::read_varint(table, at) {
+    match varintread::read_varint(table, at) {
         Found::Number { value, next } => Taken::Number(value, next),
         Found::Nothing => Taken::Refused(refusals::DATA_TOO_SHORT, table.len() as u32),
         Found::Refused { number, place } => Taken::Refused(number, place as u32),

@@ -33,12 +33,12 @@ use Rattle.localsplus.specs.Sum.{argumentSum}
 use Rattle.localsplus.specs.Answer.{roomsOf, splitOf, stored as storedOf}
 use Rattle.varint.specs.declared.Written.{Written}
 use Rattle.varint.specs.declared.Written.the-variants as varint
-use Rattle.varint.specs.declared.Found.{Found}
-use Rattle.varint.specs.declared.Found.the-variants as found
+use Rattle.varintread.specs.declared.Found.{Found}
+use Rattle.varintread.specs.declared.Found.the-variants as found
 use Rattle.varint.specs.Writing.{littleEndian, bigEndian, bigEndianWithStart}
-use Rattle.varint.specs.Reading.{readVarint, readVarintWithStart}
+use Rattle.varintread.specs.Reading.{readVarint, readVarintWithStart}
 use Rattle.varint.specs.Answers.{stored, storedSigned}
-use Rattle.varint.proofs.Refusals.{Told, varint-told, with-start-told}
+use Rattle.varintread.proofs.Refusals.{Told, varint-told, with-start-told}
 use Rattle.exceptiontable.specs.declared.Decoded.{Decoded}
 use Rattle.exceptiontable.specs.declared.Decoded.the-variants as decoded
 use Rattle.exceptiontable.specs.declared.Encoded.{Encoded}

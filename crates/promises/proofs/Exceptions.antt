@@ -12,10 +12,10 @@ use lib.ListN.{length}
 use Rattle.refusals.specs.Numbers.{accepted, dataTooShort, inputTooLong, noRoom, numberRange, noMarker}
 use Rattle.refusals.specs.Limits.{mostBytes, nothing}
 use Rattle.clearing.specs.Lent.{zeros}
-use Rattle.varint.specs.Reading.{readVarint, readVarintWithStart}
-use Rattle.varint.specs.declared.Found.{Found}
-use Rattle.varint.specs.declared.Found.the-variants as found
-use Rattle.varint.proofs.Refusals.{Told, varint-told, with-start-told}
+use Rattle.varintread.specs.Reading.{readVarint, readVarintWithStart}
+use Rattle.varintread.specs.declared.Found.{Found}
+use Rattle.varintread.specs.declared.Found.the-variants as found
+use Rattle.varintread.proofs.Refusals.{Told, varint-told, with-start-told}
 use Rattle.exceptiontable.specs.Entry.{Entry, entriesIn}
 use Rattle.exceptiontable.specs.Reading.{takenAs, firstNumber, laterNumber, andThen, codeFrom, targetFrom, sizeFrom, entryAt, Run, goOn, runFrom, delivered, decodedOf}
 use Rattle.exceptiontable.specs.Writing.{bytesOf, tableOf, encodedFrom, held, encodedOf}

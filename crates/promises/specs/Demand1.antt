@@ -29,7 +29,7 @@ use Rattle.salvage.specs.Repair.{refusedWith, listed}
 use Rattle.sources.specs.declared.Counts.{Counts}
 use Rattle.sources.specs.Marks.{counts, told}
 use Rattle.varint.specs.declared.Written.the-variants as varint
-use Rattle.varint.specs.declared.Found.the-variants as found
+use Rattle.varintread.specs.declared.Found.the-variants as found
 use Rattle.output.specs.declared.Wrote.the-variants as wrote
 use Rattle.exceptiontable.specs.declared.Decoded.the-variants as decoded
 use Rattle.exceptiontable.specs.declared.Encoded.the-variants as encoded

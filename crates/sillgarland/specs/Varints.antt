@@ -2,8 +2,9 @@
 use Prim.Native.Nat.{ℕ}
 use mathlib.Core.List.{List}
 use Rattle.varint.specs.declared.Written.{Written}
-use Rattle.varint.specs.declared.Found.{Found}
-use Rattle.varint.specs.Answers.{writtenNumbers, foundNumbers}
+use Rattle.varintread.specs.declared.Found.{Found}
+use Rattle.varint.specs.Answers.{writtenNumbers}
+use Rattle.varintread.specs.Reading.{foundNumbers}
 use Rattle.sillgarland.specs.declared.varints.SillWritten.{SillWritten}
 use Rattle.sillgarland.specs.declared.varints.SillFound.{SillFound}
 

@@ -1,12 +1,12 @@
 // The varint functions for C and Rust callers. See include/sillgarland.h for what a caller owes.
-use varint::Found;
 use varint::Written;
+use varintread::Found;
 ghost use mathlib.Core.Path.{_≡_};
 ghost use lib.ListN.{length};
 ghost use mir.Syntax.{w32};
 ghost use mir.Val.{ofZ};
 ghost use Rattle.varint.specs.Writing.{littleEndian, bigEndian, bigEndianWithStart};
-ghost use Rattle.varint.specs.Reading.{readVarint, readVarintWithStart};
+ghost use Rattle.varintread.specs.Reading.{readVarint, readVarintWithStart};
 ghost use Rattle.varint.specs.Answers.{stored, storedSigned};
 ghost use Rattle.sillgarland.specs.Varints.{writtenStruct, writtenAs, foundStruct};
 
@@ -66,7 +66,7 @@ pub extern "C" fn sill_write_varint_with_start(out: &mut [u8], value: u32) -> Si
 pub extern "C" fn sill_read_varint(data: &[u8], at: usize) -> SillFound
     ensures { λ r. ⌜ r ≡ foundStruct at (readVarint (now («data» .entry)) at) ⌝ }
 {
-    found_numbers(varint::read_varint(data, at), at)
+    found_numbers(varintread::read_varint(data, at), at)
 }
 
 // `read_varint_with_start`.
@@ -74,7 +74,7 @@ pub extern "C" fn sill_read_varint(data: &[u8], at: usize) -> SillFound
 pub extern "C" fn sill_read_varint_with_start(data: &[u8], at: usize) -> SillFound
     ensures { λ r. ⌜ r ≡ foundStruct at (readVarintWithStart (now («data» .entry)) at) ⌝ }
 {
-    found_numbers(varint::read_varint_with_start(data, at), at)
+    found_numbers(varintread::read_varint_with_start(data, at), at)
 }
 
 fn written_numbers(answer: Written) -> SillWritten

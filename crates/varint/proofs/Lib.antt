@@ -2,8 +2,6 @@ pub mod Groups
 pub mod Count
 pub mod Bytes
 pub mod WriteLoops
-pub mod ReadLoop
-pub mod Refusals
 pub mod ReadsBack
 pub mod Stores
 pub mod Shortest

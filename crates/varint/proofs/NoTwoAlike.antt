@@ -8,9 +8,9 @@ use native.Mathlib.Omega.{arith}
 use lib.Dec.{ltb}
 use Rattle.lineentry.specs.Varint.{digits, number}
 use Rattle.varint.specs.Writing.{littleEndian, bigEndian, bigEndianWithStart, signedCode}
-use Rattle.varint.specs.Reading.{readVarint, readVarintWithStart}
-use Rattle.varint.specs.declared.Found.{Found}
-use Rattle.varint.specs.declared.Found.the-variants.{Number, Nothing, Refused}
+use Rattle.varintread.specs.Reading.{readVarint, readVarintWithStart}
+use Rattle.varintread.specs.declared.Found.{Found}
+use Rattle.varintread.specs.declared.Found.the-variants.{Number, Nothing, Refused}
 use Rattle.varint.proofs.ReadsBack.{little-endian-stands, big-endian-reads-back, with-start-reads-back}
 
 -- the number of an answer

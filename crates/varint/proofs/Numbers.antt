@@ -8,8 +8,9 @@ use borrow.Author.Tests.{le-leb, lt-leb, le-ltb}
 use Rattle.refusals.specs.Numbers.{accepted, noRoom, numberRange}
 use Rattle.clearing.specs.Lent.{zeros}
 use Rattle.varint.specs.Writing.{bigEndian}
-use Rattle.varint.specs.Reading.{readVarint}
-use Rattle.varint.specs.Answers.{stored, storedSigned, writtenNumbers, foundNumbers}
+use Rattle.varintread.specs.Reading.{readVarint}
+use Rattle.varint.specs.Answers.{stored, storedSigned, writtenNumbers}
+use Rattle.varintread.specs.Reading.{foundNumbers}
 use Rattle.varint.proofs.ReadsBack.{big-endian-reads-back}
 
 -- accepted: "on acceptance" no refusal, no place

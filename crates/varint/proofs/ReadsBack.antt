@@ -13,8 +13,8 @@ use Rattle.lineentry.specs.declared.Varint.the-variants.{Value}
 use Rattle.lineentry.specs.Line.{asSigned}
 use Rattle.lineentry.specs.Varint.{digits, number, cut, varintWithin, varintAt, signedOf, signedAt}
 use Rattle.varint.specs.Writing.{littleEndian, bigEndian, started, bigEndianWithStart, signedCode}
-use Rattle.varint.specs.Reading.{more, readGroups, readVarint, readVarintWithStart}
-use Rattle.varint.specs.declared.Found.the-variants.{Number}
+use Rattle.varintread.specs.Reading.{more, readGroups, readVarint, readVarintWithStart}
+use Rattle.varintread.specs.declared.Found.the-variants.{Number}
 use Rattle.varint.proofs.Groups.{size-six}
 use Rattle.varint.proofs.Bytes.{little-last, little-more, ahead, ahead-none, ahead-more, big-last, length-little, length-started}
 

@@ -4,8 +4,8 @@ use mathlib.Core.Path.{_≡_, refl}
 use mathlib.Core.List.{[], _∷_}
 use Rattle.refusals.specs.Numbers.{dataTooShort, numberRange}
 use Rattle.varint.specs.Writing.{groupsOf, groups, chained, littleEndian, bigEndian, started, bigEndianWithStart}
-use Rattle.varint.specs.Reading.{readGroups, readVarint}
-use Rattle.varint.specs.declared.Found.the-variants.{Number, Refused}
+use Rattle.varintread.specs.Reading.{readGroups, readVarint}
+use Rattle.varintread.specs.declared.Found.the-variants.{Number, Refused}
 
 pub sixty-four : (littleEndian 64 ≡ 0x40 ∷ 0x01 ∷ []) × (bigEndian 64 ≡ 0x41 ∷ 0x00 ∷ []) × (bigEndianWithStart 64 ≡ 0xC1 ∷ 0x00 ∷ [])
 unfolding groupsOf groups chained littleEndian bigEndian started bigEndianWithStart

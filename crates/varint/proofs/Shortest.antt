@@ -16,9 +16,9 @@ use Rattle.lineentry.specs.declared.Varint.the-variants.{Value, TooLong}
 use Rattle.lineentry.specs.Line.{asSigned}
 use Rattle.lineentry.specs.Varint.{digits, number, cut, varintWithin, varintAt, signedOf, signed, signedAt}
 use Rattle.varint.specs.Writing.{littleEndian, bigEndian, bigEndianWithStart, signedCode}
-use Rattle.varint.specs.Reading.{more, wholeAt, readGroups, readVarint, readVarintWithStart}
-use Rattle.varint.specs.declared.Found.{Found}
-use Rattle.varint.specs.declared.Found.the-variants.{Number, Nothing, Refused}
+use Rattle.varintread.specs.Reading.{more, wholeAt, readGroups, readVarint, readVarintWithStart}
+use Rattle.varintread.specs.declared.Found.{Found}
+use Rattle.varintread.specs.declared.Found.the-variants.{Number, Nothing, Refused}
 use Rattle.varint.proofs.Groups.{size, size-last, size-mono, size-below}
 use Rattle.varint.proofs.Bytes.{length-little, length-big, length-big-with-start}
 

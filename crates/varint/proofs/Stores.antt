@@ -12,9 +12,9 @@ use Rattle.lineentry.specs.declared.Varint.the-variants.{Value}
 use Rattle.lineentry.specs.Line.{asSigned}
 use Rattle.lineentry.specs.Varint.{varintAt, signedAt}
 use Rattle.varint.specs.Writing.{littleEndian, bigEndian, bigEndianWithStart, signedCode}
-use Rattle.varint.specs.Reading.{readVarint, readVarintWithStart}
+use Rattle.varintread.specs.Reading.{readVarint, readVarintWithStart}
 use Rattle.varint.specs.Answers.{stored, storedSigned}
-use Rattle.varint.specs.declared.Found.the-variants.{Number}
+use Rattle.varintread.specs.declared.Found.the-variants.{Number}
 use Rattle.varint.proofs.ReadsBack.{little-endian-reads-back, big-endian-reads-back, with-start-reads-back, signed-reads-back}
 
 -- the bytes, then zeros

@@ -9,8 +9,6 @@ use Rattle.refusals.specs.Numbers.{accepted, noRoom, numberRange}
 use Rattle.clearing.specs.Lent.{zeros, padded}
 use Rattle.varint.specs.declared.Written.{Written}
 use Rattle.varint.specs.declared.Written.the-variants.{Done, Refused}
-use Rattle.varint.specs.declared.Found.{Found}
-use Rattle.varint.specs.declared.Found.the-variants as found
 use Rattle.varint.specs.Writing.{littleEndian, signedCode}
 
 -- Bytes written into a store that has room for so many: the bytes, then zeros; or, at "the output's capacity", no room and zeros.
@@ -35,19 +33,6 @@ pub record WrittenNumbers : Type 0 where
 abbrev pub writtenNumbers : Written → WrittenNumbers
 writtenNumbers (Done count) = record { refusal = accepted; place = 0; written = count }
 writtenNumbers (Refused number place) = record { refusal = number; place = place; written = 0 }
-
--- 01's numbers of a reader's answer at a position: "none" leaves "the position unmoved", and so does a refusal (02, K5).
-pub record FoundNumbers : Type 0 where
-  pub refusal : ℕ
-  pub found : ℕ
-  pub value : ℕ
-  pub place : ℕ
-  pub next : ℕ
-
-abbrev pub foundNumbers : ℕ → Found → FoundNumbers
-foundNumbers at (found.Number value next) = record { refusal = accepted; found = 1; value = value; place = 0; next = next }
-foundNumbers at found.Nothing = record { refusal = accepted; found = 0; value = 0; place = 0; next = at }
-foundNumbers at (found.Refused number place) = record { refusal = number; found = 0; value = 0; place = place; next = at }
 
 -- a truth, as the numbers of every export have it
 abbrev pub truth : Bool → ℕ

@@ -1,28 +1,18 @@
-// All of `varint.rs`: numbers of 32 bits as groups of six, little-endian for line tables, big-endian for exception tables.
+// The writers of `varint.rs`: numbers of 32 bits as groups of six, little-endian for line tables, big-endian for exception tables.
 // A number's leading zeros tell how many bytes it takes; a writer clears what it was lent, tests the room, and stores so many.
 ghost use mathlib.Core.Path.{_≡_};
-ghost use Prim.Native.Nat.{_+_, _*_, _%_, _≤_};
-ghost use mathlib.Core.Bool.{cond};
-ghost use lib.Dec.{ltb};
+ghost use Prim.Native.Nat.{_+_, _≤_};
 ghost use lib.ListN.{length};
 ghost use lib.Seq.{sets};
 ghost use mir.Syntax.{w32};
 ghost use mir.Val.{ofZ};
 ghost use Rattle.varint.specs.Writing.{groups, littleEndian, bigEndian, bigEndianWithStart, signedCode};
-ghost use Rattle.varint.specs.Reading.{wholeAt, readVarint, readVarintWithStart};
 ghost use Rattle.varint.specs.Answers.{stored, storedSigned};
 
 // A writer's answer: how many bytes were written, or a refusal's number and place.
 pub enum Written {
     Done(u32),
     Refused(u32, u32),
-}
-
-// A reader's answer. `next` is the position after the number; a refusal has its number and place, and the position is unmoved.
-pub enum Found {
-    Number { value: u32, next: usize },
-    Nothing,
-    Refused { number: u32, place: usize },
 }
 
 // Writes a little-endian varint.
@@ -70,34 +60,6 @@ pub fn write_varint_with_start(out: &mut [u8], val: u32) -> Written
     Written::Done(put_varint_with_start(out, 0, val) as u32)
 }
 
-// A group below those read; of a number that no longer fits in 32 bits, only that is kept.
-fn with_group(val: u64, byte: u8) -> u64
-    requires { ⌜ val ≤ 0x1_0000_0000 ⌝ }
-    ensures { λ r. ⌜ r ≡ cond (ltb (val * 64 + byte % 64) 0x1_0000_0000) (val * 64 + byte % 64) 0x1_0000_0000 ⌝ }
-{
-    let sum = val * 64 + (byte % 64) as u64;
-    if sum < 0x1_0000_0000 {
-        return sum;
-    }
-    0x1_0000_0000
-}
-
-// The answer of a number that was not cut.
-fn whole(at: usize, val: u64, next: usize) -> Found
-    ensures { λ r. ⌜ r ≡ wholeAt at val next ⌝ }
-{
-    if val < 0x1_0000_0000 {
-        return Found::Number {
-            value: val as u32,
-            next,
-        };
-    }
-    Found::Refused {
-        number: refusals::NUMBER_RANGE,
-        place: at,
-    }
-}
-
 // How many bytes a number takes: its leading zeros tell, and 0 takes one.
 pub fn byte_count(val: u32) -> usize
     ensures { λ r. ⌜ (r ≡ length (groups val)) × (1 ≤ r) × (r ≤ 6) ⌝ }
@@ -130,42 +92,6 @@ pub fn put_varint_with_start(out: &mut [u8], at: usize, val: u32) -> usize
     let end = put_varint_be(out, at, val);
     out[at] += 0x80;
     end
-}
-
-// Reads a big-endian varint, at any position.
-pub fn read_varint(data: &[u8], at: usize) -> Found
-    ensures { λ r. ⌜ r ≡ readVarint (now («data» .entry)) at ⌝ }
-{
-    if data.len() <= at {
-        return Found::Nothing;
-    }
-    let mut val = 0u64;
-    let mut next = at;
-    while next < data.len() {
-        let byte = data[next];
-        val = with_group(val, byte);
-        next += 1;
-        if byte / 0x40 % 2 == 0 {
-            return whole(at, val, next);
-        }
-    }
-    Found::Refused {
-        number: refusals::DATA_TOO_SHORT,
-        place: at,
-    }
-}
-
-// Reads a big-endian varint with the start marker (0x80), at any position.
-pub fn read_varint_with_start(data: &[u8], at: usize) -> Found
-    ensures { λ r. ⌜ r ≡ readVarintWithStart (now («data» .entry)) at ⌝ }
-{
-    if data.len() <= at {
-        return Found::Nothing;
-    }
-    if data[at] < 0x80 {
-        return Found::Nothing;
-    }
-    read_varint(data, at)
 }
 
 // The bytes of `val`, lowest first, over the first of those lent; the answer is their number.

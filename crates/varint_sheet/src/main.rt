@@ -4,8 +4,8 @@ use printing::say;
 use printing::say_bytes;
 use printing::say_number;
 use printing::say_refused;
-use varint::Found;
 use varint::Written;
+use varintread::Found;
 
 fn say_written(answer: Written, out: &[u8]) {
     match answer {
@@ -84,17 +84,17 @@ fn read_back() {
     let big = [0x41u8, 0x00];
     let marked = [0xC1u8, 0x00];
     say(b"41 00 at 0: ");
-    say_found(varint::read_varint(&big, 0));
+    say_found(varintread::read_varint(&big, 0));
     say(b"c1 00 with marker at 0: ");
-    say_found(varint::read_varint_with_start(&marked, 0));
+    say_found(varintread::read_varint_with_start(&marked, 0));
     say(b"c1 00 at 0: ");
-    say_found(varint::read_varint(&marked, 0));
+    say_found(varintread::read_varint(&marked, 0));
     say(b"41 00 with marker at 0: ");
-    say_found(varint::read_varint_with_start(&big, 0));
+    say_found(varintread::read_varint_with_start(&big, 0));
     say(b"41 00 at 2: ");
-    say_found(varint::read_varint(&big, 2));
+    say_found(varintread::read_varint(&big, 2));
     say(b"41 00 at 3: ");
-    say_found(varint::read_varint(&big, 3));
+    say_found(varintread::read_varint(&big, 3));
 }
 
 fn read_cut_and_large() {
@@ -102,11 +102,11 @@ fn read_cut_and_large() {
     let large = [0x44u8, 0x40, 0x40, 0x40, 0x40, 0x00];
     let zeros = [0x40u8, 0x40, 0x40, 0x40, 0x40, 0x40, 0x40, 0x40, 0x05];
     say(b"00 41 at 1: ");
-    say_found(varint::read_varint(&cut, 1));
+    say_found(varintread::read_varint(&cut, 1));
     say(b"44 40 40 40 40 00 at 0: ");
-    say_found(varint::read_varint(&large, 0));
+    say_found(varintread::read_varint(&large, 0));
     say(b"eight 40, then 05, at 0: ");
-    say_found(varint::read_varint(&zeros, 0));
+    say_found(varintread::read_varint(&zeros, 0));
 }
 
 fn main() {

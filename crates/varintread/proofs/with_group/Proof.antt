@@ -2,8 +2,8 @@
 -- Assumes nothing.
 use borrow.Author.Needs.{needs}
 use borrow.Author.Tests.{lt-ltb, le-ltb}
-use Rattle.varint.proofs.with_group.Statement.{statement}
-use Rattle.varint.proofs.with_group.Tie as tie
+use Rattle.varintread.proofs.with_group.Statement.{statement}
+use Rattle.varintread.proofs.with_group.Tie as tie
 
 mul-sum : tie.Need-mul-sum
 mul-sum c = search needs

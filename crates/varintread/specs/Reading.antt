@@ -5,9 +5,9 @@ use mathlib.Core.Bool.{Bool, true, false, cond}
 use mathlib.Core.List.{List, [], _∷_}
 use lib.Dec.{ltb, leb, eqb}
 use lib.ListN.{length, getD, drop}
-use Rattle.refusals.specs.Numbers.{dataTooShort, numberRange}
-use Rattle.varint.specs.declared.Found.{Found}
-use Rattle.varint.specs.declared.Found.the-variants.{Number, Nothing, Refused}
+use Rattle.refusals.specs.Numbers.{accepted, dataTooShort, numberRange}
+use Rattle.varintread.specs.declared.Found.{Found}
+use Rattle.varintread.specs.declared.Found.the-variants.{Number, Nothing, Refused}
 
 -- "0x40 meaning more"
 abbrev pub more : ℕ → Bool
@@ -35,3 +35,16 @@ readVarint bytes at = cond (ltb at (length bytes)) (readGroups at 0 at (drop at 
 unfoldable pub readVarintWithStart : List ℕ → ℕ → Found
 unfolding readVarint
 readVarintWithStart bytes at = cond (leb 0x80 (getD bytes at 0)) (readVarint bytes at) Nothing
+
+-- 01's numbers of a reader's answer at a position: "none" leaves "the position unmoved", and so does a refusal (02, K5).
+pub record FoundNumbers : Type 0 where
+  pub refusal : ℕ
+  pub found : ℕ
+  pub value : ℕ
+  pub place : ℕ
+  pub next : ℕ
+
+abbrev pub foundNumbers : ℕ → Found → FoundNumbers
+foundNumbers at (Number value next) = record { refusal = accepted; found = 1; value = value; place = 0; next = next }
+foundNumbers at Nothing = record { refusal = accepted; found = 0; value = 0; place = 0; next = at }
+foundNumbers at (Refused number place) = record { refusal = number; found = 0; value = 0; place = place; next = at }

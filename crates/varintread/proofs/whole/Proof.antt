@@ -2,8 +2,8 @@
 -- Assumes nothing.
 use borrow.Author.Needs.{needs}
 use borrow.Author.Tests.{lt-ltb, le-ltb}
-use Rattle.varint.proofs.whole.Statement.{statement}
-use Rattle.varint.proofs.whole.Tie as tie
+use Rattle.varintread.proofs.whole.Statement.{statement}
+use Rattle.varintread.proofs.whole.Tie as tie
 
 cast-t5 : tie.Need-cast-t5
 cast-t5 c = search needs

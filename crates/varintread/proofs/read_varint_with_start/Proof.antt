@@ -1,12 +1,12 @@
--- `varint::read_varint_with_start` meets its contract: each answer by the test that led to it.
+-- `varintread::read_varint_with_start` meets its contract: each answer by the test that led to it.
 -- Assumes nothing.
 use Prim.Native.Nat.{ℕ}
 use lib.ListN.{List·getD-eq-default}
 use borrow.Author.Needs.{needs}
 use borrow.Author.Tests.{le-leb, lt-leb}
-use Rattle.varint.specs.Reading.{readVarintWithStart}
-use Rattle.varint.proofs.read_varint_with_start.Statement.{statement}
-use Rattle.varint.proofs.read_varint_with_start.Tie as tie
+use Rattle.varintread.specs.Reading.{readVarintWithStart}
+use Rattle.varintread.proofs.read_varint_with_start.Statement.{statement}
+use Rattle.varintread.proofs.read_varint_with_start.Tie as tie
 
 returns : tie.Need-returns
 unfolding readVarintWithStart

@@ -10,10 +10,10 @@ use borrow.Author.Tests.{ltb-true, lt-ltb}
 use lib.Dec.{ltb, leb}
 use lib.ListN.{length, getD, drop, length-drop}
 use Rattle.refusals.specs.Numbers.{accepted, dataTooShort, numberRange}
-use Rattle.varint.specs.Reading.{more, wholeAt, readGroups, readVarint, readVarintWithStart}
-use Rattle.varint.specs.Answers.{FoundNumbers, foundNumbers}
-use Rattle.varint.specs.declared.Found.{Found}
-use Rattle.varint.specs.declared.Found.the-variants.{Number, Nothing, Refused}
+use Rattle.varintread.specs.Reading.{more, wholeAt, readGroups, readVarint, readVarintWithStart}
+use Rattle.varintread.specs.Reading.{FoundNumbers, foundNumbers}
+use Rattle.varintread.specs.declared.Found.{Found}
+use Rattle.varintread.specs.declared.Found.the-variants.{Number, Nothing, Refused}
 
 -- A number of 32 bits that ends behind a place, within so many bytes; nothing; or one of two refusals, at the number's start.
 abbrev pub Told : ℕ → ℕ → ℕ → Found → Type 0

@@ -1,14 +1,14 @@
--- `varint::read_varint` meets its contract: at each turn the bytes that are left still read as the same number, or as one too large.
+-- `varintread::read_varint` meets its contract: at each turn the bytes that are left still read as the same number, or as one too large.
 -- Assumes nothing.
 use mathlib.Core.Path.{_∙_}
 use Prim.Native.Nat.{_-_}
 use lib.ListN.{length}
 use borrow.Author.Needs.{needs}
 use borrow.Author.Tests.{le-ltb}
-use Rattle.varint.specs.Reading.{readVarint}
-use Rattle.varint.proofs.ReadLoop.{ReadSoFar, read-start, read-turn, read-end, read-cut}
-use Rattle.varint.proofs.read_varint.Statement.{statement}
-use Rattle.varint.proofs.read_varint.Tie as tie
+use Rattle.varintread.specs.Reading.{readVarint}
+use Rattle.varintread.proofs.ReadLoop.{ReadSoFar, read-start, read-turn, read-end, read-cut}
+use Rattle.varintread.proofs.read_varint.Statement.{statement}
+use Rattle.varintread.proofs.read_varint.Tie as tie
 
 abbrev Inv-loop : tie.InvT-loop
 Inv-loop «data» at val₀ next₀ val next = ReadSoFar «data» at val next

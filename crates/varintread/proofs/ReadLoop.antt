@@ -11,8 +11,8 @@ use lib.Dec.{ltb}
 use lib.ListN.{length, drop, getD, drop-of-length-le}
 use lib.Seq.{drop-cons}
 use Rattle.refusals.specs.Numbers.{dataTooShort}
-use Rattle.varint.specs.Reading.{more, wholeAt, readGroups, readVarint}
-use Rattle.varint.specs.declared.Found.the-variants.{Refused}
+use Rattle.varintread.specs.Reading.{more, wholeAt, readGroups, readVarint}
+use Rattle.varintread.specs.declared.Found.the-variants.{Refused}
 
 -- a number that is too large stays so, and how large it is does not show
 too-large : (bytes : List ℕ) (at a b next : ℕ) → 2 ^ 32 ≤ a → 2 ^ 32 ≤ b → readGroups at a next bytes ≡ readGroups at b next bytes
