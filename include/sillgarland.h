@@ -167,6 +167,31 @@ typedef struct {
 sill_salvaged_t sill_salvage(const uint8_t *table, size_t table_len, int32_t first_line, uint32_t count, uint8_t *out,
                              size_t out_len);
 
+typedef struct {
+    uint32_t refusal; /* 14: both tables together are too long, at 0; 24: a table is not whole (one that refuses is not), or the
+                         first does not leave the second's first line, at 0; 17: no room, place is out_len, which counts
+                         as at most 4,294,967,295 */
+    uint32_t place;
+    uint32_t written; /* how many bytes: those of a, then those of b */
+    uint32_t count;   /* count_a + count_b, for which the joined table is whole */
+    int32_t line;     /* the running line that it leaves */
+} sill_joined_t;
+
+typedef struct {
+    uint32_t refusal; /* 14 and 18 as in sill_locate */
+    uint32_t place;
+    uint32_t whole; /* as in sill_locate */
+    int32_t line;   /* the running line where the reading ends, not as it is shown: it may be 0 or less */
+} sill_line_t;
+
+/* Puts table b behind table a, where a is whole for count_a instructions from first_a, b is whole for count_b from first_b, and a
+ * leaves the line first_b. The locations are a's and then b's. The empty table over no instructions leaves its first line. */
+sill_joined_t sill_join(const uint8_t *a, size_t a_len, int32_t first_a, uint32_t count_a, const uint8_t *b, size_t b_len,
+                        int32_t first_b, uint32_t count_b, uint8_t *out, size_t out_len);
+
+/* The running line that a table leaves, as sill_locate would read it, without records. */
+sill_line_t sill_line_after(const uint8_t *table, size_t table_len, int32_t first_line, uint32_t count);
+
 /* ---- Local names by their kinds: Local 0x20, Cell 0x40, Free 0x80. */
 
 typedef struct {

@@ -199,6 +199,34 @@ static void test_sources(void)
     expect(memcmp(sources, "\0\0\x07", 3) == 0, "and the two lent bytes are zero");
 }
 
+/* Two blocks from lines that meet; lines that do not, one that only would as shown, a table that refuses, no room. */
+static void test_join(void)
+{
+    uint8_t out[4];
+    memset(out, 7, sizeof out);
+    sill_joined_t joined = sill_join((const uint8_t *)"\xE8\x02", 2, 10, 1, (const uint8_t *)"\xF8", 1, 11, 1, out, 4);
+    expect(joined.refusal == 0 && joined.written == 3 && joined.count == 2 && joined.line == 11, "joined");
+    expect(memcmp(out, "\xE8\x02\xF8\0", 4) == 0, "both tables, and zeros follow");
+    joined = sill_join((const uint8_t *)"\xE8\x02", 2, 10, 1, (const uint8_t *)"\xF8", 1, 10, 1, out, 4);
+    expect(joined.refusal == 24 && joined.place == 0 && joined.written == 0 && joined.line == 0, "lines that do not meet");
+    expect(memcmp(out, "\0\0\0\0", 4) == 0, "and the output is zero");
+    joined = sill_join((const uint8_t *)"\xF8", 1, 0, 1, (const uint8_t *)"\xF8", 1, 1, 1, out, 4);
+    expect(joined.refusal == 24, "lines are compared as they are stored");
+    joined = sill_join((const uint8_t *)"\xD8\0\0", 3, 2147483647, 1, NULL, 0, 2147483647, 0, out, 4);
+    expect(joined.refusal == 24 && joined.place == 0, "a table that refuses is not whole");
+    joined = sill_join((const uint8_t *)"\xF8", 1, -5, 1, NULL, 0, -5, 0, out, 0);
+    expect(joined.refusal == 17 && joined.place == 0, "no room");
+    joined = sill_join((const uint8_t *)"\xF8", 1, -5, 1, NULL, 0, -5, 0, out, 1);
+    expect(joined.refusal == 0 && joined.count == 1 && joined.line == -5 && out[0] == 0xF8, "the empty table behind");
+
+    sill_line_t told = sill_line_after((const uint8_t *)"\xE8\x02", 2, 10, 1);
+    expect(told.refusal == 0 && told.whole == 1 && told.line == 11, "the line that a table leaves");
+    told = sill_line_after((const uint8_t *)"\xE9\x02", 2, 10, 1);
+    expect(told.refusal == 0 && told.whole == 0 && told.line == 11, "an entry past the count moves the line too");
+    told = sill_line_after((const uint8_t *)"\xD8\0\0", 3, 2147483647, 1);
+    expect(told.refusal == 18 && told.place == 0 && told.line == 0, "a line out of range");
+}
+
 /* Document 01's table for three instructions, then for one; then a table cut inside its second entry. */
 static void test_salvage(void)
 {
@@ -336,6 +364,7 @@ int main(void)
     test_exceptions();
     test_lines();
     test_salvage();
+    test_join();
     test_sources();
     test_split();
     test_small_stack();

@@ -115,6 +115,46 @@ static void hold_salvage(const uint8_t *table, size_t len, int32_t first, uint32
     hold(!l.refusal && l.whole && l.from_entries == count, "a repaired table is not whole");
 }
 
+/* The halves as they are: joined exactly if both are whole from lines that meet. */
+static void hold_halves(const uint8_t *table, size_t len, int32_t first, uint32_t count) {
+    size_t half = len / 2, rest = len - half;
+    const uint8_t *a = lend_bytes(&inputs, table, half), *b = lend_bytes(&outs2, table + half, rest);
+    uint32_t *records = lend_words(&records_a, 4 * (size_t)count);
+    sill_located_t l = sill_locate(a, half, first, count, records, 4 * (size_t)count);
+    sill_line_t left = sill_line_after(a, half, first, count), last = sill_line_after(b, rest, left.line, count);
+    hold(left.refusal == l.refusal && left.place == l.place && left.whole == l.whole, "a line beside records");
+    uint8_t *out = lend_bytes(&outs, NULL, len);
+    sill_joined_t j = sill_join(a, half, first, count, b, rest, left.line, count, out, len);
+    hold(j.refusal == (left.whole && last.whole ? 0 : 24) && !j.place, "joined exactly if both are whole");
+    hold(j.refusal ? all_zero(out, len) && !j.line : !memcmp(out, table, len) && j.line == last.line, "both halves, or zeros");
+}
+
+/* The halves repaired, so that they are whole: joined, with the locations of both; by one line missed they are not. */
+static void hold_join(const uint8_t *table, size_t len, int32_t first, uint32_t count) {
+    size_t half = len / 2, room = len + count / 8 + 1;
+    uint8_t *mended = lend_bytes(&outs, NULL, room);
+    uint32_t before = sill_salvage(table, half, first, count, mended, room).written;
+    const uint8_t *a = lend_bytes(&outs2, mended, before);
+    int32_t line = sill_line_after(a, before, first, count).line;
+    uint32_t behind = sill_salvage(table + half, len - half, line, count, mended, room).written;
+    const uint8_t *b = lend_bytes(&nodes_a, mended, behind);
+    size_t both = (size_t)before + behind;
+    uint8_t *out = lend_bytes(&outs, NULL, both);
+    sill_joined_t j = sill_join(a, before, first, count, b, behind, line, count, out, both);
+    hold(!j.refusal && j.written == both && j.count == 2 * count, "whole tables are not joined");
+    hold(!memcmp(out, a, before) && !memcmp(out + before, b, behind), "the bytes of both");
+    hold(j.line == sill_line_after(out, both, first, 2 * count).line, "the line of both");
+    uint32_t *records = lend_words(&records_a, 8 * (size_t)count), *former = lend_words(&entries_a, 4 * (size_t)count);
+    sill_located_t l = sill_locate(out, both, first, 2 * count, records, 8 * (size_t)count);
+    hold(l.whole && l.from_entries == 2 * count, "a joined table is not whole");
+    sill_locate(a, before, first, count, former, 4 * (size_t)count);
+    hold(!memcmp(records, former, 16 * (size_t)count), "the locations of the first");
+    sill_locate(b, behind, line, count, former, 4 * (size_t)count);
+    hold(!memcmp(records + 4 * (size_t)count, former, 16 * (size_t)count), "the locations of the second");
+    j = sill_join(a, before, first, count, b, behind, (int32_t)((uint32_t)line + 1), count, out, both);
+    hold(j.refusal == 24 && !j.place && !j.written && all_zero(out, both), "lines that do not meet");
+}
+
 /* Entries that are read are written in no more bytes, and these read as the same entries; one entry or one byte short is 17. */
 static void hold_exceptions(const uint8_t *table, size_t len) {
     const uint8_t *at = lend_bytes(&inputs, table, len);
@@ -224,6 +264,8 @@ static void others(const uint8_t *data, size_t len) {
     hold_lines(data, len, sum % 2 ? (int32_t)first : 1, sum % 300, NULL);
     hold_sources(data, len, sum % 2 ? (int32_t)first : 1, sum % 300);
     hold_salvage(data, len, sum % 2 ? (int32_t)first : 1, sum % 300);
+    hold_halves(data, len, sum % 2 ? (int32_t)first : 1, sum % 300);
+    hold_join(data, len, sum % 2 ? (int32_t)first : 1, sum % 300);
     hold_exceptions(data, len);
     hostile_exceptions(data, len);
     uint32_t *list[5];

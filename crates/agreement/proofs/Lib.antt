@@ -11,6 +11,7 @@ pub mod Linetable
 pub mod Rows
 pub mod Salvage
 pub mod Sources
+pub mod Join
 pub mod Stores
 pub mod Fields
 pub mod Soundness

@@ -46,6 +46,12 @@ sill-locations-agrees =
 pub located-numbers-agrees : Agree sillgarland.locations.located_numbers.ended sillgarland.locations.located_numbers.Reads.Asked sillgarland.locations.located_numbers.Reads.Learnt
 located-numbers-agrees κs a asked r r′ ws ws′ p p′ = (one p p′, refl)
 
+pub sill-join-agrees : Agree sillgarland.joins.sill_join.ended sillgarland.joins.sill_join.Reads.Asked sillgarland.joins.sill_join.Reads.Learnt
+sill-join-agrees κs a asked r r′ ws ws′ p p′ = (one (p .0) (p′ .0), λ i. (tt, (tt, (tt, (tt, (tt, (tt, (one (p .1) (p′ .1) i, tt))))))))
+
+pub sill-line-after-agrees : Agree sillgarland.joins.sill_line_after.ended sillgarland.joins.sill_line_after.Reads.Asked sillgarland.joins.sill_line_after.Reads.Learnt
+sill-line-after-agrees κs a asked r r′ ws ws′ p p′ = (one p p′, refl)
+
 pub sill-salvage-agrees : Agree sillgarland.repairs.sill_salvage.ended sillgarland.repairs.sill_salvage.Reads.Asked sillgarland.repairs.sill_salvage.Reads.Learnt
 sill-salvage-agrees κs a asked r r′ ws ws′ p p′ = (one (p .0) (p′ .0), λ i. (tt, (tt, (tt, (one (p .1) (p′ .1) i, tt)))))
 

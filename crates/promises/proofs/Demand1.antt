@@ -73,6 +73,7 @@ use Rattle.sillgarland.proofs as sillgarland
 use Rattle.promises.specs.Calls.{sillWrite}
 use Rattle.promises.specs.Demand1.{InTable, Ends, answers, refuses, Zero, LocateEnds, VarintEnds, FoundEnds, Demand1}
 use Rattle.promises.proofs.Reading.{writtenBy}
+use Rattle.promises.proofs.Joins.{join-ends, line-ends}
 use Rattle.promises.proofs.Exceptions.{TabledDecoded, decoded-in-table, TabledEncoded, encoded-in-table}
 use Rattle.promises.proofs.Numbers.{Tabled, reading-in-table, leaf-in-table, TabledLines, located-in-table, located-at-in-table, TabledSplit, split-in-table, TabledStore, stored-in-table, signed-in-table, told-in-table, written-in-table}
 
@@ -256,6 +257,22 @@ demand-1 =
                 (marks-in-table (a .1 .1 .0) (located (now (a .0)) first (a .1 .1 .0) (length lent)) (sources (now (a .0)) first (a .1 .1 .0) (length lent))
                 (located-in-table (now (a .0)) first (a .1 .1 .0) (length lent)) (beside-located .agrees (now (a .0)) first (a .1 .1 .0) (length lent)))
                 lent _ (c .result) (c .meets .0) (c .meets .1);
+          };
+      sill-join =
+          record {
+            asks-nothing = λ κs a. tt;
+            returns = λ M. sillgarland.joins.sill_join.Met.met;
+            ends =
+                λ c.
+                let a = c .args in
+                let b = a .1 .1 .1 in
+                join-ends (now (a .0)) (firstLine (a .1 .0)) (a .1 .1 .0) (now (b .0)) (firstLine (b .1 .0)) (b .1 .1 .0) (now (b .1 .1 .1 .0)) _ (c .result) (c .meets .0) (c .meets .1);
+          };
+      sill-line-after =
+          record {
+            asks-nothing = λ κs a. tt;
+            returns = λ M. sillgarland.joins.sill_line_after.Met.met;
+            ends = λ c. let a = c .args in line-ends (now (a .0)) (firstLine (a .1 .0)) (a .1 .1 .0) (c .result) (c .meets);
           };
       sill-split =
           record {

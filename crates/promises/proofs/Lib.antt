@@ -1,6 +1,7 @@
 pub mod Numbers
 pub mod Reading
 pub mod Exceptions
+pub mod Joins
 pub mod Demand1
 pub mod Demand2
 pub mod Asked

@@ -1,8 +1,17 @@
 -- What document 02's requests promise: the theorem of each request's own crate. Assumes nothing.
 use Rattle.exceptiontable.proofs.Promised.{exception-tables-keep-their-promises}
 use Rattle.salvage.proofs.Promised.{salvage-keeps-its-promises}
+use Rattle.join.proofs.Promised.{join-keeps-its-promises}
+use Rattle.join.proofs.Reading.{line-keeps-its-promises}
 use Rattle.sources.proofs.Beside.{beside-located}
 use Rattle.promises.specs.Requests.{Requests}
 
 pub requests-promised : Requests
-requests-promised = record { exception-tables = exception-tables-keep-their-promises; repair = salvage-keeps-its-promises; sources = beside-located }
+requests-promised =
+    record {
+      exception-tables = exception-tables-keep-their-promises;
+      repair = salvage-keeps-its-promises;
+      join = join-keeps-its-promises;
+      line = line-keeps-its-promises;
+      sources = beside-located;
+    }

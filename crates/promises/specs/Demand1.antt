@@ -28,12 +28,15 @@ use Rattle.salvage.specs.Salvage.{Account}
 use Rattle.salvage.specs.Repair.{refusedWith, listed}
 use Rattle.sources.specs.declared.Counts.{Counts}
 use Rattle.sources.specs.Marks.{counts, told}
+use Rattle.join.specs.Whole as table
+use Rattle.join.specs.Join as joined
 use Rattle.varint.specs.declared.Written.the-variants as varint
 use Rattle.varintread.specs.declared.Found.the-variants as found
 use Rattle.output.specs.declared.Wrote.the-variants as wrote
 use Rattle.exceptiontable.specs.declared.Decoded.the-variants as decoded
 use Rattle.exceptiontable.specs.declared.Encoded.the-variants as encoded
 use Rattle.sillgarland.specs.Exceptions.{decodedStruct, encodedStruct}
+use Rattle.sillgarland.specs.Joins.{joinedStruct, lineStruct}
 use Rattle.sillgarland.specs.Leaves.{leafStruct}
 use Rattle.sillgarland.specs.Locals.{splitStruct}
 use Rattle.sillgarland.specs.Locations.{locatedStruct}
@@ -41,6 +44,8 @@ use Rattle.sillgarland.specs.Salvage.{salvagedStruct}
 use Rattle.sillgarland.specs.Sources.{sourcedStruct}
 use Rattle.sillgarland.specs.Values.{readStruct, wroteStruct}
 use Rattle.sillgarland.specs.Varints.{writtenStruct, foundStruct}
+use Rattle.sillgarland.specs.declared.joins.SillJoined.{SillJoined}
+use Rattle.sillgarland.specs.declared.joins.SillLine.{SillLine}
 use Rattle.sillgarland.specs.declared.locations.SillLocated.{SillLocated}
 use Rattle.sillgarland.specs.declared.varints.SillWritten.{SillWritten}
 use Rattle.sillgarland.specs.declared.varints.SillFound.{SillFound}
@@ -94,6 +99,13 @@ readAs at (some number) = foundStruct at (found.Number (number .0) (number .1))
 abbrev pub FoundEnds : ℕ → SillFound → Type 0
 FoundEnds at r = Ends r (readAs at) (λ number place. foundStruct at (found.Refused number place)) Unit
 
+-- the ends of a join, and of the running line of one table, for which no store is lent
+abbrev pub JoinEnds : SillJoined → Type 0 → Type 0
+JoinEnds r = Ends r (λ (d : ℕ × ℕ × ℕ). joinedStruct (joined.joins (d .0) (d .1) (d .2))) (λ number place. joinedStruct (joined.refusedWith number place))
+
+abbrev pub LineEnds : SillLine → Type 0
+LineEnds r = Ends r (λ (d : Bool × ℕ). lineStruct (table.told (d .0) (d .1))) (λ number place. lineStruct (table.noLine number place)) Unit
+
 -- Each export. Arguments and last contents are counted from the left: the third parameter is `.1 .1 .0`.
 pub record Demand1 : Type 2 where
   pub sill-read :
@@ -128,6 +140,12 @@ pub record Demand1 : Type 2 where
       (λ c.
       Ends (c .result) (λ (d : Counts). sourcedStruct (told accepted 0 d)) (λ number place. sourcedStruct (told number place (counts 0 0 0 0)))
       (Zero (now (c .args .1 .1 .1 .0)) (c .last .1 .1 .1 .0)))
+  pub sill-join :
+      EachCall sillgarland.joins.sill_join.ended sillgarland.joins.sill_join.Reads.Asked sillgarland.joins.sill_join.Reads.Learnt sillgarland.joins.sill_join.Statement.statement
+      (λ c. JoinEnds (c .result) (Zero (now (c .args .1 .1 .1 .1 .1 .1 .0)) (c .last .1 .1 .1 .1 .1 .1 .0)))
+  pub sill-line-after :
+      EachCall sillgarland.joins.sill_line_after.ended sillgarland.joins.sill_line_after.Reads.Asked sillgarland.joins.sill_line_after.Reads.Learnt sillgarland.joins.sill_line_after.Statement.statement
+      (λ c. LineEnds (c .result))
   pub sill-split :
       EachCall sillgarland.locals.sill_split.ended sillgarland.locals.sill_split.Reads.Asked sillgarland.locals.sill_split.Reads.Learnt sillgarland.locals.sill_split.Statement.statement
       (λ c.

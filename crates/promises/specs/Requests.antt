@@ -2,6 +2,7 @@
 -- exports' contracts cite.
 use Rattle.exceptiontable.specs.Promised.{Promised as ExceptionTablesPromised}
 use Rattle.salvage.specs.Promised.{Promised as RepairPromised}
+use Rattle.join.specs.Promised.{Promised as JoinPromised, LinePromised}
 use Rattle.sources.specs.Beside.{BesideLocated}
 
 pub record Requests : Type 0 where
@@ -9,5 +10,9 @@ pub record Requests : Type 0 where
   pub exception-tables : ExceptionTablesPromised
   -- K9: "a repair that takes a table, first line and instruction count and makes a whole one"
   pub repair : RepairPromised
+  -- K12: "A followed by B must then give A's locations followed by B's, and be whole for a + b."
+  pub join : JoinPromised
+  -- K12: "leaving the running line at g"
+  pub line : LinePromised
   -- the bytes of `sill_sources` beside the places of `sill_locate`
   pub sources : BesideLocated

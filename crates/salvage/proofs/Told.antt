@@ -148,7 +148,7 @@ pub repairs-short : (s : List ℕ) (first count n k : ℕ) {r : Salvaged} {zs : 
 unfolding repair
 repairs-short s first count n k h l m o e q = rw (le-ltb mostBytes (length s) h, l, le-ltb mostBytes k m, lt-ltb n k o) (e, q)
 
-over-zeros : (n : ℕ) (vs : List ℕ) → length vs ≤ n → sets (zeros n) 0 vs ≡ padded n vs
+pub over-zeros : (n : ℕ) (vs : List ℕ) → length vs ≤ n → sets (zeros n) 0 vs ≡ padded n vs
 unfolding padded
 over-zeros n vs h =
     let l = length-replicate {A = ℕ} n 0 in

@@ -9,7 +9,7 @@ ghost use Rattle.salvage.specs.Salvage.{fill, headFor};
 ghost use Rattle.salvage.specs.Repair.{shortened, refusedWith, repair};
 
 // So many bytes of one slice, one after another, into another.
-fn copy(out: &mut [u8], at: usize, s: &[u8], from: usize, size: usize)
+pub fn copy(out: &mut [u8], at: usize, s: &[u8], from: usize, size: usize)
     requires { ⌜ (at + size ≤ length (now out)) × (from + size ≤ length (now s)) ⌝ }
     ensures { λ _. ⌜ now (out .exit) ≡ sets (now (out .entry)) at (take size (drop from (now (s .entry)))) ⌝ }
 {
@@ -65,7 +65,7 @@ fn refusal(number: u32, place: u32) -> Salvaged
 }
 
 // The place of a refusal for want of room: the output's length, which counts as at most 4,294,967,295.
-fn short_place(room: usize) -> u32
+pub fn short_place(room: usize) -> u32
     ensures { λ r. ⌜ r ≡ min room 4294967295 ⌝ }
 {
     if room <= 0xFFFF_FFFF {

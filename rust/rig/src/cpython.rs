@@ -1,6 +1,7 @@
 //! What CPython says of its own code, in the file that tools/cpython-tables writes: the positions of every instruction,
 //! the split of the local names, the entries of the exception tables.
 use crate::exceptions;
+use crate::join;
 use crate::lent::Part;
 use crate::linetable::{self, LineTables, Origin, locate};
 use crate::localsplus::{self, split};
@@ -22,6 +23,7 @@ pub fn hold(text: &str) -> bool {
     let mut values = Tally::new("cpython values");
     let mut nodes = Tally::new("cpython positions by node");
     let mut repairs = Tally::new("cpython tables repaired, cut at every byte");
+    let mut splits = Tally::new("cpython tables split and joined");
     let mut module: Option<Module> = None;
     for row in text.lines().filter(|row| !row.starts_with('#')) {
         let tallied = match row.split(' ').next() {
@@ -29,6 +31,7 @@ pub fn hold(text: &str) -> bool {
                 positions.count("code objects, every position alike", hold_positions(&ask, &said));
                 cuts.count("tables cut in the middle, none whole", hold_cut(&ask));
                 salvage::hold_cuts(&mut repairs, &ask);
+                join::hold_splits(&mut splits, &ask);
                 if let Some(module) = &mut module {
                     let held = module.hold_lines(ask.first_line, ask.count, &as_all_shown(&ask, &said));
                     nodes.count("code objects, every position alike", held);
@@ -59,7 +62,7 @@ pub fn hold(text: &str) -> bool {
             positions.count("", Err(format!("malformed: {row}")));
         }
     }
-    [positions, cuts, repairs, names, handlers, values, nodes].map(Tally::finish).iter().all(|held| *held)
+    [positions, cuts, repairs, splits, names, handlers, values, nodes].map(Tally::finish).iter().all(|held| *held)
 }
 
 fn counted(tally: &mut Tally, class: &'static str, marshalled: Marshalled) -> Option<Module> {
@@ -75,8 +78,7 @@ fn counted(tally: &mut Tally, class: &'static str, marshalled: Marshalled) -> Op
     }
 }
 
-/// The line tables of the file, as questions for the comparison with the Rust.
-#[cfg(carried)]
+/// The line tables of the file, as questions for the comparison with the Rust, and for joins.
 pub fn tables(text: &str) -> Vec<linetable::Ask> {
     text.lines().filter_map(of_lines).map(|(ask, _)| ask).collect()
 }

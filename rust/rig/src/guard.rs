@@ -1,6 +1,7 @@
 //! Every exported function between pages that fault: what it is lent ends, or begins, where a page stands that nobody may
 //! touch, so one byte read or written outside ends the run. The answers are held to the same as without.
 use crate::exceptions::{self, Exceptions};
+use crate::join::{self, Joins};
 use crate::memory::{Mode, lend};
 use crate::read::Reads;
 use crate::salvage::{self, Salvages};
@@ -41,6 +42,11 @@ pub fn hold() -> bool {
             let answer = exceptions::by_the_model(&asked);
             last_asked(&Exceptions::row(&asked, &answer));
             tally.count("exception tables read and written", held::<Exceptions>(&asked, &answer));
+        }
+        for asked in join::random_asks(26, OF_EACH) {
+            let answer = join::by_the_model(&asked);
+            last_asked(&Joins::row(&asked, &answer));
+            tally.count("line tables joined, and their lines", held::<Joins>(&asked, &answer));
         }
         ask::<Reads>(&mut tally, "values read, with their leaves", values::random_inputs(21, OF_EACH));
         last_asked("a writing from a single record");

@@ -6,7 +6,7 @@ use crate::subject::compare;
 use crate::values::{self, ROUNDS};
 use crate::varint::{self, Varints};
 use crate::write::{self, Writes};
-use crate::{exceptions, hostile, leaf, sweep};
+use crate::{exceptions, hostile, join, leaf, sweep};
 use sillgarland_sys::refusals::MOST_NESTING;
 use std::ops::Range;
 use std::time::Instant;
@@ -52,5 +52,6 @@ fn hold_round(round: u64, made: &Made) -> bool {
         && leaf::hold(4000 + round, values::random_inputs(5000 + round, 500_000))
         && hostile::hold(6000 + round, 3_000_000)
         && exceptions::hold_round(9000 + round, 2_000_000)
+        && join::hold_round(10_000 + round, 1_000_000)
         && sweep::hold(7000 + round, || values::inputs_to_sweep(8000 + round, 1_000_000))
 }

@@ -11,6 +11,7 @@ mod goldens;
 #[cfg(carried)]
 mod guard;
 mod hostile;
+mod join;
 mod leaf;
 mod lent;
 mod limits;
@@ -57,6 +58,7 @@ mod write_same;
 mod writing;
 
 use exceptions::Exceptions;
+use join::Joins;
 use linetable::LineTables;
 use localsplus::LocalNames;
 use options::{Options, Task, USAGE};
@@ -102,6 +104,7 @@ fn run(options: Options) -> Result<bool, String> {
             Ok(true)
         }
         Task::Exceptions => Ok(exceptions::hold(17, EXCEPTIONS)),
+        Task::Joins => joins(&options),
         Task::Extremes => Ok(extremes::hold()),
         Task::HasRust => {
             println!("{}", if cfg!(carried) { "yes" } else { "no" });
@@ -138,7 +141,19 @@ fn beside_the_rust(options: &Options) -> Result<bool, String> {
 /// How many random exception tables, read and written.
 const EXCEPTIONS: usize = 1_000_000;
 
-/// What documents 01 and 02 alone tell: the leaf question and writing on any stores, exception tables, and demand 3 at every room.
+/// How many random joins and lines.
+const JOINS: usize = 1_000_000;
+
+/// Joins alone; with what CPython made, its tables too, split and joined again.
+fn joins(options: &Options) -> Result<bool, String> {
+    let text = options.tables.as_deref().map_or(Ok(String::new()), contents)?;
+    let mut splits = tally::Tally::new("cpython tables split and joined");
+    cpython::tables(&text).iter().for_each(|table| join::hold_splits(&mut splits, table));
+    Ok(all([join::hold(19, JOINS), text.is_empty() || splits.finish()]))
+}
+
+/// What documents 01 and 02 alone tell: the leaf question and writing on any stores, exception tables, joins, and demand 3 at every
+/// room.
 fn without_the_rust() -> Result<bool, String> {
     let found = corpus::inputs()?;
     Ok(all([
@@ -147,6 +162,7 @@ fn without_the_rust() -> Result<bool, String> {
         salvage::hold(16, 400_000),
         sources::hold(17, 400_000),
         exceptions::hold(18, EXCEPTIONS),
+        join::hold(19, JOINS),
         sweep::hold(13, || values::inputs_to_sweep(14, 200_000).chain(found.iter().cloned())),
     ]))
 }
@@ -164,7 +180,13 @@ fn replay_answers() -> bool {
         |folder| all([replay::<Varints>(folder), replay::<LineTables>(folder), replay::<LocalNames>(folder)]);
     let fixed = all([replay_all("fixed"), replay::<Reads>("fixed"), replay::<Writes>("fixed")]);
     let vectors = all([replay_all("vectors"), replay::<ReadStores>("vectors"), replay::<Leaves>("vectors")]);
-    let written = all([replay::<WriteStores>("vectors"), replay::<Salvages>("vectors"), replay::<Sources>("vectors"), replay::<Exceptions>("vectors")]);
+    let written = all([
+        replay::<WriteStores>("vectors"),
+        replay::<Salvages>("vectors"),
+        replay::<Sources>("vectors"),
+        replay::<Exceptions>("vectors"),
+        replay::<Joins>("vectors"),
+    ]);
     all([fixed, vectors, written])
 }
 

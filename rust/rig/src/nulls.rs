@@ -1,8 +1,10 @@
 //! A null pointer with length 0 is an empty slice: every exported function, called so, answers as for no bytes and no room.
 use crate::tally::Tally;
-use sillgarland_sys::{Exceptions, Found, Leaf, Located, Read, Salvaged, Sourced, Split, Written, refusals};
+use sillgarland_sys::{
+    Exceptions, Found, Joined, Leaf, Line, Located, Read, Salvaged, Sourced, Split, Written, refusals,
+};
+use sillgarland_sys::{sill_join, sill_line_after, sill_read_exceptions, sill_write_exceptions};
 use sillgarland_sys::{sill_leaf, sill_locate_node, sill_read, sill_salvage, sill_sources, sill_write};
-use sillgarland_sys::{sill_read_exceptions, sill_write_exceptions};
 use sillgarland_sys::{sill_locate, sill_locations, sill_read_varint, sill_read_varint_with_start, sill_split};
 use sillgarland_sys::{
     sill_write_signed_varint, sill_write_varint, sill_write_varint_be, sill_write_varint_with_start,
@@ -46,6 +48,10 @@ pub fn hold() -> bool {
             Sourced { refusal: refusals::ACCEPTED, place: 0, from_entries: 0, with_line: 0, with_columns: 0, sure: 0 };
         count(&mut tally, "sill_sources", sill_sources(n, 0, 1, 0, m, 0), none);
         count(&mut tally, "sill_salvage", sill_salvage(n, 0, 1, 0, m, 0), empty);
+        let both = Joined { refusal: refusals::ACCEPTED, place: 0, written: 0, count: 0, line: 1 };
+        count(&mut tally, "sill_join", sill_join(n, 0, 1, 0, n, 0, 1, 0, m, 0), both);
+        let first_line = Line { refusal: refusals::ACCEPTED, place: 0, whole: 1, line: 1 };
+        count(&mut tally, "sill_line_after", sill_line_after(n, 0, 1, 0), first_line);
         let split = sill_split(n, 0, 0, 0, 0, 0, w, 0, w, 0, w, 0, w, 0, w, 0);
         count(&mut tally, "sill_split", split, no_names);
         count(&mut tally, "sill_read", sill_read(n, 0, w, 0, w, 0, w, 0, 1), no_object);

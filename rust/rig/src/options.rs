@@ -9,6 +9,7 @@ usage: rig [--tables FILE]                       compare with the carried Rust, 
        rig --guard                               ask all between pages that fault, nothing else
        rig --rooms                               what the documents alone tell: every room, leaves, writing of any stores
        rig --exceptions                          exception tables: the model, and the carried Rust beside it, nothing else
+       rig --joins [--tables FILE]               joins of line tables: the model, and the carried Rust beside it, nothing else
        rig --goldens PATH..                      compare on golden files; without a PATH, say how
        rig --extremes                            values and line tables of 16 MiB in each extreme shape, timed
        rig --has-rust                            say yes or no: whether it was built with the carried Rust
@@ -36,6 +37,7 @@ pub enum Task {
     Guard,
     Rooms,
     Exceptions,
+    Joins,
     Replay,
     Goldens(Vec<String>),
     HasRust,
@@ -72,6 +74,7 @@ impl Options {
                     options.set(Task::Goldens(words.by_ref().collect()))?;
                 }
                 "--exceptions" => options.set(Task::Exceptions)?,
+                "--joins" => options.set(Task::Joins)?,
                 "--extremes" => options.set(Task::Extremes)?,
                 "--has-rust" => options.set(Task::HasRust)?,
                 "--exact" => options.set(Task::Exact)?,

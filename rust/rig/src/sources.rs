@@ -141,11 +141,18 @@ fn number(table: &[u8], at: &mut usize, missing: &mut bool) -> Option<i64> {
     }
 }
 
-struct Entry {
-    instructions: usize,
-    line: i64,
+pub struct Entry {
+    pub instructions: usize,
+    pub line: i64,
     byte: u8,
-    end: usize,
+    pub end: usize,
+}
+
+impl Entry {
+    /// A byte of it is missing.
+    pub fn is_cut(&self) -> bool {
+        self.byte & 32 != 0
+    }
 }
 
 fn signed(value: i64) -> i64 {
@@ -157,7 +164,7 @@ fn in_range(line: i64) -> Option<i64> {
 }
 
 /// The entry whose first byte is at a place, or nothing where it is refused.
-fn entry(table: &[u8], start: usize, line: i64) -> Option<Entry> {
+pub fn entry(table: &[u8], start: usize, line: i64) -> Option<Entry> {
     let head = table[start];
     let (mut at, mut missing, code) = (start + 1, false, head >> 3 & 15);
     let (to, end_line, columns) = match code {

@@ -118,6 +118,27 @@ pub struct Leaf {
     pub second: u64,
 }
 
+/// What joining two line tables answers: how many bytes were written, for how many instructions, and the line they leave.
+#[repr(C)]
+#[derive(Clone, Copy, Debug, PartialEq, Eq)]
+pub struct Joined {
+    pub refusal: u32,
+    pub place: u32,
+    pub written: u32,
+    pub count: u32,
+    pub line: i32,
+}
+
+/// What is told of one line table: whether it is whole, and the running line where its reading ends.
+#[repr(C)]
+#[derive(Clone, Copy, Debug, PartialEq, Eq)]
+pub struct Line {
+    pub refusal: u32,
+    pub place: u32,
+    pub whole: u32,
+    pub line: i32,
+}
+
 unsafe extern "C" {
     pub fn sill_write_varint(out: *mut u8, out_len: usize, value: u32) -> Written;
     pub fn sill_write_signed_varint(out: *mut u8, out_len: usize, value: i32) -> Written;
@@ -166,6 +187,19 @@ unsafe extern "C" {
         out: *mut u8,
         out_len: usize,
     ) -> Salvaged;
+    pub fn sill_join(
+        a: *const u8,
+        a_len: usize,
+        first_a: i32,
+        count_a: u32,
+        b: *const u8,
+        b_len: usize,
+        first_b: i32,
+        count_b: u32,
+        out: *mut u8,
+        out_len: usize,
+    ) -> Joined;
+    pub fn sill_line_after(table: *const u8, table_len: usize, first_line: i32, count: u32) -> Line;
     pub fn sill_split(
         kinds: *const u8,
         kinds_len: usize,

@@ -34,6 +34,7 @@
 mod code;
 mod golden;
 mod handlers;
+mod join;
 mod lines;
 mod reader;
 mod refusal;
@@ -45,6 +46,7 @@ mod write;
 pub use code::{Code, NUMBERS, PARTS};
 pub use golden::Golden;
 pub use handlers::{Handler, exception_table, handlers};
+pub use join::{Block, Joined, LineAfter, join, line_after};
 pub use lines::{Lines, Located, Location, Locations, Records};
 pub use reader::Reader;
 pub use refusal::{Place, Refusal, Refused};
