@@ -1,4 +1,5 @@
 pub mod Places
+pub mod OneByte
 pub mod Decoding
 pub mod Encoding
 pub mod ReadsBack

@@ -151,8 +151,36 @@ fn put_entry(out: &mut [u8], used: usize, entries: &[u32], at: usize) -> usize
     varint::put_varint_be(out, third, entries[at + 3] * 2 + entries[at + 4])
 }
 
-// The number that an entry starts with, which has the marker.
+// The number that an entry starts with, which has the marker. Most are of one byte.
 fn first_number(table: &[u8], at: usize) -> Taken
+    requires { ⌜ (length (now table) ≤ mostBytes) × (at ≤ length (now table)) ⌝ }
+    ensures { λ r. ⌜ r ≡ firstNumber (now (table .entry)) at ⌝ }
+{
+    if at < table.len() {
+        let byte = table[at];
+        if byte / 0x40 == 2 {
+            return Taken::Number((byte % 64) as u32, at + 1);
+        }
+    }
+    any_first_number(table, at)
+}
+
+// A later number of an entry. Most are of one byte.
+fn later_number(table: &[u8], at: usize) -> Taken
+    requires { ⌜ length (now table) ≤ mostBytes ⌝ }
+    ensures { λ r. ⌜ r ≡ laterNumber (now (table .entry)) at ⌝ }
+{
+    if at < table.len() {
+        let byte = table[at];
+        if byte / 0x40 % 2 == 0 {
+            return Taken::Number((byte % 64) as u32, at + 1);
+        }
+    }
+    any_later_number(table, at)
+}
+
+// The same, of any number of bytes.
+fn any_first_number(table: &[u8], at: usize) -> Taken
     requires { ⌜ (length (now table) ≤ mostBytes) × (at ≤ length (now table)) ⌝ }
     ensures { λ r. ⌜ r ≡ firstNumber (now (table .entry)) at ⌝ }
 {
@@ -163,8 +191,7 @@ fn first_number(table: &[u8], at: usize) -> Taken
     }
 }
 
-// A later number of an entry.
-fn later_number(table: &[u8], at: usize) -> Taken
+fn any_later_number(table: &[u8], at: usize) -> Taken
     requires { ⌜ length (now table) ≤ mostBytes ⌝ }
     ensures { λ r. ⌜ r ≡ laterNumber (now (table .entry)) at ⌝ }
 {

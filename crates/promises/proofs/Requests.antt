@@ -4,6 +4,7 @@ use Rattle.salvage.proofs.Promised.{salvage-keeps-its-promises}
 use Rattle.join.proofs.Promised.{join-keeps-its-promises}
 use Rattle.join.proofs.Reading.{line-keeps-its-promises}
 use Rattle.sources.proofs.Beside.{beside-located}
+use Rattle.sources.proofs.Repaired.{repaired-told}
 use Rattle.promises.specs.Requests.{Requests}
 
 pub requests-promised : Requests
@@ -14,4 +15,5 @@ requests-promised =
       join = join-keeps-its-promises;
       line = line-keeps-its-promises;
       sources = beside-located;
+      sources-repaired = repaired-told;
     }

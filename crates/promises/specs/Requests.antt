@@ -4,6 +4,7 @@ use Rattle.exceptiontable.specs.Promised.{Promised as ExceptionTablesPromised}
 use Rattle.salvage.specs.Promised.{Promised as RepairPromised}
 use Rattle.join.specs.Promised.{Promised as JoinPromised, LinePromised}
 use Rattle.sources.specs.Beside.{BesideLocated}
+use Rattle.sources.specs.Repaired.{Repaired}
 
 pub record Requests : Type 0 where
   -- K1: "Write the same entries back in shortest form .. a written table reads as the same entries."
@@ -16,3 +17,5 @@ pub record Requests : Type 0 where
   pub line : LinePromised
   -- the bytes of `sill_sources` beside the places of `sill_locate`
   pub sources : BesideLocated
+  -- and of a table that was repaired
+  pub sources-repaired : Repaired

@@ -43,7 +43,7 @@ module _ (s : List ℕ) (first count : ℕ) where
       let t : total added ≡ left = total-shift (length (take p s)) (F .entries) ∙ F .sum in
       let n : total es + left ≡ count = omega (arith, r .within) in
       subst (λ k. Says s first count (record { kept = length es; dropped = length s - p; shortened = 0; covered = k })) t
-      (covers es added why other (r .chain) (r .ends)
+      (covers es added why other (ap (λ k. total es + k) t ∙ n) (r .chain) (r .ends)
       (subst (λ y. Chain y first 0 (es ++ added)) (sym b) (subst (Chain (take p s ++ fill left) first 0) all (J .chain)))
       (ap (take p) b ∙ take-at (take p s) (fill left) p l)
       (ap (drop p) b ∙ ap (λ i. drop i (take p s ++ fill left)) (sym l) ∙ drop-append-seam (take p s) (fill left) ∙ ap fill (sym t))

@@ -22,7 +22,7 @@ forFewer n e = record { instructions = n; line = e .line; location = e .location
 -- original, the shortened one included and none of the added; dropped are the bytes behind the last kept entry; covered are the
 -- instructions under the added entries. `shows` is what 01's rules then give: under kept entries what they give in the original.
 pub data Says (s : List ℕ) (first count : ℕ) : Account → Type 0 where
-  covers : (es added : List Span) (why : Ending) → ((e : Span) → why ≡ pastCount e → ⊥)
+  covers : (es added : List Span) (why : Ending) → ((e : Span) → why ≡ pastCount e → ⊥) → total es + total added ≡ count
       → Chain s first 0 es → Ends s (lineAfter first es) (placeAfter 0 es) (count - total es) why
       → Chain (salvaged s first count) first 0 (es ++ added)
       → take (placeAfter 0 es) (salvaged s first count) ≡ take (placeAfter 0 es) s

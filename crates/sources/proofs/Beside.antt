@@ -26,11 +26,11 @@ use Rattle.sources.proofs.Going.{marks-ended}
 use Rattle.sources.proofs.Bits.{entry-shows, source-placed, source-missing}
 
 -- ---- lists
-each-replicate : (P : ℕ → Type 0) (n b : ℕ) → P b → Each P (replicate n b)
+pub each-replicate : (P : ℕ → Type 0) (n b : ℕ) → P b → Each P (replicate n b)
 each-replicate P zero b x = tt
 each-replicate P (suc n) b x = (x, each-replicate P n b x)
 
-each-append : (P : ℕ → Type 0) (xs ys : List ℕ) → Each P xs → Each P ys → Each P (xs ++ ys)
+pub each-append : (P : ℕ → Type 0) (xs ys : List ℕ) → Each P xs → Each P ys → Each P (xs ++ ys)
 each-append P [] ys p q = q
 each-append P (x ∷ xs) ys p q = (p .0, each-append P xs ys (p .1) q)
 

@@ -27,7 +27,7 @@ pub marks-ended : (turns : ℕ) (s : List ℕ) (line p left : ℕ) → left ≡ 
 marks-ended zero s line p left e = refl
 marks-ended (suc turns) s line p left e = rw (eq-eqb left 0 e)
 
-marks-entry : (turns : ℕ) (s : List ℕ) (line p left : ℕ) → 0 < left → left ≤ turns → marks turns s line p left ≡ fromEntry (marks (turns - 1) s) s p left (entryAt s line p)
+pub marks-entry : (turns : ℕ) (s : List ℕ) (line p left : ℕ) → 0 < left → left ≤ turns → marks turns s line p left ≡ fromEntry (marks (turns - 1) s) s p left (entryAt s line p)
 marks-entry zero s line p left h k = absurd (omega arith)
 marks-entry (suc turns) s line p left h k =
     let e : suc turns - 1 ≡ turns = omega arith in

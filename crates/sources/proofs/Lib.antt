@@ -1,4 +1,6 @@
 pub mod Counting
 pub mod Going
 pub mod Bits
+pub mod Long
 pub mod Beside
+pub mod Repaired

@@ -1,3 +1,4 @@
 pub mod Source
 pub mod Marks
 pub mod Beside
+pub mod Repaired

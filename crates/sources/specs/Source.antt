@@ -1,15 +1,17 @@
 -- What one entry of a location table tells of the place that it gives: "the sum of: 1 from an entry; 2 the entry has a line; 4 a column and 8
 -- an end column; 16 it has a line, and line and end line are above 0 as stored; 32 a byte of the entry is missing".
+use mathlib.Core.Path.{_≡_}
 use mathlib.Core.Bool.{Bool, false, not, _&&_, cond}
 use mathlib.Core.List.{List}
-use Prim.Native.Nat.{ℕ, _+_, _/_, _%_}
+use Prim.Native.Nat.{ℕ, _+_, _/_, _%_, max}
 use lib.Dec.{ltb, eqb}
 use Rattle.lineentry.specs.declared.Varint.{Varint}
 use Rattle.lineentry.specs.declared.Varint.the-variants.{Value, TooLong}
 use Rattle.lineentry.specs.declared.Moved.{Moved}
 use Rattle.lineentry.specs.declared.Moved.the-variants.{To, Outside}
 use Rattle.lineentry.specs.Varint.{byteAt, varintAt}
-use Rattle.lineentry.specs.Line.{origin, asSigned, moved}
+use Rattle.lineentry.specs.declared.Location.{Location}
+use Rattle.lineentry.specs.Line.{origin, asSigned, moved, shown}
 use Rattle.sources.specs.declared.Number.{Number}
 use Rattle.sources.specs.declared.LongForm.{LongForm}
 
@@ -71,3 +73,16 @@ longSource s p line missing = sourceBy 14 line (longAt s p) missing
 -- the byte for each instruction of the entry at p, which has this line and of which a byte is missing or not
 unfoldable pub sourceOf : List ℕ → ℕ → ℕ → Bool → ℕ
 sourceOf s p line missing = sourceBy (codeAt s p) line (longAt s (byteAt s p .next)) missing
+
+-- What the location of an entry of code 14 shows of these: "Lines of 0 or less show as 1", "columns count from 1; none is 1". Where it shows
+-- no 1, it tells the entry's byte, and the numbers need not be read again.
+pub record LongShown (long : LongForm) (line : ℕ) (l : Location) : Type 0 where
+  pub end : ℕ
+  pub ends : moved line (asSigned (long .«end_step»)) ≡ To end
+  pub lines : l .line ≡ shown line
+  pub end-lines : l .«end_line» ≡ shown end
+  pub columns : l .column ≡ max 1 (long .column)
+  pub end-columns : l .«end_column» ≡ max 1 (long .«end_column»)
+
+abbrev pub aboveOne : Location → Bool
+aboveOne l = ltb 1 (l .line) && (ltb 1 (l .«end_line») && (ltb 1 (l .column) && ltb 1 (l .«end_column»)))

@@ -9,9 +9,11 @@ ghost use Rattle.refusals.specs.Limits.{mostBytes};
 ghost use Rattle.clearing.specs.Lent.{zeros};
 ghost use Rattle.lineentry.specs.Line.{moved, asSigned};
 ghost use Rattle.linetable.specs.Answer.{firstLine};
-ghost use Rattle.sources.specs.Source.{numberAt, longFrom, longAt, above, aboveAfter, bit, sum, longSource, sourceOf};
+ghost use Rattle.lineentry.specs.Varint.{byteAt};
+ghost use Rattle.sources.specs.Source.{codeAt, numberAt, longFrom, longAt, LongShown, aboveOne, above, aboveAfter, bit, sum, longSource, sourceOf};
 ghost use Rattle.sources.specs.Marks.{marks, sources, has, share, counts, times, plus, told, answerOf, bytesOf};
 use lineentry::Entry;
+use lineentry::Location;
 use lineentry::Moved;
 use lineentry::Varint;
 
@@ -122,8 +124,28 @@ fn sum_of(line: bool, column: bool, end_column: bool, positive: bool, missing: b
     1 + a + b + c + d + e
 }
 
+// Whether a location shows no 1.
+fn above_one(shows: Location) -> bool
+    ensures { λ r. ⌜ r ≡ aboveOne shows ⌝ }
+{
+    let columns = both(1 < shows.column, 1 < shows.end_column);
+    let end = both(1 < shows.end_line, columns);
+    both(1 < shows.line, end)
+}
+
+// Code 14, whose numbers start at a place and show as they do: where they show no 1, none of them is 0 or less.
+fn long_source(table: &[u8], at: usize, line: u32, missing: bool, shows: Location) -> u8
+    requires { ⌜ LongShown (longAt (now table) at) line shows ⌝ }
+    ensures { λ r. ⌜ r ≡ longSource (now (table .entry)) at line missing ⌝ }
+{
+    if above_one(shows) {
+        return sum_of(true, true, true, true, missing);
+    }
+    read_long_source(table, at, line, missing)
+}
+
 // Code 14, whose numbers start at a place: each column is there where its number is not 0.
-fn long_source(table: &[u8], at: usize, line: u32, missing: bool) -> u8
+fn read_long_source(table: &[u8], at: usize, line: u32, missing: bool) -> u8
     ensures { λ r. ⌜ r ≡ longSource (now (table .entry)) at line missing ⌝ }
 {
     let long = long_at(table, at);
@@ -138,8 +160,9 @@ fn long_source(table: &[u8], at: usize, line: u32, missing: bool) -> u8
     )
 }
 
-// The byte for the entry at a place, which has this line and of which a byte was missing or not.
-fn source_of(table: &[u8], at: usize, line: u32, missing: bool) -> u8
+// The byte for the entry at a place, which has this line, of which a byte was missing or not, and which shows this location.
+fn source_of(table: &[u8], at: usize, line: u32, missing: bool, shows: Location) -> u8
+    requires { ⌜ (codeAt (now table) at ≡ 14 → LongShown (longAt (now table) (byteAt (now table) at .next)) line shows) ⌝ }
     ensures { λ r. ⌜ r ≡ sourceOf (now (table .entry)) at line missing ⌝ }
 {
     let first = lineentry::lt_byte(table, at);
@@ -148,7 +171,7 @@ fn source_of(table: &[u8], at: usize, line: u32, missing: bool) -> u8
         return sum_of(false, false, false, false, missing);
     }
     if code == 14 {
-        return long_source(table, first.next, line, missing);
+        return long_source(table, first.next, line, missing, shows);
     }
     let columns = code < 13;
     sum_of(true, columns, columns, is_above(line), missing)
@@ -167,9 +190,18 @@ fn share_of(n: u32, given: bool) -> u32
     if given { n } else { 0 }
 }
 
+// n instructions of one byte. Most entries have all that is counted.
 fn times_of(n: u32, byte: u8) -> Counts
     ensures { λ r. ⌜ (r ≡ times n byte) × (r .«from_entries» ≤ n) × (r .«with_line» ≤ n) × (r .«with_columns» ≤ n) × (r .sure ≤ n) ⌝ }
 {
+    if byte == 31 {
+        return Counts {
+            from_entries: n,
+            with_line: n,
+            with_columns: n,
+            sure: n,
+        };
+    }
     let line = has_bit(2, byte);
     let columns = both(has_bit(4, byte), has_bit(8, byte));
     let sure = both(has_bit(16, byte), !has_bit(32, byte));
@@ -195,15 +227,28 @@ fn count_more(before: Counts, i: usize, n: u32, byte: u8) -> Counts
     }
 }
 
+// An entry's byte, for one of its instructions of which so many are left: never more than eight. The test keeps the loop below a loop: a
+// compiler makes of it a call that clears memory, and entries are too short for calls.
+fn one_of_eight(byte: u8, left: usize) -> u8
+    requires { ⌜ left ≤ 8 ⌝ }
+    ensures { λ r. ⌜ r ≡ byte ⌝ }
+{
+    if 8 < left {
+        return 0;
+    }
+    byte
+}
+
 // Stores one byte for n instructions, from one on.
 fn fill(bytes: &mut [u8], from: usize, n: usize, byte: u8)
-    requires { ⌜ from + n ≤ length (now bytes) ⌝ }
+    requires { ⌜ (from + n ≤ length (now bytes)) × (n ≤ 8) ⌝ }
     ensures { λ _. ⌜ now (bytes .exit) ≡ sets (now (bytes .entry)) from (replicate n byte) ⌝ }
 {
     let mut j = from;
     let mut left = n;
     while 0 < left {
-        bytes[j] = byte;
+        let stored = one_of_eight(byte, left);
+        bytes[j] = stored;
         j += 1;
         left -= 1;
     }
@@ -268,7 +313,8 @@ fn walk_marks(table: &[u8], first: u32, count: u32, bytes: &mut [u8]) -> Sourced
                 return answer(refusals::ACCEPTED, 0, counts);
             }
             Entry::Covers(span) => {
-                let source = source_of(table, at, span.line, span.missing);
+                let shows = span.location;
+                let source = source_of(table, at, span.line, span.missing, shows);
                 let n = smaller(span.instructions, total - i);
                 fill(bytes, i, n, source);
                 counts = count_more(counts, i, n as u32, source);

@@ -1,6 +1,8 @@
 //! Exception tables, read and written: all of CPython's, where there are any, and one large table. The Rust makes a vector of its
-//! entries and of its bytes; the port clears and fills stores that are lent for just the entries and bytes that there are.
+//! entries and of its bytes; the port fills stores that are lent for just the entries and bytes that there are; `dis` of CPython
+//! makes a list of its entries, and writes none.
 use crate::linetable::of_hex;
+use crate::python::Python;
 use crate::timing::{Way, side_by_side, timed_again};
 use carried::bytecode::{decode_exception_table, encode_exception_table};
 use sillgarland_sys::{sill_read_exceptions, sill_write_exceptions};
@@ -34,10 +36,14 @@ fn compare(title: &str, tables: &[Vec<u8>]) {
             assert_eq!(black_box(read).refusal, 0);
         }
     };
-    let ways = vec![
+    let mut python = Python::reading_handlers(tables);
+    let mut ways = vec![
         Way { name: "the Rust", work: timed_again(by_the_rust) },
         Way { name: "the port", work: timed_again(by_the_port) },
     ];
+    if let Some(python) = &mut python {
+        ways.push(Way { name: "CPython's dis", work: Box::new(|| python.do_all()) });
+    }
     side_by_side(&format!("{title}, read"), (bytes, "a byte"), ways);
     write(title, tables, &stores, bytes);
 }

@@ -1,9 +1,10 @@
 //! Line tables: linetable_to_locations, which makes a new slice of locations at each call, and the port's two functions,
 //! which fill stores lent to them. The port's caller keeps its stores from call to call, or allocates and frees them at each
-//! call: the result alone, as the Rust does, with the structs' store of numbers kept, or both stores.
+//! call: the result alone, as the Rust does, with the structs' store of numbers kept, or both stores. Then the bytes that say where
+//! each location comes from, beside the locations.
 use crate::timing::{Way, side_by_side, timed_again};
 use carried::marshal::linetable_to_locations;
-use sillgarland_sys::{Location, sill_locate, sill_locations};
+use sillgarland_sys::{Location, sill_locate, sill_locations, sill_sources};
 use std::hint::black_box;
 
 pub struct Table {
@@ -36,21 +37,33 @@ pub fn run(of_cpython: Vec<Table>) {
         compare(&format!("CPython's own tables ({})", of_cpython.len()), &of_cpython);
     }
     for count in [125_000, 250_000, 500_000, 1_000_000] {
-        compare("one made table", &[made(count)]);
+        compare("one made table", &[made(count, all_codes)]);
     }
+    if !of_cpython.is_empty() {
+        compare_sources(&format!("CPython's own tables ({})", of_cpython.len()), &of_cpython);
+    }
+    compare_sources("one made table, all codes", &[made(1_000_000, all_codes)]);
+    compare_sources("one made table, code 14 for one instruction each", &[made(1_000_000, |_| (14, 1))]);
+    compare_sources("one made table, code 10 for one instruction each", &[made(1_000_000, |_| (10, 1))]);
 }
 
-/// A table for so many instructions, one to eight of them an entry, all sixteen codes in turn.
-fn made(count: u32) -> Table {
+/// All sixteen codes in turn, each for one to eight instructions.
+fn all_codes(turn: u8) -> (u8, u32) {
+    (turn % 16, u32::from(turn) * 5 % 8 + 1)
+}
+
+/// A table for so many instructions, of entries of these codes and lengths.
+fn made(count: u32, entry: impl Fn(u8) -> (u8, u32)) -> Table {
     let (mut bytes, mut placed, mut turn) = (Vec::new(), 0, 0u8);
     while placed < count {
-        let (code, length) = (turn % 16, (count - placed).min(u32::from(turn) * 5 % 8 + 1));
+        let (code, length) = entry(turn);
+        let length = length.min(count - placed);
         bytes.push(0x80 | code << 3 | (length - 1) as u8);
         bytes.extend_from_slice(match code {
             0..=9 => &[0x35],
             10..=12 => &[4, 30],
             13 => &[0x04],
-            14 => &[0x42, 0x01, 0x02, 0x09, 0x50, 0x01],
+            14 => &[0x42, 0x01, 0x02, 0x09, 0x50, 0x01], // a step of 33, end lines 2 below, columns 9 and 80 from 1
             _ => &[],
         });
         placed += length;
@@ -91,6 +104,33 @@ fn compare(title: &str, tables: &[Table]) {
             Way { name: "structs, both new", work: timed_again(all_new) },
         ],
     );
+}
+
+/// A byte an instruction, beside four numbers an instruction; both stores are kept.
+fn compare_sources(title: &str, tables: &[Table]) {
+    let instructions: usize = tables.iter().map(|table| table.count as usize).sum();
+    let most = tables.iter().map(|table| table.count as usize).max().unwrap_or(0);
+    let (mut records, mut bytes) = (store(4 * most), store(most));
+    let located = || tables.iter().for_each(|table| locate(table, &mut records));
+    let sourced = || tables.iter().for_each(|table| sources(table, &mut bytes));
+    side_by_side(
+        &format!("{title}, {instructions} instructions: where each comes from"),
+        (instructions, "an instruction"),
+        vec![
+            Way { name: "sill_locate", work: timed_again(located) },
+            Way { name: "sill_sources", work: timed_again(sourced) },
+        ],
+    );
+}
+
+fn sources(table: &Table, sources: &mut Vec<u8>) {
+    let table = black_box(table);
+    let (bytes, len, room) = (table.bytes.as_ptr(), table.bytes.len(), table.count as usize);
+    assert!(room <= sources.capacity());
+    // SAFETY: table and store are lent for the lengths given, and the port writes all of the store.
+    let sourced = unsafe { sill_sources(bytes, len, table.first_line, table.count, sources.as_mut_ptr(), room) };
+    assert_eq!(sourced.refusal, 0);
+    black_box(sources);
 }
 
 /// Room for so many elements, which nothing is written to yet.

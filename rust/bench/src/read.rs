@@ -118,7 +118,7 @@ fn compare(title: &str, inputs: &[Vec<u8>]) {
     let bytes: usize = inputs.iter().map(Vec::len).sum();
     let mut stores: Vec<_> = inputs.iter().map(|input| Stores::just_enough(input)).collect();
     let nodes: usize = stores.iter().map(|stores| stores.nodes.len() / 5).sum();
-    let mut python = Python::new(inputs);
+    let mut python = Python::loading(inputs);
     let port = || {
         for (input, stores) in inputs.iter().zip(&mut stores) {
             black_box(stores.read(black_box(input)));
@@ -133,7 +133,7 @@ fn compare(title: &str, inputs: &[Vec<u8>]) {
     ways.push(Way { name: "the Rust, nothing", work: timed(|| assert!(by_the_rust(inputs, NothingBag))) });
     ways.push(Way { name: "the port", work: timed(port) });
     if let Some(python) = &mut python {
-        ways.push(Way { name: "CPython's loads", work: Box::new(|| python.load_all()) });
+        ways.push(Way { name: "CPython's loads", work: Box::new(|| python.do_all()) });
     }
     side_by_side(&format!("{title}: {bytes} bytes, {nodes} nodes"), (nodes, "a node"), ways);
 }

@@ -1,5 +1,5 @@
-//! What CPython says of its own code, in the file that tools/cpython-tables writes: the positions of every instruction,
-//! the split of the local names, the entries of the exception tables.
+//! What CPython says of its own code, in the file that tools/cpython-tables writes: the positions of every instruction and which
+//! of their parts are there, the split of the local names, the entries of the exception tables.
 use crate::exceptions;
 use crate::join;
 use crate::lent::Part;
@@ -9,6 +9,7 @@ use crate::marshalled::{Marshalled, Module};
 #[cfg(carried)]
 use crate::read;
 use crate::salvage;
+use crate::sources;
 use crate::subject::Subject;
 use crate::tally::Tally;
 use crate::text::{of_hex, of_numbers};
@@ -24,6 +25,7 @@ pub fn hold(text: &str) -> bool {
     let mut nodes = Tally::new("cpython positions by node");
     let mut repairs = Tally::new("cpython tables repaired, cut at every byte");
     let mut splits = Tally::new("cpython tables split and joined");
+    let mut origins = Tally::new("cpython sources");
     let mut module: Option<Module> = None;
     for row in text.lines().filter(|row| !row.starts_with('#')) {
         let tallied = match row.split(' ').next() {
@@ -32,11 +34,13 @@ pub fn hold(text: &str) -> bool {
                 cuts.count("tables cut in the middle, none whole", hold_cut(&ask));
                 salvage::hold_cuts(&mut repairs, &ask);
                 join::hold_splits(&mut splits, &ask);
+                sources::hold_positions(&mut origins, &ask, &said);
                 if let Some(module) = &mut module {
                     let held = module.hold_lines(ask.first_line, ask.count, &as_all_shown(&ask, &said));
                     nodes.count("code objects, every position alike", held);
                 }
             }),
+            Some("made") => of_lines(row).map(|(ask, said)| sources::hold_positions(&mut origins, &ask, &said)),
             Some("names") => of_names(row).map(|(ask, said)| {
                 names.count("code objects, names split alike", hold_names(&ask, &said));
             }),
@@ -62,7 +66,10 @@ pub fn hold(text: &str) -> bool {
             positions.count("", Err(format!("malformed: {row}")));
         }
     }
-    [positions, cuts, repairs, splits, names, handlers, values, nodes].map(Tally::finish).iter().all(|held| *held)
+    [positions, cuts, repairs, splits, origins, names, handlers, values, nodes]
+        .map(Tally::finish)
+        .iter()
+        .all(|held| *held)
 }
 
 fn counted(tally: &mut Tally, class: &'static str, marshalled: Marshalled) -> Option<Module> {
@@ -80,7 +87,7 @@ fn counted(tally: &mut Tally, class: &'static str, marshalled: Marshalled) -> Op
 
 /// The line tables of the file, as questions for the comparison with the Rust, and for joins.
 pub fn tables(text: &str) -> Vec<linetable::Ask> {
-    text.lines().filter_map(of_lines).map(|(ask, _)| ask).collect()
+    text.lines().filter(|row| row.starts_with("lines ")).filter_map(of_lines).map(|(ask, _)| ask).collect()
 }
 
 /// The modules of the file, as questions for the comparison with the Rust.
@@ -94,7 +101,7 @@ pub fn modules(text: &str) -> Vec<read::Ask> {
 type Position = [Option<i64>; 4];
 
 fn of_lines(row: &str) -> Option<(linetable::Ask, Vec<Position>)> {
-    let ["lines", first_line, count, table, runs] = row.split(' ').collect::<Vec<_>>()[..] else {
+    let ["lines" | "made", first_line, count, table, runs] = row.split(' ').collect::<Vec<_>>()[..] else {
         return None;
     };
     let ask =

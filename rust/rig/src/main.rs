@@ -105,6 +105,7 @@ fn run(options: Options) -> Result<bool, String> {
         }
         Task::Exceptions => Ok(exceptions::hold(17, EXCEPTIONS)),
         Task::Joins => joins(&options),
+        Task::Sources => Ok(sources::hold(17, SOURCES)),
         Task::Extremes => Ok(extremes::hold()),
         Task::HasRust => {
             println!("{}", if cfg!(carried) { "yes" } else { "no" });
@@ -154,13 +155,17 @@ fn joins(options: &Options) -> Result<bool, String> {
 
 /// What documents 01 and 02 alone tell: the leaf question and writing on any stores, exception tables, joins, and demand 3 at every
 /// room.
+/// How many random line tables, for where places come from.
+const SOURCES: usize = 400_000;
+
+/// What documents 01 and 02 alone tell: the leaf question and writing on any stores, exception tables, and demand 3 at every room.
 fn without_the_rust() -> Result<bool, String> {
     let found = corpus::inputs()?;
     Ok(all([
         leaf::hold(11, values::random_inputs(12, 250_000)),
         hostile::hold(15, 1_500_000),
         salvage::hold(16, 400_000),
-        sources::hold(17, 400_000),
+        sources::hold(17, SOURCES),
         exceptions::hold(18, EXCEPTIONS),
         join::hold(19, JOINS),
         sweep::hold(13, || values::inputs_to_sweep(14, 200_000).chain(found.iter().cloned())),

@@ -10,6 +10,7 @@ usage: rig [--tables FILE]                       compare with the carried Rust, 
        rig --rooms                               what the documents alone tell: every room, leaves, writing of any stores
        rig --exceptions                          exception tables: the model, and the carried Rust beside it, nothing else
        rig --joins [--tables FILE]               joins of line tables: the model, and the carried Rust beside it, nothing else
+       rig --sources                             where instructions' places come from: the model, nothing else
        rig --goldens PATH..                      compare on golden files; without a PATH, say how
        rig --extremes                            values and line tables of 16 MiB in each extreme shape, timed
        rig --has-rust                            say yes or no: whether it was built with the carried Rust
@@ -38,6 +39,7 @@ pub enum Task {
     Rooms,
     Exceptions,
     Joins,
+    Sources,
     Replay,
     Goldens(Vec<String>),
     HasRust,
@@ -75,6 +77,7 @@ impl Options {
                 }
                 "--exceptions" => options.set(Task::Exceptions)?,
                 "--joins" => options.set(Task::Joins)?,
+                "--sources" => options.set(Task::Sources)?,
                 "--extremes" => options.set(Task::Extremes)?,
                 "--has-rust" => options.set(Task::HasRust)?,
                 "--exact" => options.set(Task::Exact)?,

@@ -45,11 +45,7 @@ impl Subject for Sources {
 
     fn check(ask: &Ask, answer: &Answer) -> Result<(), String> {
         let part = Part::new(&ask.table);
-        let (table, mut lent) = (part.bytes(), Lent::<u8>::new(ask.room));
-        // SAFETY: table and bytes are lent for the lengths given.
-        let told = unsafe {
-            sys::sill_sources(table.as_ptr(), table.len(), ask.first_line, ask.count, lent.pointer(), lent.len())
-        };
+        let (told, lent) = ask_port(ask, &part);
         match answer {
             Answer::Refused { number, place } => {
                 same(told, sourced(*number, *place, [0; 4]))?;
@@ -92,6 +88,15 @@ impl Subject for Sources {
     }
 }
 
+fn ask_port(ask: &Ask, part: &Part) -> (Sourced, Lent<u8>) {
+    let (table, mut lent) = (part.bytes(), Lent::<u8>::new(ask.room));
+    // SAFETY: table and bytes are lent for the lengths given.
+    let told = unsafe {
+        sys::sill_sources(table.as_ptr(), table.len(), ask.first_line, ask.count, lent.pointer(), lent.len())
+    };
+    (told, lent)
+}
+
 fn sourced(refusal: u32, place: u32, [from_entries, with_line, with_columns, sure]: [u32; 4]) -> Sourced {
     Sourced { refusal, place, from_entries, with_line, with_columns, sure }
 }
@@ -111,7 +116,11 @@ fn check_beside(ask: &Ask, part: &Part, sources: &[u8]) -> Result<(), String> {
     for (at, (byte, shown)) in sources.iter().zip(records.cells().as_chunks::<4>().0).enumerate() {
         let from_entry = at < located.from_entries as usize;
         let not_stored = byte & 19 == 3 && shown[0] != 1 && shown[2] != 1;
-        if (byte & 1 == 1) != from_entry || (*byte == 0) == from_entry || not_stored || located.whole == 1 && byte & 32 != 0 {
+        if (byte & 1 == 1) != from_entry
+            || (*byte == 0) == from_entry
+            || not_stored
+            || located.whole == 1 && byte & 32 != 0
+        {
             return Err(format!("instruction {at}: {byte} beside {shown:?} and {located:?}"));
         }
     }
@@ -212,9 +221,46 @@ pub fn by_the_model(ask: &Ask) -> Answer {
     }
     sources.resize(ask.count as usize, 0);
     let count = |wanted: fn(u8) -> bool| sources.iter().filter(|byte| wanted(**byte)).count() as u32;
-    let counts =
-        [count(|b| b & 1 != 0), count(|b| b & 2 != 0), count(|b| b & 14 == 14), count(|b| b & 50 == 18)];
+    let counts = [count(|b| b & 1 != 0), count(|b| b & 2 != 0), count(|b| b & 14 == 14), count(|b| b & 50 == 18)];
     Answer::Told { sources, counts }
+}
+
+// ---- beside CPython
+
+/// Each instruction's byte beside its position as CPython has it (line, end line, column, end column; none is None): bits 2, 4
+/// and 8 say which of line, column and end column are there. CPython keeps a line of -1 for none, so that a stored -1 is None there:
+/// the listed difference.
+pub fn hold_positions(tally: &mut Tally, lines: &linetable::Ask, said: &[[Option<i64>; 4]]) {
+    let linetable::Ask { table, first_line, count } = lines.clone();
+    let ask = Ask { table, first_line, count, room: count as usize };
+    let (told, lent) = ask_port(&ask, &Part::new(&ask.table));
+    let (bytes, stored) = (lent.cells(), stored_lines(&ask));
+    if told.refusal != refusals::ACCEPTED || said.len() != bytes.len() || stored.len() != bytes.len() {
+        return tally.count("", Err(format!("{ask:?}: {told:?}, and CPython has {} positions", said.len())));
+    }
+    for (at, ((byte, [line, _, column, end_column]), stored)) in bytes.iter().zip(said).zip(stored).enumerate() {
+        let columns = (byte & 4 != 0, byte & 8 != 0) == (column.is_some(), end_column.is_some());
+        let class = match (byte & 2 != 0, line) {
+            (true, Some(line)) if *line == stored => Some("instructions with a line, columns there or not alike"),
+            (false, None) => Some("instructions without a line, columns there or not alike"),
+            (true, None) if stored == -1 => Some("listed difference: a stored line of -1, which is None there"),
+            _ => None,
+        };
+        match class.filter(|_| columns) {
+            Some(class) => tally.count(class, Ok(())),
+            None => tally.count("", Err(format!("{ask:?}: instruction {at}: {byte}, and CPython has {said:?}"))),
+        }
+    }
+}
+
+/// The running line at each instruction that an entry places, as it is stored.
+fn stored_lines(ask: &Ask) -> Vec<i64> {
+    let (mut at, mut line, mut lines) = (0, i64::from(ask.first_line), Vec::new());
+    while let Some(entry) = ask.table.get(at).and_then(|_| entry(&ask.table, at, line)) {
+        (at, line) = (entry.end, entry.line);
+        lines.resize(lines.len() + entry.instructions, line);
+    }
+    lines
 }
 
 // ---- the questions

@@ -3,7 +3,7 @@ use crate::files::{self, Ended};
 use crate::options::Arguments;
 use crate::terminal::{Colour, Colours, Progress};
 use crate::{Outcome, complaints, text};
-use sillgarland::{Code, Golden, Lines, Location, Locations, Reader, Records};
+use sillgarland::{Code, Golden, Location, Locations, Reader, Records};
 use std::collections::BTreeMap;
 use std::io::{self, Write};
 use std::path::{Path, PathBuf};
@@ -15,6 +15,7 @@ pub fn run(arguments: &Arguments, out: &mut dyn Write) -> io::Result<Outcome> {
     let found = files::find(arguments.operands());
     let mut report = Report {
         quiet: arguments.has("quiet"),
+        strict: arguments.has("strict"),
         colours: Colours::of_stdout(),
         progress: Progress::new(found.files.len()),
         totals: Totals::default(),
@@ -95,8 +96,12 @@ struct Findings {
     values: usize,
     code_objects: usize,
     instructions: usize,
-    /// Instructions of whole tables that an entry says to have no place.
-    without_place: usize,
+    /// Instructions whose row no complete entry gives.
+    not_sure: usize,
+    /// Of each code object that has such, a line: how many, why, and the last row placed.
+    rows: Vec<String>,
+    /// Code objects that end in instructions without a line: a fault only where it is asked for.
+    no_place: Problems,
     refused: Problems,
     not_whole: Problems,
     name_order: Problems,
@@ -142,12 +147,27 @@ impl Findings {
 
     fn add_lines(&mut self, start: usize, code: &Code, records: &mut Records) {
         match code.lines(records) {
-            Ok(Lines::Whole(_)) => self.without_place += code.without_place(),
-            Ok(Lines::NotWhole(locations)) => self.not_whole.add(|| not_whole(code, locations)),
+            Ok(lines) => {
+                let locations = lines.whole_or_not();
+                if lines.whole().is_none() {
+                    self.not_whole.add(|| not_whole(code, locations));
+                }
+                self.add_sources(code, locations);
+            }
             Err(refused) => self.refused.add(|| {
                 let last = last_row(code, code.lines_before(&refused, records));
                 format!("line table of {}: {}{last}", named(code), refused.after(start))
             }),
+        }
+    }
+
+    fn add_sources(&mut self, code: &Code, locations: Locations) {
+        self.not_sure += locations.not_sure();
+        if locations.not_sure() > 0 {
+            self.rows.push(rows(code, locations));
+        }
+        if locations.without_line_at_the_end() > 0 {
+            self.no_place.add(|| no_place(code, locations));
         }
     }
 
@@ -164,32 +184,34 @@ impl Findings {
         self.refused.add(|| format!("{refused}{left}"));
     }
 
-    fn verdict(&self) -> Verdict {
-        match (self.refused.count, self.not_whole.count) {
-            (0, 0) => Verdict::Accepted,
-            (0, _) => Verdict::NotWhole,
+    fn verdict(&self, strict: bool) -> Verdict {
+        match (self.refused.count, self.not_whole.count, self.no_place.count) {
+            (0, 0, 1..) if strict => Verdict::NoPlace,
+            (0, 0, _) => Verdict::Accepted,
+            (0, ..) => Verdict::NotWhole,
             _ => Verdict::Refused,
         }
     }
 
     /// The worst first.
-    fn told(&self) -> String {
+    fn told(&self, strict: bool) -> String {
         let holds = format!(
             "{}, {}, {}",
             text::count(self.values, "value"),
             text::count(self.code_objects, "code object"),
             text::count(self.instructions, "instruction")
         );
-        let without = match self.without_place {
+        let not_sure = match self.not_sure {
             0 => String::new(),
-            without => format!(", {without} of them without a place"),
+            not_sure => format!(", {not_sure} of them without a sure row"),
         };
-        let accepted = (self.verdict() == Verdict::Accepted).then(|| format!("{holds}{without}"));
+        let accepted = (self.verdict(strict) == Verdict::Accepted).then(|| format!("{holds}{not_sure}"));
+        let no_place = self.no_place.told().filter(|_| strict);
         let not_whole =
             self.not_whole.told().map(|told| if self.refused.count > 0 { format!("NOT WHOLE: {told}") } else { told });
         let name_order = self.name_order.told();
-        let told: Vec<String> = [self.refused.told(), not_whole, accepted, name_order].into_iter().flatten().collect();
-        told.join("; ")
+        let told = [self.refused.told(), not_whole, no_place, accepted, name_order];
+        told.into_iter().flatten().collect::<Vec<_>>().join("; ")
     }
 }
 
@@ -212,10 +234,34 @@ fn not_whole(code: &Code, locations: Locations) -> String {
 fn last_row(code: &Code, before: Option<Locations>) -> String {
     let Some(before) = before else { return String::new() };
     let placed = format!("{} of {}", before.from_entries(), text::count(code.instructions(), "instruction"));
-    match before.last_from_entry() {
-        Some(Location { line, .. }) => format!("; before it {placed} are placed, the last at row {line}"),
-        None => "; before it no instruction is placed".to_string(),
+    match (before.from_entries(), before.last_row()) {
+        (0, _) => "; before it no instruction is placed".to_string(),
+        (_, Some(row)) => format!("; before it {placed} are placed, the last at row {row}"),
+        (_, None) => format!("; before it {placed} are placed, none at a row that is sure"),
     }
+}
+
+/// How many instructions have no sure row, why, and the last row placed.
+fn rows(code: &Code, locations: Locations) -> String {
+    let (left_over, no_place) = (locations.len() - locations.from_entries(), locations.without_place());
+    let cut = locations.iter().filter(|located| located.source().is_cut()).count();
+    let below = locations.not_sure() - left_over - no_place - cut;
+    let reasons = [(left_over, "left over"), (no_place, "no place"), (cut, "of a cut entry"), (below, "below line 1")];
+    let reasons: Vec<String> =
+        reasons.iter().filter(|(count, _)| *count > 0).map(|(count, reason)| format!("{count} {reason}")).collect();
+    let all = text::count(locations.len(), "instruction");
+    let last = last_placed(locations);
+    format!("{}: {} of {all} without a sure row ({}); {last}", named(code), locations.not_sure(), reasons.join(", "))
+}
+
+fn last_placed(locations: Locations) -> String {
+    locations.last_row().map_or("no row is placed".to_string(), |row| format!("the last row placed is {row}"))
+}
+
+/// How a code object ends without a line, and the last row it has.
+fn no_place(code: &Code, locations: Locations) -> String {
+    let (tail, all) = (locations.without_line_at_the_end(), text::count(locations.len(), "instruction"));
+    format!("{}: its last {tail} of {all} have no line; {}", named(code), last_placed(locations))
 }
 
 fn out_of_order(code: &Code, at: usize) -> String {
@@ -226,6 +272,7 @@ fn out_of_order(code: &Code, at: usize) -> String {
 #[derive(Clone, Copy, Debug, PartialEq, Eq)]
 enum Verdict {
     Accepted,
+    NoPlace,
     NotWhole,
     Refused,
 }
@@ -234,6 +281,7 @@ impl Verdict {
     fn shown(self, colours: Colours) -> String {
         match self {
             Verdict::Accepted => colours.paint(Colour::Green, "accepted "),
+            Verdict::NoPlace => colours.paint(Colour::Yellow, "NO PLACE "),
             Verdict::NotWhole => colours.paint(Colour::Yellow, "NOT WHOLE"),
             Verdict::Refused => colours.paint(Colour::Red, "refused  "),
         }
@@ -243,6 +291,7 @@ impl Verdict {
 /// Writes the lines and keeps the totals.
 struct Report {
     quiet: bool,
+    strict: bool,
     colours: Colours,
     progress: Progress,
     totals: Totals,
@@ -257,11 +306,20 @@ impl Report {
                 self.totals.unreadable += 1;
             }
             Ok(findings) => {
-                let verdict = findings.verdict();
+                let verdict = findings.verdict(self.strict);
                 self.totals.add(verdict);
                 if verdict != Verdict::Accepted || !self.quiet || findings.name_order.count > 0 {
                     self.progress.make_way();
-                    writeln!(out, "{}  {}: {}", verdict.shown(self.colours), text::path(path), findings.told())?;
+                    writeln!(
+                        out,
+                        "{}  {}: {}",
+                        verdict.shown(self.colours),
+                        text::path(path),
+                        findings.told(self.strict)
+                    )?;
+                    for row in &findings.rows {
+                        writeln!(out, "           {row}")?;
+                    }
                     out.flush()?;
                 }
             }
@@ -274,6 +332,7 @@ impl Report {
 #[derive(Debug, Default)]
 struct Totals {
     accepted: usize,
+    no_place: usize,
     not_whole: usize,
     refused: usize,
     unreadable: usize,
@@ -281,19 +340,20 @@ struct Totals {
 
 impl Totals {
     fn files(&self) -> usize {
-        self.accepted + self.not_whole + self.refused + self.unreadable
+        self.accepted + self.no_place + self.not_whole + self.refused + self.unreadable
     }
 
     fn add(&mut self, verdict: Verdict) {
         match verdict {
             Verdict::Accepted => self.accepted += 1,
+            Verdict::NoPlace => self.no_place += 1,
             Verdict::NotWhole => self.not_whole += 1,
             Verdict::Refused => self.refused += 1,
         }
     }
 
     fn outcome(&self) -> Outcome {
-        match (self.unreadable, self.not_whole + self.refused) {
+        match (self.unreadable, self.no_place + self.not_whole + self.refused) {
             (0, 0) => Outcome::Good,
             (0, _) => Outcome::Bad,
             _ => Outcome::Trouble,
@@ -303,9 +363,12 @@ impl Totals {
 
 impl std::fmt::Display for Totals {
     fn fmt(&self, f: &mut std::fmt::Formatter) -> std::fmt::Result {
-        let Self { accepted, not_whole, refused, unreadable } = self;
+        let Self { accepted, no_place, not_whole, refused, unreadable } = self;
         let files = text::count(self.files(), "file");
         write!(f, "{files}: {accepted} accepted, {not_whole} not whole, {refused} refused")?;
+        if *no_place > 0 {
+            write!(f, ", {no_place} without a place at the end")?;
+        }
         if *unreadable > 0 { write!(f, ", {unreadable} unreadable") } else { Ok(()) }
     }
 }

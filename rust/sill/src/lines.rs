@@ -2,7 +2,7 @@
 use crate::options::Arguments;
 use crate::terminal::{Colour, Colours};
 use crate::{Outcome, files, text};
-use sillgarland::{Code, Handler, Lines, Located, Locations, Reader, Records};
+use sillgarland::{Code, Handler, Lines, Located, Location, Locations, Reader, Records};
 use std::io::{self, Write};
 use std::path::Path;
 
@@ -69,11 +69,14 @@ fn show_handlers(out: &mut dyn Write, start: usize, code: &Code, locations: Opti
     }
 }
 
-/// The rows that the guarded instructions come from, as far as entries of the line table placed them.
+/// The rows that the guarded instructions come from, as far as they are sure.
 fn rows(handler: &Handler, locations: Locations) -> String {
-    let guarded = handler.guarded(locations.from_entries());
-    let lines = || locations.iter().skip(guarded.start).take(guarded.len()).map(|at| at.location());
-    match (lines().map(|at| at.line).min(), lines().map(|at| at.end_line).max()) {
+    let guarded = handler.guarded(locations.len());
+    let sure = || {
+        let guarded = locations.iter().skip(guarded.start).take(guarded.len());
+        guarded.filter(|located| located.source().is_sure()).map(Located::location)
+    };
+    match (sure().map(|at| at.line).min(), sure().map(|at| at.end_line).max()) {
         (Some(first), Some(last)) if first == last => format!(", row {first}"),
         (Some(first), Some(last)) => format!(", rows {first} to {last}"),
         _ => ", no row known".to_string(),
@@ -81,16 +84,55 @@ fn rows(handler: &Handler, locations: Locations) -> String {
 }
 
 fn show_locations(out: &mut dyn Write, code: &Code, locations: Locations) -> io::Result<()> {
-    let mark = Colours::of_stdout().paint(Colour::Yellow, "! not from the table");
+    let colours = Colours::of_stdout();
     let units = code.code().as_chunks().0;
+    let below = locations.iter().any(|located| why_not_sure(located) == Some(Why::BelowOne));
+    let stored = if below { code.stored_lines(&mut Records::default()) } else { None };
     for (at, (located, [opcode, argument])) in locations.iter().zip(units).enumerate() {
-        let shown = located.location();
-        write!(out, "{at:>8}  {opcode:02x} {argument:02x}  {}:{}", shown.line, shown.column)?;
-        write!(out, " to {}:{}", shown.end_line, shown.end_column)?;
-        match located {
-            Located::FromEntry(_) => writeln!(out)?,
-            Located::LeftOver(_) => writeln!(out, "  {mark}")?,
+        let Location { line, column, end_line, end_column } = located.location();
+        let place = format!("{line}:{column} to {end_line}:{end_column}");
+        write!(out, "{at:>8}  {opcode:02x} {argument:02x}  ")?;
+        match why_not_sure(located) {
+            None => writeln!(out, "{place}")?,
+            Some(why) => {
+                let stored = stored.as_ref().and_then(|stored| stored.get(at));
+                let mark = colours.paint(Colour::Yellow, &format!("! {}", why.told(stored)));
+                writeln!(out, "-  {mark}; document 01 shows {place}")?
+            }
         }
     }
     Ok(())
+}
+
+/// Why the row that is shown is not one that an entry gave.
+#[derive(Clone, Copy, PartialEq, Eq)]
+enum Why {
+    LeftOver,
+    CutEntry,
+    NoPlace,
+    BelowOne,
+}
+
+fn why_not_sure(located: Located) -> Option<Why> {
+    match located.source() {
+        source if source.is_sure() => None,
+        source if !source.is_from_entry() => Some(Why::LeftOver),
+        source if source.is_cut() => Some(Why::CutEntry),
+        source if !source.has_line() => Some(Why::NoPlace),
+        _ => Some(Why::BelowOne),
+    }
+}
+
+impl Why {
+    /// In words; of a line below 1 the line, where it is known.
+    fn told(self, stored: Option<&(i64, i64)>) -> String {
+        match (self, stored) {
+            (Why::LeftOver, _) => "left over".to_string(),
+            (Why::CutEntry, _) => "cut entry".to_string(),
+            (Why::NoPlace, _) => "no place".to_string(),
+            (Why::BelowOne, Some((line, _))) if *line < 1 => format!("line {line} shown as 1"),
+            (Why::BelowOne, Some((_, end))) => format!("end line {end} shown as 1"),
+            (Why::BelowOne, None) => "line below 1 shown as 1".to_string(),
+        }
+    }
 }

@@ -205,10 +205,9 @@ fn hold_lines(code: &Code, told: Option<&mut Told>, records: &mut Records) -> Re
     match (whole, told.is_some(), salvaged) {
         (Some(locations), true, Some(salvaged)) => {
             let placed = locations.len() - salvaged.covered;
-            let last = placed.checked_sub(1).and_then(|last| locations.iter().nth(last));
             let first_without = (salvaged.covered > 0).then_some(placed);
             if let Some(told) = told {
-                (told.first_without, told.last_row) = (first_without, last.map(|located| located.location().line));
+                (told.first_without, told.last_row) = (first_without, locations.last_row());
             }
             Ok(())
         }

@@ -120,7 +120,7 @@ mod checking {
     #[test]
     fn quiet_leaves_out_what_is_accepted() {
         let (status, shown, _) = ended(&["check", "--quiet", "goldens"]);
-        assert_eq!((status, shown.lines().count()), (1, 3));
+        assert_eq!((status, shown.lines().count()), (1, 4));
         assert!(!shown.contains("accepted   "), "{shown}");
     }
 
@@ -258,7 +258,79 @@ mod showing {
         assert_eq!((status, lines.len()), (1, 46));
         assert!(lines[0].ends_with("45 instructions, NOT WHOLE: the line table places 33 of them"), "{}", lines[0]);
         assert_eq!(lines[33], "      32  5a 05  57:1 to 57:4");
-        assert_eq!(lines[34], "      33  65 05  1:1 to 1:1  ! not from the table");
+        assert_eq!(lines[34], "      33  65 05  -  ! left over; document 01 shows 1:1 to 1:1");
+    }
+
+    #[test]
+    fn a_row_that_no_entry_gave_is_not_shown_as_one() {
+        let folder = folder("rows");
+        for (name, table, shown) in [
+            ("filled", &[0xE8, 0x02, 0xF8][..], "no place; document 01 shows 11:1 to 11:1"),
+            ("damaged", &[0xE8, 0x02, 0xE8, 0x1D], "line -3 shown as 1; document 01 shows 1:1 to 1:1"),
+            ("zero", &[0xE8, 0x02, 0xE8, 0x17], "line 0 shown as 1; document 01 shows 1:1 to 1:1"),
+            ("cut", &[0xE8, 0x02, 0xE8], "cut entry; document 01 shows 11:1 to 11:1"),
+            ("left", &[0xE8, 0x02], "left over; document 01 shows 10:1 to 10:1"),
+        ] {
+            let path = file(&folder, name, &code(2, 10, table));
+            let (_, told, _) = ended(&["lines", &path]);
+            assert_eq!(told.lines().nth(1), Some("       0  09 00  11:1 to 11:1"), "{name}");
+            assert_eq!(told.lines().nth(2), Some(&format!("       1  09 00  -  ! {shown}")[..]), "{name}");
+        }
+    }
+
+    /// An end line below 1 behind a line that is not; and lines so far apart that no first line shows them all.
+    #[test]
+    fn lines_below_one() {
+        let folder = folder("below-one");
+        let end = [0xF0, 0x02, 0x7D, 0x7F, 0x7F, 0x7F, 0x7F, 0x03, 0x01, 0x01];
+        let path = file(&folder, "end", &code(1, 1, &end));
+        let told = ended(&["lines", &path]).1;
+        assert!(told.ends_with("-  ! end line -1 shown as 1; document 01 shows 2:1 to 1:1\n"), "{told}");
+        let most = [0xE8, 0x7E, 0x7F, 0x7F, 0x7F, 0x7F, 0x03];
+        let path = file(&folder, "apart", &code(3, i32::MIN, &[&[0xE8, 0x00][..], &most, &most].concat()));
+        let told = ended(&["lines", &path]).1;
+        assert!(
+            told.contains("       0  09 00  -  ! line below 1 shown as 1; document 01 shows 1:1 to 1:1\n"),
+            "{told}"
+        );
+        assert!(told.ends_with("       2  09 00  2147483646:1 to 2147483646:1\n"), "{told}");
+    }
+
+    #[test]
+    fn a_table_filled_up_is_a_fault_where_it_is_asked_for() {
+        let path = file(&folder("strict"), "filled", &code(3, 10, &[0xE8, 0x02, 0xF9]));
+        let rows = "           code object total: 2 of 3 instructions without a sure row (2 no place); the last row placed is 11\n";
+        let held = "1 value, 1 code object, 3 instructions, 2 of them without a sure row";
+        let accepted = format!("accepted   {path}: {held}\n{rows}1 file: 1 accepted, 0 not whole, 0 refused\n");
+        assert_eq!(ended(&["check", &path]), (0, accepted, String::new()));
+        let fault = "code object total: its last 2 of 3 instructions have no line; the last row placed is 11";
+        let totals = "1 file: 0 accepted, 0 not whole, 0 refused, 1 without a place at the end\n";
+        let strict = format!("NO PLACE   {path}: {fault}\n{rows}{totals}");
+        assert_eq!(ended(&["check", "--strict", &path]), (1, strict.clone(), String::new()));
+        assert_eq!(ended(&["check", "--strict", "--quiet", &path]).1, strict);
+        let path = file(&folder("strict"), "left", &code(3, 10, &[0xE8, 0x02]));
+        assert!(ended(&["check", "--strict", &path]).1.starts_with("NOT WHOLE "));
+        let path = file(&folder("strict"), "placed", &code(3, 10, &[0xF9, 0xE8, 0x02]));
+        let (status, told, _) = ended(&["check", "--strict", &path]);
+        assert!(status == 0 && told.contains(" (2 no place); the last row placed is 11\n"), "{told}");
+    }
+
+    /// JSON has the counts of every code object: those of the line table, and the last row.
+    #[test]
+    fn counts_of_rows_in_json() {
+        let folder = folder("counts");
+        let path = file(&folder, "counts", &code(5, 10, &[0xE8, 0x02, 0xD8, 0x05, 0x07, 0xE8, 0x1D, 0xF8]));
+        let told = ended(&["show", "--json", &path]).1;
+        let counts = "\"lines\":{\"whole\":false,\"instructions\":5,\"from_entries\":4,\"with_line\":3,\"with_columns\":1,\
+                      \"sure\":2,\"last_row\":12,\"without_line_at_the_end\":2}";
+        assert!(told.contains(counts), "{told}");
+        let path = file(&folder, "none", &code(1, 10, &[0xF8]));
+        assert!(
+            ended(&["show", "--json", &path]).1.contains("\"sure\":0,\"last_row\":null,\"without_line_at_the_end\":1}")
+        );
+        let path = file(&folder, "refused", &code(1, 10, &[0xE8, 0x7F, 0x7F, 0x7F, 0x7F, 0x7F, 0x3F]));
+        let told = ended(&["show", "--json", &path]).1;
+        assert!(told.contains("\"lines\":null,\"lines_refused\":{\"number\":18,"), "{told}");
     }
 
     #[test]
@@ -266,10 +338,11 @@ mod showing {
         let (status, shown, _) = ended(&["lines", "goldens/rates.golden"]);
         assert_eq!(status, 0);
         assert!(shown.contains("      40  7a 0b  212:8 to 212:17\n"), "{shown}");
-        assert!(!shown.contains('!'), "{shown}");
+        let marked: Vec<&str> = shown.lines().filter(|line| line.contains('!')).collect();
+        assert_eq!(marked, ["       0  97 00  -  ! line 0 shown as 1; document 01 shows 1:1 to 1:1"]);
     }
 
-    /// The entry guards instructions 0 to 2, of which two come from row 11 and one from no place at the same row.
+    /// The first guards instructions 0 to 2, of which two come from row 11 and one has no place; the other one that has none.
     #[test]
     fn handlers_and_their_rows() {
         let golden = guarded(&[0x80, 0x03, 0x06, 0x03, 0x87, 0x01, 0x06, 0x04]);
@@ -278,7 +351,7 @@ mod showing {
         let lines: Vec<&str> = shown.lines().collect();
         assert_eq!((status, lines.len()), (0, 11), "{shown}");
         let first = "handler at instruction 6 for instructions 0 to 2, depth 1, the last instruction pushed, row 11";
-        assert_eq!(lines[9..], [first, "handler at instruction 6 for instruction 7, depth 2, row 11"]);
+        assert_eq!(lines[9..], [first, "handler at instruction 6 for instruction 7, depth 2, no row known"]);
         let (status, shown, _) = ended(&["show", "--depth", "0", &path]);
         assert_eq!(status, 0);
         assert!(shown.contains("; handler at instruction 6 for instruction 7, depth 2 …\n"), "{shown}");
@@ -529,7 +602,10 @@ mod repairing {
         assert!(shown.contains("1 code object mended, 0 left as they are\n"), "{shown}");
         let (status, checked, _) = ended(&["check", out]);
         assert_eq!(status, 0, "{checked}");
-        assert!(checked.contains(" of them without a place\n"), "{checked}");
+        assert!(checked.contains(" without a sure row ("), "{checked}");
+        assert!(checked.contains("12 no place"), "{checked}");
+        assert!(checked.contains("); the last row placed is 57\n"), "{checked}");
+        assert_eq!(ended(&["check", "--strict", out]).0, 1);
         let (status, shown, _) = ended(&["repair", "--dry-run", out]);
         assert_eq!(
             (status, shown.as_str()),

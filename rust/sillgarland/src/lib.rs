@@ -47,7 +47,7 @@ pub use code::{Code, NUMBERS, PARTS};
 pub use golden::Golden;
 pub use handlers::{Handler, exception_table, handlers};
 pub use join::{Block, Joined, LineAfter, join, line_after};
-pub use lines::{Lines, Located, Location, Locations, Records};
+pub use lines::{Counts, Lines, Located, Location, Locations, Records, Source};
 pub use reader::Reader;
 pub use refusal::{Place, Refusal, Refused};
 pub use salvage::{Salvaged, salvage};

@@ -53,42 +53,11 @@ impl Code<'_> {
     pub fn salvaged(&self) -> Result<Salvaged, Refused> {
         salvage(self.line_table().bytes(), self.first_line(), self.instructions() as u32)
     }
-
-    /// How many of its instructions an entry of its line table says to have no place, up to a stop or a cut. A repair makes
-    /// such entries; compilers do too.
-    pub fn without_place(&self) -> usize {
-        let (table, count) = (self.line_table().bytes(), self.instructions());
-        let (mut at, mut left, mut without) = (0, count, 0);
-        while let Some(head) = table.get(at).filter(|head| left > 0 && **head >= 0x80) {
-            let (code, instructions) = (head >> 3 & 15, (usize::from(head & 7) + 1).min(left));
-            at = end_of_entry(table, at + 1, code);
-            left -= instructions;
-            without += if code == 15 { instructions } else { 0 };
-        }
-        without
-    }
-}
-
-/// Where an entry of this code ends whose other bytes begin at a place.
-fn end_of_entry(table: &[u8], at: usize, code: u8) -> usize {
-    let numbers = match code {
-        0..=9 => return at + 1,
-        10..=12 => return at + 2,
-        13 => 1,
-        14 => 4,
-        _ => 0,
-    };
-    (0..numbers).fold(at, |at, _| {
-        let more = table.get(at..).unwrap_or_default().iter().take_while(|byte| **byte & 0x40 != 0).count();
-        at + more + 1
-    })
 }
 
 #[cfg(test)]
 mod tests {
     use super::*;
-    use crate::Reader;
-    use crate::code::tests::put_code;
 
     fn list(table: &[u8], first_line: i32, count: u32) -> (Vec<u8>, usize, usize, bool, usize) {
         let Salvaged { table, kept, dropped, shortened, covered } = salvage(table, first_line, count).unwrap();
@@ -117,16 +86,5 @@ mod tests {
     fn too_many_instructions_are_refused() {
         let refused = salvage(&[], 1, u32::MAX).unwrap_err();
         assert_eq!(refused, Refused { refusal: Refusal::InputTooLong, place: Place::Byte(0) });
-    }
-
-    #[test]
-    fn instructions_without_a_place() {
-        let table = [0xE9, 0x02, 0xFA, 0xF0, 0x40, 0x01, 0x00, 0x00, 0x00, 0xF9];
-        for (instructions, without) in [(8, 5), (7, 4), (2, 0), (0, 0), (20, 5)] {
-            let input = put_code(instructions, &[], &[], 10, &table);
-            let mut reader = Reader::new();
-            let code = reader.read(&input).unwrap().root().as_code().unwrap();
-            assert_eq!(code.without_place(), without, "{instructions}");
-        }
     }
 }

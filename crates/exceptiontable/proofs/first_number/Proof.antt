@@ -1,59 +1,27 @@
--- `exceptiontable::first_number` meets its contract: each case of the varint's answer.
+-- `exceptiontable::first_number` meets its contract: a number of one byte by itself, and any other as it is read there.
 -- Assumes nothing.
-use mathlib.Core.Path.{sym, _∙_}
-use native.Mathlib.Omega.{arith}
 use borrow.Author.Needs.{needs}
-use Rattle.exceptiontable.specs.Reading.{firstNumber}
-use Rattle.exceptiontable.proofs.Places.{start-place}
+use Rattle.exceptiontable.proofs.OneByte.{first-one-byte}
 use Rattle.exceptiontable.proofs.first_number.Statement.{statement}
 use Rattle.exceptiontable.proofs.first_number.Tie as tie
 
-read-varint-with-start-requires : tie.Need-read-varint-with-start-requires
-read-varint-with-start-requires c κs = search needs
-
-enum-known-value : tie.Need-enum-known-value
-enum-known-value c = search needs
-
-enum-told : tie.Need-enum-told
-enum-told c = search needs
-
-cast-t9 : tie.Need-cast-t9
-cast-t9 c = search needs
-
-enum-known-number : tie.Need-enum-known-number
-enum-known-number c = search needs
+shared-slice-read-byte : tie.Need-shared-slice-read-byte
+shared-slice-read-byte c = search needs
 
 cast-t10 : tie.Need-cast-t10
-cast-t10 c = record { fits = omega (arith, start-place _ _ (sym (c .before .before .before .read-varint-with-start .ensures) ∙ c .before .number .given .1)) }
+cast-t10 c = search needs
+
+add-t11 : tie.Need-add-t11
+add-t11 c = search needs
 
 returns : tie.Need-returns
-unfolding firstNumber
-returns c =
-    let read = c .before .before .before .read-varint-with-start in
-    rw (← read .ensures, c .before .value .given .1)
+returns c = first-one-byte _ _ (c .before .before .if1 .taken) (c .if2 .taken)
+
+any-first-number-requires : tie.Need-any-first-number-requires
+any-first-number-requires c κs = search needs
 
 returns-2 : tie.Need-returns-2
-unfolding firstNumber
-returns-2 c =
-    let read = c .before .before .read-varint-with-start in
-    rw (← read .ensures, c .enum-told .given .1)
-
-returns-3 : tie.Need-returns-3
-unfolding firstNumber
-returns-3 c =
-    let read = c .before .before .before .read-varint-with-start in
-    rw (← read .ensures, c .before .number .given .1)
+returns-2 c = search needs
 
 pub first-number-spec : {M : Type 1} → statement M
-first-number-spec =
-    tie.close
-    (tie.spec
-    read-varint-with-start-requires
-    enum-known-value
-    enum-told
-    cast-t9
-    enum-known-number
-    cast-t10
-    returns
-    returns-2
-    returns-3)
+first-number-spec = tie.close (tie.spec shared-slice-read-byte cast-t10 add-t11 returns any-first-number-requires returns-2)

@@ -1,59 +1,27 @@
--- `exceptiontable::later_number` meets its contract: each case of the varint's answer.
+-- `exceptiontable::later_number` meets its contract: a number of one byte by itself, and any other as it is read there.
 -- Assumes nothing.
-use mathlib.Core.Path.{sym, _∙_}
-use native.Mathlib.Omega.{arith}
 use borrow.Author.Needs.{needs}
-use Rattle.exceptiontable.specs.Reading.{laterNumber}
-use Rattle.exceptiontable.proofs.Places.{later-place}
+use Rattle.exceptiontable.proofs.OneByte.{later-one-byte}
 use Rattle.exceptiontable.proofs.later_number.Statement.{statement}
 use Rattle.exceptiontable.proofs.later_number.Tie as tie
 
-read-varint-requires : tie.Need-read-varint-requires
-read-varint-requires c κs = search needs
-
-enum-known-value : tie.Need-enum-known-value
-enum-known-value c = search needs
-
-enum-told : tie.Need-enum-told
-enum-told c = search needs
-
-cast-t10 : tie.Need-cast-t10
-cast-t10 c = search needs
-
-enum-known-number : tie.Need-enum-known-number
-enum-known-number c = search needs
+shared-slice-read-byte : tie.Need-shared-slice-read-byte
+shared-slice-read-byte c = search needs
 
 cast-t11 : tie.Need-cast-t11
-cast-t11 c = record { fits = omega (arith, later-place _ _ (sym (c .before .before .before .read-varint .ensures) ∙ c .before .number .given .1)) }
+cast-t11 c = search needs
+
+add-t12 : tie.Need-add-t12
+add-t12 c = search needs
 
 returns : tie.Need-returns
-unfolding laterNumber
-returns c =
-    let read = c .before .before .before .read-varint in
-    rw (← read .ensures, c .before .value .given .1)
+returns c = later-one-byte _ _ (c .before .before .if1 .taken) (c .if2 .taken)
+
+any-later-number-requires : tie.Need-any-later-number-requires
+any-later-number-requires c κs = search needs
 
 returns-2 : tie.Need-returns-2
-unfolding laterNumber
-returns-2 c =
-    let read = c .before .before .read-varint in
-    rw (← read .ensures, c .enum-told .given .1)
-
-returns-3 : tie.Need-returns-3
-unfolding laterNumber
-returns-3 c =
-    let read = c .before .before .before .read-varint in
-    rw (← read .ensures, c .before .number .given .1)
+returns-2 c = search needs
 
 pub later-number-spec : {M : Type 1} → statement M
-later-number-spec =
-    tie.close
-    (tie.spec
-    read-varint-requires
-    enum-known-value
-    enum-told
-    cast-t10
-    enum-known-number
-    cast-t11
-    returns
-    returns-2
-    returns-3)
+later-number-spec = tie.close (tie.spec shared-slice-read-byte cast-t11 add-t12 returns any-later-number-requires returns-2)

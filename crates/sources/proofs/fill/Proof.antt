@@ -14,13 +14,16 @@ use Rattle.sources.proofs.fill.Lts as lts
 
 abbrev Inv-loop : tie.InvT-loop
 Inv-loop bytes₀ from n byte j₀ left₀ bytes j left =
-    (length bytes ≡ length bytes₀) × (j + left ≤ length bytes₀) × (sets bytes₀ from (replicate n byte) ≡ sets bytes j (replicate left byte))
+    (length bytes ≡ length bytes₀) × (j + left ≤ length bytes₀) × (left ≤ 8) × (sets bytes₀ from (replicate n byte) ≡ sets bytes j (replicate left byte))
 
 abbrev μ-loop : tie.MeasureT-loop
 μ-loop bytes₀ from n byte j₀ left₀ bytes j left = left
 
 loop-holds : tie.Need-loop-holds Inv-loop μ-loop
 loop-holds c = search needs
+
+one-of-eight-requires : tie.Need-one-of-eight-requires Inv-loop μ-loop
+one-of-eight-requires c κs = search needs
 
 slice-write-bytes : tie.Need-slice-write-bytes Inv-loop μ-loop
 slice-write-bytes c = search needs
@@ -36,8 +39,8 @@ loop-less c = search needs
 
 loop-again : tie.Need-loop-again Inv-loop μ-loop
 loop-again c =
-    let l = c .before .loop in
-    (simp length-set (l .inv .0), omega arith, l .inv .2 ∙ fill-turn _ _ _ _ (c .loop-test .taken))
+    let l = c .before .before .loop in
+    (simp length-set (l .inv .0), omega arith, omega arith, rw (c .one-of-eight .ensures) (l .inv .3 ∙ fill-turn _ _ _ _ (c .before .loop-test .taken)))
 
 same-length : tie.Need-same-length Inv-loop μ-loop
 same-length c = search needs
@@ -45,7 +48,7 @@ same-length c = search needs
 returns : tie.Need-returns Inv-loop μ-loop
 returns c =
     let l = c .before .loop in
-    sym (l .inv .2 ∙ fill-done (l .bytes) (l .j) (l .left) _ (omega arith))
+    sym (l .inv .3 ∙ fill-done (l .bytes) (l .j) (l .left) _ (omega arith))
 
 pub fill-spec : {M : Type 1} → statement M
 fill-spec =
@@ -54,6 +57,7 @@ fill-spec =
     Inv-loop
     μ-loop
     loop-holds
+    one-of-eight-requires
     slice-write-bytes
     add-j
     sub-left

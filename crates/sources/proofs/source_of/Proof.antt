@@ -26,7 +26,9 @@ unfolding sourceOf
 returns c = rw (← c .before .before .before .lt-byte .ensures, c .before .if1 .taken) (c .sum-of .ensures)
 
 long-source-requires : tie.Need-long-source-requires
-long-source-requires c κs = search needs
+long-source-requires c κs =
+    let first = c .before .before .before .lt-byte .ensures in
+    rw first (c .before .before .before .before .before .pre (rw (← first) (c .if2 .taken)))
 
 returns-2 : tie.Need-returns-2
 unfolding sourceOf longSource

@@ -6,6 +6,8 @@ use native.Mathlib.Omega.{arith}
 use lib.ListN.{length}
 use Rattle.lineentry.proofs.Entries.{entry-places, refused-inside}
 use Rattle.sources.specs.Marks.{marks}
+use Rattle.salvage.proofs.Salvages.{entry-most}
+use Rattle.sources.proofs.Long.{entry-long}
 use Rattle.sources.proofs.Going.{Going, going-start, at-length, ends-stop, ends-refused, ends-all, goes-on}
 use borrow.Author.Needs.{needs}
 use Rattle.sources.proofs.walk_marks.Statement.{statement}
@@ -72,7 +74,7 @@ enum-known-span : tie.Need-enum-known-span Inv-loop μ-loop
 enum-known-span c = search needs
 
 source-of-requires : tie.Need-source-of-requires Inv-loop μ-loop
-source-of-requires c κs = search needs
+source-of-requires c κs = entry-long _ _ _ _ (sym (c .before .before .before .before .read-entry .ensures) ∙ c .before .before .span .given .1)
 
 sub-smaller : tie.Need-sub-smaller Inv-loop μ-loop
 sub-smaller c = search needs
@@ -81,22 +83,24 @@ smaller-requires : tie.Need-smaller-requires Inv-loop μ-loop
 smaller-requires c κs = search needs
 
 fill-requires : tie.Need-fill-requires Inv-loop μ-loop
-fill-requires c κs = search needs
+fill-requires c κs =
+    let most = entry-most _ _ _ _ (sym (c .before .before .before .before .before .before .before .read-entry .ensures) ∙ c .before .before .before .before .before .span .given .1) in
+    (search needs, omega (arith, most, c .before .smaller .ensures .0))
 
 cast-count-more : tie.Need-cast-count-more Inv-loop μ-loop
-cast-count-more c = omega (arith, c .before .before .before .before .smaller .ensures .1, c .before .before .before .before .before .before .before .before .before .before .before .before .before .before .before .before .before .before .before .fits .count)
+cast-count-more c = omega (arith, c .before .before .before .before .smaller .ensures .1, c .before .before .before .before .before .before .before .before .before .before .before .before .before .before .before .before .before .before .before .before .fits .count)
 
 count-more-requires : tie.Need-count-more-requires Inv-loop μ-loop
-count-more-requires c κs = (omega (arith, c .before .before .before .before .smaller .ensures .1, c .before .before .before .before .before .before .before .before .before .before .before .loop .inv .upto, c .before .before .before .before .before .before .before .before .before .before .before .before .before .before .before .before .before .before .before .fits .count), c .before .before .before .before .before .before .before .before .before .before .before .loop .inv .few-entries, c .before .before .before .before .before .before .before .before .before .before .before .loop .inv .few-lines, c .before .before .before .before .before .before .before .before .before .before .before .loop .inv .few-columns, c .before .before .before .before .before .before .before .before .before .before .before .loop .inv .few-sure)
+count-more-requires c κs = (omega (arith, c .before .before .before .before .smaller .ensures .1, c .before .before .before .before .before .before .before .before .before .before .before .before .loop .inv .upto, c .before .before .before .before .before .before .before .before .before .before .before .before .before .before .before .before .before .before .before .before .fits .count), c .before .before .before .before .before .before .before .before .before .before .before .before .loop .inv .few-entries, c .before .before .before .before .before .before .before .before .before .before .before .before .loop .inv .few-lines, c .before .before .before .before .before .before .before .before .before .before .before .before .loop .inv .few-columns, c .before .before .before .before .before .before .before .before .before .before .before .before .loop .inv .few-sure)
 
 add-i : tie.Need-add-i Inv-loop μ-loop
-add-i c = omega (arith, c .before .before .before .before .before .smaller .ensures .1, c .before .before .before .before .before .before .before .before .before .before .before .before .loop .inv .upto, c .before .before .before .before .before .before .before .before .before .before .before .before .before .before .before .before .before .before .before .before .fits .count)
+add-i c = omega (arith, c .before .before .before .before .before .smaller .ensures .1, c .before .before .before .before .before .before .before .before .before .before .before .before .before .loop .inv .upto, c .before .before .before .before .before .before .before .before .before .before .before .before .before .before .before .before .before .before .before .before .before .fits .count)
 
 loop-less : tie.Need-loop-less Inv-loop μ-loop
-loop-less c = let z = entry-places _ _ _ _ (sym (c .before .before .before .before .before .before .before .before .before .before .read-entry .ensures) ∙ c .before .before .before .before .before .before .before .before .span .given .1) in omega (arith, z, c .before .before .before .before .before .smaller .ensures .0)
+loop-less c = let z = entry-places _ _ _ _ (sym (c .before .before .before .before .before .before .before .before .before .before .before .read-entry .ensures) ∙ c .before .before .before .before .before .before .before .before .before .span .given .1) in omega (arith, z, c .before .before .before .before .before .smaller .ensures .0)
 
 loop-again : tie.Need-loop-again Inv-loop μ-loop
-loop-again c = goes-on (c .before .before .before .before .before .before .before .before .before .before .before .before .loop .inv) _ _ _ _ _ (omega arith) (sym (c .before .before .before .before .before .before .before .before .before .before .read-entry .ensures) ∙ c .before .before .before .before .before .before .before .before .span .given .1) (c .before .before .before .before .before .smaller .ensures .0) (c .before .before .before .before .before .before .source-of .ensures) (c .before .before .before .fill .ensures) (c .count-more .ensures)
+loop-again c = goes-on (c .before .before .before .before .before .before .before .before .before .before .before .before .before .loop .inv) _ _ _ _ _ (omega arith) (sym (c .before .before .before .before .before .before .before .before .before .before .before .read-entry .ensures) ∙ c .before .before .before .before .before .before .before .before .before .span .given .1) (c .before .before .before .before .before .smaller .ensures .0) (c .before .before .before .before .before .before .source-of .ensures) (c .before .before .before .fill .ensures) (c .count-more .ensures)
 
 answer-requires-2 : tie.Need-answer-requires-2 Inv-loop μ-loop
 answer-requires-2 c κs = search needs

@@ -1,6 +1,6 @@
 //! The tree as JSON, nothing cut but by --depth.
 use super::walk::{Entered, Met, Parted, walk};
-use sillgarland::{Code, Content, Golden, Handler, NUMBERS, Place, Refused, Text};
+use sillgarland::{Code, Content, Counts, Golden, Handler, NUMBERS, Place, Records, Refused, Text};
 use std::fmt::Write as _;
 use std::io::{self, Write};
 
@@ -76,7 +76,7 @@ fn holds(content: Content, start: usize) -> (&'static str, String) {
         Content::FrozenSet(_) => ("frozenset", String::new()),
         Content::Slice(_) => ("slice", String::new()),
         Content::Dict(_) => ("dict", String::new()),
-        Content::Code(code) => ("code", numbers(&code) + &handlers(&code, start)),
+        Content::Code(code) => ("code", numbers(&code) + &rows(&code, start) + &handlers(&code, start)),
     }
 }
 
@@ -90,6 +90,25 @@ fn numbers(code: &Code) -> String {
     let numbers = NUMBERS.iter().zip(code.numbers());
     let shown: String = numbers.map(|(name, number)| format!(",\"{}\":{number}", name.replace('-', "_"))).collect();
     format!("{shown},\"first_line\":{}", code.first_line())
+}
+
+/// How many of its instructions have what from the line table, and the last row placed; or null and the refusal.
+fn rows(code: &Code, start: usize) -> String {
+    let mut records = Records::default();
+    let lines = match code.lines(&mut records) {
+        Ok(lines) => lines,
+        Err(refused) => return format!(",\"lines\":null,\"lines_refused\":{}", refusal(&refused.after(start))),
+    };
+    let locations = lines.whole_or_not();
+    let Counts { from_entries, with_line, with_columns, sure } = locations.counts();
+    let last_row = locations.last_row().map_or("null".to_string(), |row| row.to_string());
+    format!(
+        ",\"lines\":{{\"whole\":{},\"instructions\":{},\"from_entries\":{from_entries},\"with_line\":{with_line},\
+         \"with_columns\":{with_columns},\"sure\":{sure},\"last_row\":{last_row},\"without_line_at_the_end\":{}}}",
+        lines.whole().is_some(),
+        locations.len(),
+        locations.without_line_at_the_end(),
+    )
 }
 
 /// The entries of the exception table, or null and the refusal.
