@@ -7,7 +7,7 @@
  *   run in any number of threads at once on stores of their own.
  * - A slice is a pointer and a length that counts elements. A null pointer with length 0 is an empty slice. A pointer with
  *   a length above 0 points to that many elements, aligned for their type (1 byte for uint8_t, 4 for uint32_t
- *   and sill_location_t).
+ *   and sill_location_t, 8 for uint64_t).
  * - A store lent for writing (a pointer without const) overlaps no other argument. The function may read and write all of it.
  * - refusal is 0 where the call was accepted; then place is 0, and what was written is followed by zeros to the store's end.
  *   Otherwise refusal is the number, and place the place, that document 01 gives; every other field is 0, and so is every
@@ -149,6 +149,33 @@ typedef struct {
  * sources_len. With 1 and 2 and without 16 a line or end line of 1 was not stored so. */
 sill_sourced_t sill_sources(const uint8_t *table, size_t table_len, int32_t first_line, uint32_t count, uint8_t *sources,
                             size_t sources_len);
+
+typedef struct {
+    uint32_t refusal; /* 17: fewer records than count, place is records_len / 4; then an index of too few words, place is
+                         index_len */
+    uint32_t place;
+    uint32_t starts; /* how many instructions start a row */
+} sill_indexed_t;
+
+typedef struct {
+    uint32_t refusal; /* 17: the index has too few words for the count, place is index_len; then 20, at 0: n is beyond the
+                         count, or there is no k-th start */
+    uint32_t place;
+    uint64_t value;
+} sill_start_t;
+
+/* Which instructions start a row: one bit an instruction, set where its line differs from the one before (the first is
+ * always set), and a running total every 512 bits. Records are four numbers an instruction, as sill_locate leaves them. The
+ * index is 9 * (count / 512 + 1) words: a total and eight words of bits for each 512 instructions, the count's own block
+ * included. Changing a record means building the index anew. */
+sill_indexed_t sill_index_starts(const uint32_t *records, size_t records_len, uint32_t count, uint64_t *index,
+                                 size_t index_len);
+
+/* How many starts lie before instruction n, which may be the count; and which instruction is the k-th start, k from 1. Of an
+ * index that sill_index_starts built for this count the answer is the one that counting the records gives. For any other
+ * words there is an answer too, made of them: sums keep 64 bits, and an instruction is below the count. */
+sill_start_t sill_starts_before(const uint64_t *index, size_t index_len, uint32_t count, uint32_t n);
+sill_start_t sill_start_at(const uint64_t *index, size_t index_len, uint32_t count, uint32_t k);
 
 typedef struct {
     uint32_t refusal; /* 14: the table, or the repaired one, is too long, at 0; 17: no room, place is out_len, which counts as

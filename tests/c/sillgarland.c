@@ -181,6 +181,34 @@ static void test_exceptions(void)
 
 /* ---- line tables */
 
+/* 600 instructions, three a row: bits and a total behind 512 of them; the count itself may be asked for, and no more. */
+static void test_starts(void)
+{
+    uint32_t records[2400];
+    uint64_t index[20];
+    for (uint32_t i = 0; i < 2400; i++) records[i] = i % 4 ? i : 7 + i / 12;
+    memset(index, 7, sizeof index);
+    sill_indexed_t built = sill_index_starts(records, 2400, 600, index, 20);
+    expect(built.refusal == 0 && built.place == 0 && built.starts == 200, "200 starts");
+    expect(index[0] == 0 && (index[1] & 15) == 9 && index[9] == 171 && index[18] == 0 && index[19] == 0, "bits, a total, zeros");
+    sill_start_t told = sill_starts_before(index, 18, 600, 600);
+    expect(told.refusal == 0 && told.value == 200, "before the count");
+    told = sill_starts_before(index, 18, 600, 514);
+    expect(told.refusal == 0 && told.value == 172, "in the second block");
+    told = sill_starts_before(index, 18, 600, 601);
+    expect(told.refusal == SILL_NO_SUCH_START && told.place == 0 && told.value == 0, "beyond the count");
+    told = sill_start_at(index, 18, 600, 172);
+    expect(told.refusal == 0 && told.value == 513, "the first start of the second block");
+    expect(sill_start_at(index, 18, 600, 0).refusal == SILL_NO_SUCH_START, "k counts from 1");
+    expect(sill_start_at(index, 18, 600, 201).refusal == SILL_NO_SUCH_START, "there are 200");
+    told = sill_start_at(index, 17, 600, 0);
+    expect(told.refusal == SILL_NO_ROOM && told.place == 17, "17 before 20");
+    built = sill_index_starts(records, 2399, 600, index, 20);
+    expect(built.refusal == SILL_NO_ROOM && built.place == 599 && built.starts == 0 && index[0] == 0 && index[9] == 0, "a record short");
+    built = sill_index_starts(records, 2400, 600, index, 17);
+    expect(built.refusal == SILL_NO_ROOM && built.place == 17, "a word short");
+}
+
 /* A line step, an entry without a place, one whose only byte is missing, and one left over. */
 static void test_sources(void)
 {
@@ -366,6 +394,7 @@ int main(void)
     test_salvage();
     test_join();
     test_sources();
+    test_starts();
     test_split();
     test_small_stack();
     printf("%d passed, %d failed\n", passed, failed);

@@ -98,6 +98,32 @@ static void hold_sources(const uint8_t *table, size_t len, int32_t first, uint32
     }
 }
 
+/* An index of the records' lines: each answer beside a count of its own; then the input's bytes as an index. */
+static void hold_starts(const uint8_t *data, size_t len, uint32_t count) {
+    static uint64_t index[18], any[18];
+    uint32_t *records = lend_words(&records_a, 4 * (size_t)count);
+    for (uint32_t i = 0; i < 4 * count; i++) records[i] = len ? data[(i / 4) % len] & 3 : 0;
+    sill_indexed_t built = sill_index_starts(records, 4 * (size_t)count, count, index, 18);
+    uint32_t starts = 0;
+    for (uint32_t i = 0; i <= count; i++) {
+        hold(sill_starts_before(index, 18, count, i).value == starts, "starts before an instruction");
+        if (i == count || (i && records[4 * i] == records[4 * i - 4])) continue;
+        starts++;
+        sill_start_t at = sill_start_at(index, 18, count, starts);
+        hold(!at.refusal && at.value == i, "where a start is");
+    }
+    hold(!built.refusal && built.starts == starts, "how many starts");
+    hold(sill_starts_before(index, 18, count, count + 1).refusal == SILL_NO_SUCH_START, "beyond the count");
+    hold(sill_start_at(index, 18, count, starts + 1).refusal == SILL_NO_SUCH_START, "beyond the starts");
+    memset(any, 0, sizeof any);
+    memcpy(any, data, len < sizeof any ? len : sizeof any);
+    for (uint32_t k = 0; k < 40; k++) {
+        sill_start_t at = sill_start_at(any, 18, count, k);
+        hold(at.refusal ? at.refusal == SILL_NO_SUCH_START && !at.value : at.value < count, "a start of any words");
+        hold(!sill_starts_before(any, 18, count, k % (count + 1)).refusal, "starts before, of any words");
+    }
+}
+
 /* A repaired table is whole, and a second repair changes nothing. */
 static void hold_salvage(const uint8_t *table, size_t len, int32_t first, uint32_t count) {
     const uint8_t *at = lend_bytes(&inputs, table, len);
@@ -266,6 +292,7 @@ static void others(const uint8_t *data, size_t len) {
     hold_salvage(data, len, sum % 2 ? (int32_t)first : 1, sum % 300);
     hold_halves(data, len, sum % 2 ? (int32_t)first : 1, sum % 300);
     hold_join(data, len, sum % 2 ? (int32_t)first : 1, sum % 300);
+    hold_starts(data, len, sum % 1000);
     hold_exceptions(data, len);
     hostile_exceptions(data, len);
     uint32_t *list[5];

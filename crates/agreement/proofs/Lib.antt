@@ -12,6 +12,8 @@ pub mod Rows
 pub mod Salvage
 pub mod Sources
 pub mod Join
+pub mod Startindex
+pub mod Starts
 pub mod Stores
 pub mod Fields
 pub mod Soundness

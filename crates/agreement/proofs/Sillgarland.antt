@@ -91,3 +91,12 @@ sill-read-exceptions-agrees κs a asked r r′ ws ws′ p p′ = (λ i. one p p�
 
 pub sill-write-exceptions-agrees : Agree sillgarland.exceptions.sill_write_exceptions.ended sillgarland.exceptions.sill_write_exceptions.Reads.Asked sillgarland.exceptions.sill_write_exceptions.Reads.Learnt
 sill-write-exceptions-agrees κs a asked r r′ ws ws′ p p′ = (λ i. one p p′ i .0, λ i. (tt, (one p p′ i .1, tt)))
+
+pub sill-index-starts-agrees : Agree sillgarland.rowstarts.sill_index_starts.ended sillgarland.rowstarts.sill_index_starts.Reads.Asked sillgarland.rowstarts.sill_index_starts.Reads.Learnt
+sill-index-starts-agrees κs a asked r r′ ws ws′ p p′ = (λ i. one p p′ i .0, λ i. (tt, (tt, (one p p′ i .1, tt))))
+
+pub sill-starts-before-agrees : Agree sillgarland.rowstarts.sill_starts_before.ended sillgarland.rowstarts.sill_starts_before.Reads.Asked sillgarland.rowstarts.sill_starts_before.Reads.Learnt
+sill-starts-before-agrees κs a asked r r′ ws ws′ p p′ = (one p p′, refl)
+
+pub sill-start-at-agrees : Agree sillgarland.rowstarts.sill_start_at.ended sillgarland.rowstarts.sill_start_at.Reads.Asked sillgarland.rowstarts.sill_start_at.Reads.Learnt
+sill-start-at-agrees κs a asked r r′ ws ws′ p p′ = (one p p′, refl)

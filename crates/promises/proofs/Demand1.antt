@@ -75,6 +75,7 @@ use Rattle.promises.specs.Demand1.{InTable, Ends, answers, refuses, Zero
 use Rattle.promises.proofs.Reading.{writtenBy}
 use Rattle.promises.proofs.Joins.{join-ends, line-ends}
 use Rattle.promises.proofs.Exceptions.{TabledDecoded, decoded-in-table, TabledEncoded, encoded-in-table}
+use Rattle.promises.proofs.RowStarts.{index-ends, before-ends, at-ends}
 use Rattle.promises.proofs.Numbers.{Tabled, reading-in-table, leaf-in-table, TabledLines, located-in-table, located-at-in-table, TabledSplit, split-in-table, TabledStore, stored-in-table, signed-in-table, told-in-table, written-in-table}
 
 -- Each kind of definition: what its contract says of an outcome gives the end.
@@ -273,6 +274,24 @@ demand-1 =
             asks-nothing = λ κs a. tt;
             returns = λ M. sillgarland.joins.sill_line_after.Met.met;
             ends = λ c. let a = c .args in line-ends (now (a .0)) (firstLine (a .1 .0)) (a .1 .1 .0) (c .result) (c .meets);
+          };
+      sill-index-starts =
+          record {
+            asks-nothing = λ κs a. tt;
+            returns = λ M. sillgarland.rowstarts.sill_index_starts.Met.met;
+            ends = λ c. index-ends (now (c .args .0)) (c .args .1 .0) (now (c .args .1 .1 .0)) _ (c .result) (c .meets);
+          };
+      sill-starts-before =
+          record {
+            asks-nothing = λ κs a. tt;
+            returns = λ M. sillgarland.rowstarts.sill_starts_before.Met.met;
+            ends = λ c. before-ends (now (c .args .0)) (c .args .1 .0) (c .args .1 .1 .0) (c .result) (c .meets);
+          };
+      sill-start-at =
+          record {
+            asks-nothing = λ κs a. tt;
+            returns = λ M. sillgarland.rowstarts.sill_start_at.Met.met;
+            ends = λ c. at-ends (now (c .args .0)) (c .args .1 .0) (c .args .1 .1 .0) (c .result) (c .meets);
           };
       sill-split =
           record {

@@ -1,3 +1,4 @@
+pub mod RowStarts
 pub mod Numbers
 pub mod Reading
 pub mod Exceptions

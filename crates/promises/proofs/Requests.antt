@@ -3,6 +3,7 @@ use Rattle.exceptiontable.proofs.Promised.{exception-tables-keep-their-promises
 use Rattle.salvage.proofs.Promised.{salvage-keeps-its-promises}
 use Rattle.join.proofs.Promised.{join-keeps-its-promises}
 use Rattle.join.proofs.Reading.{line-keeps-its-promises}
+use Rattle.starts.proofs.Promised.{starts-keep-their-promises}
 use Rattle.sources.proofs.Beside.{beside-located}
 use Rattle.sources.proofs.Repaired.{repaired-told}
 use Rattle.promises.specs.Requests.{Requests}
@@ -14,6 +15,7 @@ requests-promised =
       repair = salvage-keeps-its-promises;
       join = join-keeps-its-promises;
       line = line-keeps-its-promises;
+      row-starts = starts-keep-their-promises;
       sources = beside-located;
       sources-repaired = repaired-told;
     }

@@ -30,6 +30,8 @@ use Rattle.sources.specs.declared.Counts.{Counts}
 use Rattle.sources.specs.Marks.{counts, told}
 use Rattle.join.specs.Whole as table
 use Rattle.join.specs.Join as joined
+use Rattle.startindex.specs.Index.{told as toldIndexed}
+use Rattle.starts.specs.Questions.{told as toldStart}
 use Rattle.varint.specs.declared.Written.the-variants as varint
 use Rattle.varintread.specs.declared.Found.the-variants as found
 use Rattle.output.specs.declared.Wrote.the-variants as wrote
@@ -42,11 +44,13 @@ use Rattle.sillgarland.specs.Locals.{splitStruct}
 use Rattle.sillgarland.specs.Locations.{locatedStruct}
 use Rattle.sillgarland.specs.Salvage.{salvagedStruct}
 use Rattle.sillgarland.specs.Sources.{sourcedStruct}
+use Rattle.sillgarland.specs.Starts.{indexedStruct, startStruct}
 use Rattle.sillgarland.specs.Values.{readStruct, wroteStruct}
 use Rattle.sillgarland.specs.Varints.{writtenStruct, foundStruct}
 use Rattle.sillgarland.specs.declared.joins.SillJoined.{SillJoined}
 use Rattle.sillgarland.specs.declared.joins.SillLine.{SillLine}
 use Rattle.sillgarland.specs.declared.locations.SillLocated.{SillLocated}
+use Rattle.sillgarland.specs.declared.rowstarts.SillStart.{SillStart}
 use Rattle.sillgarland.specs.declared.varints.SillWritten.{SillWritten}
 use Rattle.sillgarland.specs.declared.varints.SillFound.{SillFound}
 use Rattle.sillgarland.proofs as sillgarland
@@ -106,6 +110,10 @@ JoinEnds r = Ends r (λ (d : ℕ × ℕ × ℕ). joinedStruct (joined.joins (d .
 abbrev pub LineEnds : SillLine → Type 0
 LineEnds r = Ends r (λ (d : Bool × ℕ). lineStruct (table.told (d .0) (d .1))) (λ number place. lineStruct (table.noLine number place)) Unit
 
+-- the end of a question about row starts, which is lent nothing for writing
+abbrev pub StartEnds : SillStart → Type 0
+StartEnds r = Ends r (λ value. startStruct (toldStart accepted 0 value)) (λ number place. startStruct (toldStart number place 0)) Unit
+
 -- Each export. Arguments and last contents are counted from the left: the third parameter is `.1 .1 .0`.
 pub record Demand1 : Type 2 where
   pub sill-read :
@@ -146,6 +154,17 @@ pub record Demand1 : Type 2 where
   pub sill-line-after :
       EachCall sillgarland.joins.sill_line_after.ended sillgarland.joins.sill_line_after.Reads.Asked sillgarland.joins.sill_line_after.Reads.Learnt sillgarland.joins.sill_line_after.Statement.statement
       (λ c. LineEnds (c .result))
+  pub sill-index-starts :
+      EachCall sillgarland.rowstarts.sill_index_starts.ended sillgarland.rowstarts.sill_index_starts.Reads.Asked sillgarland.rowstarts.sill_index_starts.Reads.Learnt sillgarland.rowstarts.sill_index_starts.Statement.statement
+      (λ c.
+      Ends (c .result) (λ starts. indexedStruct (toldIndexed accepted 0 starts)) (λ number place. indexedStruct (toldIndexed number place 0))
+      (Zero (now (c .args .1 .1 .0)) (c .last .1 .1 .0)))
+  pub sill-starts-before :
+      EachCall sillgarland.rowstarts.sill_starts_before.ended sillgarland.rowstarts.sill_starts_before.Reads.Asked sillgarland.rowstarts.sill_starts_before.Reads.Learnt sillgarland.rowstarts.sill_starts_before.Statement.statement
+      (λ c. StartEnds (c .result))
+  pub sill-start-at :
+      EachCall sillgarland.rowstarts.sill_start_at.ended sillgarland.rowstarts.sill_start_at.Reads.Asked sillgarland.rowstarts.sill_start_at.Reads.Learnt sillgarland.rowstarts.sill_start_at.Statement.statement
+      (λ c. StartEnds (c .result))
   pub sill-split :
       EachCall sillgarland.locals.sill_split.ended sillgarland.locals.sill_split.Reads.Asked sillgarland.locals.sill_split.Reads.Learnt sillgarland.locals.sill_split.Statement.statement
       (λ c.

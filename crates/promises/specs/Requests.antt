@@ -5,6 +5,7 @@ use Rattle.salvage.specs.Promised.{Promised as RepairPromised}
 use Rattle.join.specs.Promised.{Promised as JoinPromised, LinePromised}
 use Rattle.sources.specs.Beside.{BesideLocated}
 use Rattle.sources.specs.Repaired.{Repaired}
+use Rattle.starts.specs.Promised.{Promised as StartsPromised}
 
 pub record Requests : Type 0 where
   -- K1: "Write the same entries back in shortest form .. a written table reads as the same entries."
@@ -15,6 +16,8 @@ pub record Requests : Type 0 where
   pub join : JoinPromised
   -- K12: "leaving the running line at g"
   pub line : LinePromised
+  -- K4: "how many starts lie before instruction n, and where is the k-th start .. Both equal a count over the locations themselves."
+  pub row-starts : StartsPromised
   -- the bytes of `sill_sources` beside the places of `sill_locate`
   pub sources : BesideLocated
   -- and of a table that was repaired

@@ -7,3 +7,4 @@ pub mod Joins
 pub mod Leaves
 pub mod Values
 pub mod Exceptions
+pub mod Starts

@@ -7,5 +7,6 @@ pub mod locals;
 pub mod locations;
 pub mod origins;
 pub mod repairs;
+pub mod rowstarts;
 pub mod values;
 pub mod varints;

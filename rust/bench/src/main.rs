@@ -9,6 +9,8 @@ mod python;
 #[cfg(carried)]
 mod read;
 #[cfg(carried)]
+mod starts;
+#[cfg(carried)]
 mod timing;
 #[cfg(carried)]
 mod varint;
@@ -44,6 +46,9 @@ fn main() -> ExitCode {
             if wanted("lines") {
                 linetable::run(tables);
             }
+            if wanted("starts") {
+                starts::run();
+            }
             if wanted("read") {
                 read::run(modules.clone());
             }
@@ -57,7 +62,7 @@ fn main() -> ExitCode {
 
 /// What is timed; all where none is named.
 #[cfg(carried)]
-const PARTS: [&str; 5] = ["varint", "exceptions", "lines", "read", "write"];
+const PARTS: [&str; 6] = ["varint", "exceptions", "lines", "starts", "read", "write"];
 
 /// The modules of the file, as CPython marshals them.
 #[cfg(carried)]

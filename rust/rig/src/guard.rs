@@ -6,6 +6,7 @@ use crate::memory::{Mode, lend};
 use crate::read::Reads;
 use crate::salvage::{self, Salvages};
 use crate::sources::{self, Sources};
+use crate::starts::{self, Starts};
 use crate::subject::{Carried, Subject, held};
 use crate::tally::Tally;
 use crate::write::Writes;
@@ -36,6 +37,12 @@ pub fn hold() -> bool {
             let answer = sources::by_the_model(&asked);
             last_asked(&Sources::row(&asked, &answer));
             tally.count("sources of instructions", held::<Sources>(&asked, &answer));
+        }
+        for _ in 0..OF_EACH / 10 {
+            let asked = starts::random_ask(&mut random);
+            let answer = starts::by_the_model(&asked);
+            last_asked(&Starts::row(&asked, &answer));
+            tally.count("row starts indexed and asked for", held::<Starts>(&asked, &answer));
         }
         ask::<localsplus::LocalNames>(&mut tally, "splits", localsplus::carried_side::asks_to_list());
         for asked in exceptions::random_asks(25, OF_EACH) {

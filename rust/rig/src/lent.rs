@@ -19,6 +19,11 @@ impl Cell for u32 {
     const ZERO: Self = 0;
 }
 
+impl Cell for u64 {
+    const MARK: Self = 0xA5A5_A5A5_A5A5_A5A5;
+    const ZERO: Self = 0;
+}
+
 impl Cell for Location {
     const MARK: Self = Location { line: 7, column: 7, end_line: 7, end_column: 7 };
     const ZERO: Self = Location { line: 0, column: 0, end_line: 0, end_column: 0 };

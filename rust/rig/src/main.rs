@@ -38,6 +38,7 @@ mod shape;
 mod shares;
 mod shrink;
 mod sources;
+mod starts;
 mod stack;
 mod stores;
 mod subject;
@@ -65,6 +66,7 @@ use options::{Options, Task, USAGE};
 use read::Reads;
 use salvage::Salvages;
 use sources::Sources;
+use starts::Starts;
 use std::process::ExitCode;
 use stores::{Leaves, ReadStores};
 use subject::replay;
@@ -106,6 +108,7 @@ fn run(options: Options) -> Result<bool, String> {
         Task::Exceptions => Ok(exceptions::hold(17, EXCEPTIONS)),
         Task::Joins => joins(&options),
         Task::Sources => Ok(sources::hold(17, SOURCES)),
+        Task::Starts => Ok(starts::hold(19, STARTS)),
         Task::Extremes => Ok(extremes::hold()),
         Task::HasRust => {
             println!("{}", if cfg!(carried) { "yes" } else { "no" });
@@ -139,6 +142,9 @@ fn beside_the_rust(options: &Options) -> Result<bool, String> {
     Ok(true)
 }
 
+/// How many random indexes of row starts, and how many of any words.
+const STARTS: usize = 20_000;
+
 /// How many random exception tables, read and written.
 const EXCEPTIONS: usize = 1_000_000;
 
@@ -153,12 +159,11 @@ fn joins(options: &Options) -> Result<bool, String> {
     Ok(all([join::hold(19, JOINS), text.is_empty() || splits.finish()]))
 }
 
-/// What documents 01 and 02 alone tell: the leaf question and writing on any stores, exception tables, joins, and demand 3 at every
-/// room.
 /// How many random line tables, for where places come from.
 const SOURCES: usize = 400_000;
 
-/// What documents 01 and 02 alone tell: the leaf question and writing on any stores, exception tables, and demand 3 at every room.
+/// What documents 01 and 02 alone tell: the leaf question and writing on any stores, exception tables, joins, row starts, and demand 3
+/// at every room.
 fn without_the_rust() -> Result<bool, String> {
     let found = corpus::inputs()?;
     Ok(all([
@@ -166,6 +171,7 @@ fn without_the_rust() -> Result<bool, String> {
         hostile::hold(15, 1_500_000),
         salvage::hold(16, 400_000),
         sources::hold(17, SOURCES),
+        starts::hold(19, STARTS),
         exceptions::hold(18, EXCEPTIONS),
         join::hold(19, JOINS),
         sweep::hold(13, || values::inputs_to_sweep(14, 200_000).chain(found.iter().cloned())),
@@ -191,6 +197,7 @@ fn replay_answers() -> bool {
         replay::<Sources>("vectors"),
         replay::<Exceptions>("vectors"),
         replay::<Joins>("vectors"),
+        replay::<Starts>("vectors"),
     ]);
     all([fixed, vectors, written])
 }

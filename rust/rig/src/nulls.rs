@@ -1,8 +1,9 @@
 //! A null pointer with length 0 is an empty slice: every exported function, called so, answers as for no bytes and no room.
 use crate::tally::Tally;
 use sillgarland_sys::{
-    Exceptions, Found, Joined, Leaf, Line, Located, Read, Salvaged, Sourced, Split, Written, refusals,
+    Exceptions, Found, Indexed, Joined, Leaf, Line, Located, Read, Salvaged, Sourced, Split, Start, Written, refusals,
 };
+use sillgarland_sys::{sill_index_starts, sill_start_at, sill_starts_before};
 use sillgarland_sys::{sill_join, sill_line_after, sill_read_exceptions, sill_write_exceptions};
 use sillgarland_sys::{sill_leaf, sill_locate_node, sill_read, sill_salvage, sill_sources, sill_write};
 use sillgarland_sys::{sill_locate, sill_locations, sill_read_varint, sill_read_varint_with_start, sill_split};
@@ -52,6 +53,11 @@ pub fn hold() -> bool {
         count(&mut tally, "sill_join", sill_join(n, 0, 1, 0, n, 0, 1, 0, m, 0), both);
         let first_line = Line { refusal: refusals::ACCEPTED, place: 0, whole: 1, line: 1 };
         count(&mut tally, "sill_line_after", sill_line_after(n, 0, 1, 0), first_line);
+        let no_index = Indexed { refusal: refusals::NO_ROOM, place: 0, starts: 0 };
+        count(&mut tally, "sill_index_starts", sill_index_starts(null(), 0, 0, null_mut(), 0), no_index);
+        let unanswered = Start { refusal: refusals::NO_ROOM, place: 0, value: 0 };
+        count(&mut tally, "sill_starts_before", sill_starts_before(null(), 0, 0, 0), unanswered);
+        count(&mut tally, "sill_start_at", sill_start_at(null(), 0, 0, 1), unanswered);
         let split = sill_split(n, 0, 0, 0, 0, 0, w, 0, w, 0, w, 0, w, 0, w, 0);
         count(&mut tally, "sill_split", split, no_names);
         count(&mut tally, "sill_read", sill_read(n, 0, w, 0, w, 0, w, 0, 1), no_object);

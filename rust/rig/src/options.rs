@@ -11,6 +11,7 @@ usage: rig [--tables FILE]                       compare with the carried Rust, 
        rig --exceptions                          exception tables: the model, and the carried Rust beside it, nothing else
        rig --joins [--tables FILE]               joins of line tables: the model, and the carried Rust beside it, nothing else
        rig --sources                             where instructions' places come from: the model, nothing else
+       rig --starts                              row starts: the model, nothing else
        rig --goldens PATH..                      compare on golden files; without a PATH, say how
        rig --extremes                            values and line tables of 16 MiB in each extreme shape, timed
        rig --has-rust                            say yes or no: whether it was built with the carried Rust
@@ -40,6 +41,7 @@ pub enum Task {
     Exceptions,
     Joins,
     Sources,
+    Starts,
     Replay,
     Goldens(Vec<String>),
     HasRust,
@@ -78,6 +80,7 @@ impl Options {
                 "--exceptions" => options.set(Task::Exceptions)?,
                 "--joins" => options.set(Task::Joins)?,
                 "--sources" => options.set(Task::Sources)?,
+                "--starts" => options.set(Task::Starts)?,
                 "--extremes" => options.set(Task::Extremes)?,
                 "--has-rust" => options.set(Task::HasRust)?,
                 "--exact" => options.set(Task::Exact)?,

@@ -116,6 +116,23 @@ depth, whether the last instruction is pushed, and the rows of the guarded instr
     options: &[HELP],
 };
 
+pub const ROW: Page = Page {
+    name: "row",
+    operands: "FILE ROW",
+    takes: 2..=2,
+    summary: "say which instructions of which code objects start a row",
+    text: "\
+For each code object of the file: the instructions (from 0) where a run of instructions of that row begins, and how many there
+are in the run. An instruction starts a row where its line is not that of the one before. They are found by an index of row
+starts, not by looking through all locations.
+
+Instructions whose row is not sure are told apart and never listed as starts: those that no entry of the line table placed,
+those whose entry is cut or says that it has no place, and those whose line is not above 0 as stored.
+
+Exit status 1 also where no instruction starts the row.",
+    options: &[HELP],
+};
+
 pub const WRITE: Page = Page {
     name: "write",
     operands: "FILE",
@@ -166,7 +183,7 @@ differ, the first difference is shown: the path that leads to it, and the place 
     options: &[HELP],
 };
 
-const PAGES: [&Page; 6] = [&CHECK, &SHOW, &LINES, &WRITE, &REPAIR, &DIFF];
+const PAGES: [&Page; 7] = [&CHECK, &SHOW, &LINES, &ROW, &WRITE, &REPAIR, &DIFF];
 
 impl Page {
     /// The option that goes by this name, dashes included.

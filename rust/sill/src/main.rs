@@ -8,6 +8,7 @@ mod help;
 mod lines;
 mod options;
 mod repair;
+mod row;
 mod show;
 mod terminal;
 mod text;
@@ -38,10 +39,11 @@ impl From<Outcome> for ExitCode {
 
 type Command = fn(&Arguments, &mut dyn Write) -> io::Result<Outcome>;
 
-const COMMANDS: [(&Page, Command); 6] = [
+const COMMANDS: [(&Page, Command); 7] = [
     (&help::CHECK, check::run),
     (&help::SHOW, show::run),
     (&help::LINES, lines::run),
+    (&help::ROW, row::run),
     (&help::WRITE, write::run),
     (&help::REPAIR, repair::run),
     (&help::DIFF, diff::run),

@@ -68,6 +68,24 @@ pub struct Sourced {
     pub sure: u32,
 }
 
+/// What building an index of row starts answers: how many starts there are.
+#[repr(C)]
+#[derive(Clone, Copy, Debug, PartialEq, Eq)]
+pub struct Indexed {
+    pub refusal: u32,
+    pub place: u32,
+    pub starts: u32,
+}
+
+/// What a question of an index of row starts answers.
+#[repr(C)]
+#[derive(Clone, Copy, Debug, PartialEq, Eq)]
+pub struct Start {
+    pub refusal: u32,
+    pub place: u32,
+    pub value: u64,
+}
+
 /// What a repair of a line table wrote, and its list.
 #[repr(C)]
 #[derive(Clone, Copy, Debug, PartialEq, Eq)]
@@ -179,6 +197,15 @@ unsafe extern "C" {
         sources: *mut u8,
         sources_len: usize,
     ) -> Sourced;
+    pub fn sill_index_starts(
+        records: *const u32,
+        records_len: usize,
+        count: u32,
+        index: *mut u64,
+        index_len: usize,
+    ) -> Indexed;
+    pub fn sill_starts_before(index: *const u64, index_len: usize, count: u32, n: u32) -> Start;
+    pub fn sill_start_at(index: *const u64, index_len: usize, count: u32, k: u32) -> Start;
     pub fn sill_salvage(
         table: *const u8,
         table_len: usize,

@@ -40,6 +40,7 @@ mod reader;
 mod refusal;
 mod salvage;
 mod same;
+mod starts;
 mod value;
 mod write;
 
@@ -52,6 +53,7 @@ pub use reader::Reader;
 pub use refusal::{Place, Refusal, Refused};
 pub use salvage::{Salvaged, salvage};
 pub use same::{Difference, Path, Step, What, first_difference};
+pub use starts::Starts;
 pub use value::{Children, Content, Text, Value, Wide};
 
 /// The longest input that is read, in bytes.

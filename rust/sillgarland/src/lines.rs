@@ -112,6 +112,11 @@ impl<'r> Locations<'r> {
         self.counts
     }
 
+    /// Four numbers an instruction, as the port left them.
+    pub(crate) fn records(self) -> &'r [[u32; 4]] {
+        self.records
+    }
+
     /// How many instructions, from the first on, were placed by entries of the table.
     pub fn from_entries(self) -> usize {
         self.counts.from_entries
