@@ -106,6 +106,30 @@ sill_exceptions_t sill_read_exceptions(const uint8_t *table, size_t table_len, u
  * 4,294,967,295. What is written reads as the same entries. */
 sill_written_t sill_write_exceptions(const uint32_t *entries, size_t entries_len, uint8_t *out, size_t out_len);
 
+/* ---- Nightly totals. They are SILL_COUNTERS numbers: inputs, accepted, refused, then the count of each refusal 1 to 26. A counter
+   that a slice is too short for reads as 0, and what lies behind the last is not looked at. Totals go in and out apart: a refused
+   call loses nothing of what went in. */
+
+#define SILL_COUNTERS 29
+
+typedef struct {
+    uint32_t refusal; /* 17: fewer than SILL_COUNTERS numbers are lent for the totals, place is how many; 18: an answer is above 26,
+                         or a total would pass 64 bits, at 0 */
+    uint32_t place;
+} sill_totalled_t;
+
+/* before with every answer counted: 0 is accepted, any other the refusal of that number. */
+sill_totalled_t sill_totals(const uint64_t *before, size_t before_len, const uint32_t *answers, size_t answers_len,
+                            uint64_t *after, size_t after_len);
+
+/* Counter by counter. */
+sill_totalled_t sill_add_totals(const uint64_t *a, size_t a_len, const uint64_t *b, size_t b_len, uint64_t *sum,
+                                size_t sum_len);
+
+/* The lines "inputs 3", "accepted 2", "refused 1", then "refusal N COUNT" for N from 1 to 26, zero lines included, each ended by a
+   newline. 17: no room, place is out_len. */
+sill_written_t sill_print_totals(const uint64_t *totals, size_t totals_len, uint8_t *out, size_t out_len);
+
 /* ---- Line tables: where each instruction of a code object comes from. */
 
 typedef struct {

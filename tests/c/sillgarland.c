@@ -179,6 +179,42 @@ static void test_exceptions(void)
     expect(written.refusal == SILL_NUMBER_RANGE && written.place == 0, "a last-instruction bit of 2");
 }
 
+/* ---- nightly totals */
+
+/* Three answers counted from nothing, printed, and added; then a store that is too short, an answer above 26, a full counter. */
+static void test_totals(void)
+{
+    static const uint32_t answers[] = {0, 2, 0}, unknown[] = {26, 27}, last[] = {26};
+    static const char start[] = "inputs 3\naccepted 2\nrefused 1\nrefusal 1 0\nrefusal 2 1\n";
+    uint64_t after[31], sum[29];
+    uint8_t out[400];
+    memset(after, 7, sizeof after);
+    sill_totalled_t told = sill_totals(NULL, 0, answers, 3, after, 31);
+    expect(told.refusal == 0 && told.place == 0, "three answers are counted");
+    expect(after[0] == 3 && after[1] == 2 && after[2] == 1 && after[3] == 0 && after[4] == 1 && after[28] == 0, "as they are");
+    expect(after[29] == 0 && after[30] == 0, "and zeros follow");
+
+    memset(out, 7, sizeof out);
+    sill_written_t text = sill_print_totals(after, SILL_COUNTERS, out, sizeof out);
+    expect(text.refusal == 0 && text.written == 330 + 29 && out[358] == '\n' && out[359] == 0, "29 lines of one digit");
+    expect(memcmp(out, start, sizeof start - 1) == 0 && memcmp(out + 346, "refusal 26 0\n", 13) == 0, "in 02's form and order");
+    text = sill_print_totals(after, SILL_COUNTERS, out, 358);
+    expect(text.refusal == SILL_NO_ROOM && text.place == 358 && text.written == 0 && out[0] == 0, "one byte short");
+
+    told = sill_add_totals(after, 2, after, 29, sum, 29);
+    expect(told.refusal == 0 && sum[0] == 6 && sum[1] == 4 && sum[2] == 1 && sum[4] == 1, "a counter that is not there is 0");
+    told = sill_totals(after, 29, answers, 3, sum, 28);
+    expect(told.refusal == SILL_NO_ROOM && told.place == 28 && sum[0] == 0, "28 numbers are too few");
+    told = sill_totals(after, 29, unknown, 2, sum, 29);
+    expect(told.refusal == SILL_NUMBER_RANGE && told.place == 0 && sum[28] == 0, "27 is no refusal");
+    after[28] = UINT64_MAX;
+    told = sill_totals(after, 29, last, 1, sum, 29);
+    expect(told.refusal == SILL_NUMBER_RANGE && sum[0] == 0, "a counter that is full");
+    told = sill_add_totals(after, 29, after, 29, sum, 29);
+    expect(told.refusal == SILL_NUMBER_RANGE && sum[0] == 0, "and a sum that is");
+    expect(after[28] == UINT64_MAX && after[0] == 3, "what went in is as it was");
+}
+
 /* ---- line tables */
 
 /* 600 instructions, three a row: bits and a total behind 512 of them; the count itself may be asked for, and no more. */
@@ -390,6 +426,7 @@ int main(void)
     test_leaves();
     test_writing();
     test_exceptions();
+    test_totals();
     test_lines();
     test_salvage();
     test_join();

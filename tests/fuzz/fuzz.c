@@ -217,6 +217,29 @@ static void hostile_exceptions(const uint8_t *data, size_t len) {
     hold(all_zero(out + w.written, 24 * (words / 5) - w.written), "a table past what was written");
 }
 
+/* Any totals and answers: the counts of two halves add up to the count of all, or some refusal is 18; and the lines stand in no less
+   room than they take. */
+static void hold_totals(const uint8_t *data, size_t len) {
+    uint64_t before[29] = {0}, one[29], other[29], all[29], sum[29];
+    memcpy(before, data, len < sizeof before ? len : sizeof before);
+    size_t words = len / 4;
+    uint32_t *answers = lend_words(&nodes_a, words);
+    memcpy(answers, data, 4 * words);
+    for (size_t i = 0; i < words; i++) answers[i] %= len % 5 ? 27 : 28;
+    sill_totalled_t a = sill_totals(before, 29, answers, words / 2, one, 29);
+    sill_totalled_t b = sill_totals(NULL, 0, answers + words / 2, words - words / 2, other, 29);
+    sill_totalled_t both = sill_totals(before, 29, answers, words, all, 29);
+    sill_totalled_t added = sill_add_totals(one, 29, other, 29, sum, 29);
+    if (a.refusal || b.refusal) hold(both.refusal == 18 && !both.place, "a part is refused and the whole is not");
+    else hold(both.refusal == added.refusal && !memcmp(all, sum, sizeof sum), "parts do not add up");
+    hold(!both.refusal || all_zero(all, sizeof all), "refused totals are not zero");
+    uint8_t text[1000], cut[1000];
+    sill_written_t w = sill_print_totals(before, 29, text, sizeof text);
+    hold(!w.refusal && text[w.written - 1] == '\n' && all_zero(text + w.written, sizeof text - w.written), "totals are not printed");
+    sill_written_t c = sill_print_totals(before, 29, cut, w.written - 1);
+    hold(c.refusal == 17 && c.place == w.written - 1 && all_zero(cut, w.written - 1), "totals one byte short are not 17");
+}
+
 /* The leaf of each node, the line table of each node of bytes, on stores that a reading made. */
 static void ask_nodes(const reading *r) {
     uint32_t used = r->answer.nodes, most = used < 64 ? used : 64;
@@ -295,6 +318,7 @@ static void others(const uint8_t *data, size_t len) {
     hold_starts(data, len, sum % 1000);
     hold_exceptions(data, len);
     hostile_exceptions(data, len);
+    hold_totals(data, len);
     uint32_t *list[5];
     size_t names = len < 512 ? len : 512;
     for (int i = 0; i < 5; i++) list[i] = lend_words(&lists[i], names - (names && sum % 7 == (uint32_t)i));

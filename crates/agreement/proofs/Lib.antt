@@ -14,6 +14,9 @@ pub mod Sources
 pub mod Join
 pub mod Startindex
 pub mod Starts
+pub mod Decimals
+pub mod Printedtotals
+pub mod Totals
 pub mod Stores
 pub mod Fields
 pub mod Soundness

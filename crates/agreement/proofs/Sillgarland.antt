@@ -100,3 +100,12 @@ sill-starts-before-agrees κs a asked r r′ ws ws′ p p′ = (one p p′, refl
 
 pub sill-start-at-agrees : Agree sillgarland.rowstarts.sill_start_at.ended sillgarland.rowstarts.sill_start_at.Reads.Asked sillgarland.rowstarts.sill_start_at.Reads.Learnt
 sill-start-at-agrees κs a asked r r′ ws ws′ p p′ = (one p p′, refl)
+
+pub sill-totals-agrees : Agree sillgarland.nightly.sill_totals.ended sillgarland.nightly.sill_totals.Reads.Asked sillgarland.nightly.sill_totals.Reads.Learnt
+sill-totals-agrees κs a asked r r′ ws ws′ p p′ = (λ i. one p p′ i .0, λ i. (tt, (tt, (one p p′ i .1, tt))))
+
+pub sill-add-totals-agrees : Agree sillgarland.nightly.sill_add_totals.ended sillgarland.nightly.sill_add_totals.Reads.Asked sillgarland.nightly.sill_add_totals.Reads.Learnt
+sill-add-totals-agrees κs a asked r r′ ws ws′ p p′ = (λ i. one p p′ i .0, λ i. (tt, (tt, (one p p′ i .1, tt))))
+
+pub sill-print-totals-agrees : Agree sillgarland.nightly.sill_print_totals.ended sillgarland.nightly.sill_print_totals.Reads.Asked sillgarland.nightly.sill_print_totals.Reads.Learnt
+sill-print-totals-agrees κs a asked r r′ ws ws′ p p′ = (λ i. one p p′ i .0, λ i. (tt, (one p p′ i .1, tt)))

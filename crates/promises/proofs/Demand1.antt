@@ -45,8 +45,15 @@ use Rattle.exceptiontable.specs.declared.Encoded.{Encoded}
 use Rattle.exceptiontable.specs.declared.Encoded.the-variants as encoded
 use Rattle.exceptiontable.specs.Reading.{decodedOf}
 use Rattle.exceptiontable.specs.Writing.{encodedOf}
+use Rattle.totals.specs.declared.Totalled.{Totalled}
+use Rattle.totals.specs.declared.Totalled.the-variants as totalled
+use Rattle.totals.specs.Totals.{totalsOf, addedOf}
+use Rattle.printedtotals.specs.declared.Printed.{Printed}
+use Rattle.printedtotals.specs.declared.Printed.the-variants as printed
+use Rattle.printedtotals.specs.Lines.{printedOf}
 use Rattle.output.specs.declared.Wrote.the-variants as wrote
 use Rattle.sillgarland.specs.Exceptions.{decodedStruct, decodedAs, encodedStruct, encodedAs}
+use Rattle.sillgarland.specs.Nightly.{totalledStruct, totalledAs, printedStruct, printedAs}
 use Rattle.sillgarland.specs.Leaves.{leafStruct}
 use Rattle.sillgarland.specs.Locals.{splitStruct}
 use Rattle.salvage.specs.Salvage.{salvaged, Account, salvage}
@@ -61,6 +68,7 @@ use Rattle.sillgarland.specs.Sources.{sourcedStruct}
 use Rattle.sillgarland.specs.Values.{readStruct, ReadAs, wroteStruct, WroteAs}
 use Rattle.sillgarland.specs.Varints.{writtenAs, foundStruct}
 use Rattle.sillgarland.specs.declared.exceptions.SillExceptions.{SillExceptions}
+use Rattle.sillgarland.specs.declared.nightly.SillTotalled.{SillTotalled}
 use Rattle.sillgarland.specs.declared.leaves.SillLeaf.{SillLeaf}
 use Rattle.sillgarland.specs.declared.locals.SillSplit.{SillSplit}
 use Rattle.sillgarland.specs.declared.locations.SillLocated.{SillLocated}
@@ -76,6 +84,7 @@ use Rattle.promises.proofs.Reading.{writtenBy}
 use Rattle.promises.proofs.Joins.{join-ends, line-ends}
 use Rattle.promises.proofs.Exceptions.{TabledDecoded, decoded-in-table, TabledEncoded, encoded-in-table}
 use Rattle.promises.proofs.RowStarts.{index-ends, before-ends, at-ends}
+use Rattle.promises.proofs.Nightly.{TabledTotals, totals-in-table, added-in-table, TabledPrinted, printed-in-table}
 use Rattle.promises.proofs.Numbers.{Tabled, reading-in-table, leaf-in-table, TabledLines, located-in-table, located-at-in-table, TabledSplit, split-in-table, TabledStore, stored-in-table, signed-in-table, told-in-table, written-in-table}
 
 -- Each kind of definition: what its contract says of an outcome gives the end.
@@ -169,6 +178,16 @@ encoded-ends : (o : Encoded × List ℕ) (lent : List ℕ) → TabledEncoded (le
     → Ends r (λ count. encodedStruct (encoded.Done count)) (λ number place. encodedStruct (encoded.Refused number place)) (Zero lent left)
 encoded-ends (encoded.Done count, xs) lent t r left e = answers count (ap (λ x. x .0) e)
 encoded-ends (encoded.Refused n p, xs) lent t r left e = refuses n p (t .0) (ap (λ x. x .0) e) (ap (λ x. x .1) e ∙ t .1)
+
+totalled-ends : (o : Totalled × List ℕ) (lent : List ℕ) → TabledTotals (length lent) o → (r : SillTotalled) (left : List ℕ) → (r, left) ≡ totalledAs o
+    → Ends r (λ (done : Unit {0}). totalledStruct totalled.Done) (λ number place. totalledStruct (totalled.Refused number place)) (Zero lent left)
+totalled-ends (totalled.Done, xs) lent t r left e = answers tt (ap (λ x. x .0) e)
+totalled-ends (totalled.Refused n p, xs) lent t r left e = refuses n p (t .0) (ap (λ x. x .0) e) (ap (λ x. x .1) e ∙ t .1)
+
+printed-ends : (o : Printed × List ℕ) (lent : List ℕ) → TabledPrinted (length lent) o → (r : SillWritten) (left : List ℕ) → (r, left) ≡ printedAs o
+    → Ends r (λ count. printedStruct (printed.Done count)) (λ number place. printedStruct (printed.Refused number place)) (Zero lent left)
+printed-ends (printed.Done count, xs) lent t r left e = answers count (ap (λ x. x .0) e)
+printed-ends (printed.Refused n p, xs) lent t r left e = refuses n p (t .0) (ap (λ x. x .0) e) (ap (λ x. x .1) e ∙ t .1)
 
 pub demand-1 : Demand1
 demand-1 =
@@ -351,6 +370,33 @@ demand-1 =
                 λ c.
                 let room = length (now (c .args .1 .0)) in
                 encoded-ends (encodedOf (now (c .args .0)) room) (now (c .args .1 .0)) (encoded-in-table (now (c .args .0)) room) (c .result) _ (c .meets);
+          };
+      sill-totals =
+          record {
+            asks-nothing = λ κs a. tt;
+            returns = λ M. sillgarland.nightly.sill_totals.Met.met;
+            ends =
+                λ c.
+                let room = length (now (c .args .1 .1 .0)) in
+                totalled-ends (totalsOf (now (c .args .0)) (now (c .args .1 .0)) room) (now (c .args .1 .1 .0)) (totals-in-table (now (c .args .0)) (now (c .args .1 .0)) room) (c .result) _ (c .meets);
+          };
+      sill-add-totals =
+          record {
+            asks-nothing = λ κs a. tt;
+            returns = λ M. sillgarland.nightly.sill_add_totals.Met.met;
+            ends =
+                λ c.
+                let room = length (now (c .args .1 .1 .0)) in
+                totalled-ends (addedOf (now (c .args .0)) (now (c .args .1 .0)) room) (now (c .args .1 .1 .0)) (added-in-table (now (c .args .0)) (now (c .args .1 .0)) room) (c .result) _ (c .meets);
+          };
+      sill-print-totals =
+          record {
+            asks-nothing = λ κs a. tt;
+            returns = λ M. sillgarland.nightly.sill_print_totals.Met.met;
+            ends =
+                λ c.
+                let room = length (now (c .args .1 .0)) in
+                printed-ends (printedOf (now (c .args .0)) room) (now (c .args .1 .0)) (printed-in-table (now (c .args .0)) room) (c .result) _ (c .meets);
           };
       sill-read-varint =
           record {

@@ -33,19 +33,19 @@ module _ (R : Reader) (of-bytes : (c : R .Calls) → Bytes (R .input c)) (exactl
     abbrev c : R .Calls
     c = r .call
 
-    is : Answered (R .input c) (R .nodes c) (R .entries c) (R .slots c) (R .nesting c) (r .counts)
+    pub is : Answered (R .input c) (R .nodes c) (R .entries c) (R .slots c) (R .nesting c) (r .counts)
     is = answered c (r .counts) (r .accepted)
 
     -- what is accepted is at most 16 MiB
     pub small : length (R .input c) ≤ mostBytes
     small = gives-within (R .input c) (R .nodes c) (R .entries c) (R .slots c) (R .nesting c) (is .read) (is .is) .0
 
-    meant : Meant (R .input c) (R .nodes c) (R .entries c) (is .read) (r .node)
+    pub meant : Meant (R .input c) (R .nodes c) (R .entries c) (is .read) (r .node)
     meant =
         every-node-means (R .input c) (of-bytes c) (R .nodes c) (R .entries c) (R .slots c) (R .nesting c) (is .read) (is .is) (r .node)
         (subst (λ k. r .node < k .nodes) (is .counts) (r .used))
 
-    read-as : ReadAs R c (r .counts) (r .node) (meant .value)
+    pub read-as : ReadAs R c (r .counts) (r .node) (meant .value)
     read-as =
         record {
           accepts = r .accepted;
@@ -58,7 +58,7 @@ module _ (R : Reader) (of-bytes : (c : R .Calls) → Bytes (R .input c)) (exactl
       abbrev v : Value
       v = meant .value
 
-      written-back : WrittenBack v W w
+      pub written-back : WrittenBack v W w
       written-back =
           let t = tablesAfter (R .input c) (R .ends c) (r .counts) in
           let e : writtenBy W w ≡ gives (canonical v) =

@@ -3,8 +3,10 @@ pub mod Numbers
 pub mod Reading
 pub mod Exceptions
 pub mod Joins
+pub mod Nightly
 pub mod Demand1
 pub mod Demand2
+pub mod Equal
 pub mod Asked
 pub mod Demand3
 pub mod Substance

@@ -1,5 +1,7 @@
 -- What document 02's requests promise: the theorem of each request's own crate. Assumes nothing.
 use Rattle.exceptiontable.proofs.Promised.{exception-tables-keep-their-promises}
+use Rattle.totals.proofs.Promised.{totals-keep-their-promises}
+use Rattle.printedtotals.proofs.Promised.{printed-totals-keep-their-promises}
 use Rattle.salvage.proofs.Promised.{salvage-keeps-its-promises}
 use Rattle.join.proofs.Promised.{join-keeps-its-promises}
 use Rattle.join.proofs.Reading.{line-keeps-its-promises}
@@ -16,6 +18,8 @@ requests-promised =
       join = join-keeps-its-promises;
       line = line-keeps-its-promises;
       row-starts = starts-keep-their-promises;
+      totals = totals-keep-their-promises;
+      printed-totals = printed-totals-keep-their-promises;
       sources = beside-located;
       sources-repaired = repaired-told;
     }

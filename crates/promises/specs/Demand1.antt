@@ -37,8 +37,11 @@ use Rattle.varintread.specs.declared.Found.the-variants as found
 use Rattle.output.specs.declared.Wrote.the-variants as wrote
 use Rattle.exceptiontable.specs.declared.Decoded.the-variants as decoded
 use Rattle.exceptiontable.specs.declared.Encoded.the-variants as encoded
+use Rattle.totals.specs.declared.Totalled.the-variants as totalled
+use Rattle.printedtotals.specs.declared.Printed.the-variants as printed
 use Rattle.sillgarland.specs.Exceptions.{decodedStruct, encodedStruct}
 use Rattle.sillgarland.specs.Joins.{joinedStruct, lineStruct}
+use Rattle.sillgarland.specs.Nightly.{totalledStruct, printedStruct}
 use Rattle.sillgarland.specs.Leaves.{leafStruct}
 use Rattle.sillgarland.specs.Locals.{splitStruct}
 use Rattle.sillgarland.specs.Locations.{locatedStruct}
@@ -183,6 +186,21 @@ pub record Demand1 : Type 2 where
       EachCall sillgarland.exceptions.sill_write_exceptions.ended sillgarland.exceptions.sill_write_exceptions.Reads.Asked sillgarland.exceptions.sill_write_exceptions.Reads.Learnt sillgarland.exceptions.sill_write_exceptions.Statement.statement
       (λ c.
       Ends (c .result) (λ count. encodedStruct (encoded.Done count)) (λ number place. encodedStruct (encoded.Refused number place))
+      (Zero (now (c .args .1 .0)) (c .last .1 .0)))
+  pub sill-totals :
+      EachCall sillgarland.nightly.sill_totals.ended sillgarland.nightly.sill_totals.Reads.Asked sillgarland.nightly.sill_totals.Reads.Learnt sillgarland.nightly.sill_totals.Statement.statement
+      (λ c.
+      Ends (c .result) (λ (done : Unit {0}). totalledStruct totalled.Done) (λ number place. totalledStruct (totalled.Refused number place))
+      (Zero (now (c .args .1 .1 .0)) (c .last .1 .1 .0)))
+  pub sill-add-totals :
+      EachCall sillgarland.nightly.sill_add_totals.ended sillgarland.nightly.sill_add_totals.Reads.Asked sillgarland.nightly.sill_add_totals.Reads.Learnt sillgarland.nightly.sill_add_totals.Statement.statement
+      (λ c.
+      Ends (c .result) (λ (done : Unit {0}). totalledStruct totalled.Done) (λ number place. totalledStruct (totalled.Refused number place))
+      (Zero (now (c .args .1 .1 .0)) (c .last .1 .1 .0)))
+  pub sill-print-totals :
+      EachCall sillgarland.nightly.sill_print_totals.ended sillgarland.nightly.sill_print_totals.Reads.Asked sillgarland.nightly.sill_print_totals.Reads.Learnt sillgarland.nightly.sill_print_totals.Statement.statement
+      (λ c.
+      Ends (c .result) (λ count. printedStruct (printed.Done count)) (λ number place. printedStruct (printed.Refused number place))
       (Zero (now (c .args .1 .0)) (c .last .1 .0)))
   pub sill-write-varint :
       EachCall sillgarland.varints.sill_write_varint.ended sillgarland.varints.sill_write_varint.Reads.Asked sillgarland.varints.sill_write_varint.Reads.Learnt sillgarland.varints.sill_write_varint.Statement.statement

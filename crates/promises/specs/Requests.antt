@@ -1,6 +1,8 @@
 -- What document 02's requests, and the sources of rows beside them, promise, each on a page of its own crate, over the definitions that the
 -- exports' contracts cite.
 use Rattle.exceptiontable.specs.Promised.{Promised as ExceptionTablesPromised}
+use Rattle.totals.specs.Promised.{Promised as TotalsPromised}
+use Rattle.printedtotals.specs.Promised.{Promised as PrintedTotalsPromised}
 use Rattle.salvage.specs.Promised.{Promised as RepairPromised}
 use Rattle.join.specs.Promised.{Promised as JoinPromised, LinePromised}
 use Rattle.sources.specs.Beside.{BesideLocated}
@@ -18,6 +20,10 @@ pub record Requests : Type 0 where
   pub line : LinePromised
   -- K4: "how many starts lie before instruction n, and where is the k-th start .. Both equal a count over the locations themselves."
   pub row-starts : StartsPromised
+  -- K14: "Accepted plus refused is inputs", and totals of parts add up
+  pub totals : TotalsPromised
+  -- K14: "print exact counts in this form and order"
+  pub printed-totals : PrintedTotalsPromised
   -- the bytes of `sill_sources` beside the places of `sill_locate`
   pub sources : BesideLocated
   -- and of a table that was repaired

@@ -8,3 +8,4 @@ pub mod Leaves
 pub mod Values
 pub mod Exceptions
 pub mod Starts
+pub mod Nightly

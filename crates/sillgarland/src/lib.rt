@@ -5,6 +5,7 @@ pub mod joins;
 pub mod leaves;
 pub mod locals;
 pub mod locations;
+pub mod nightly;
 pub mod origins;
 pub mod repairs;
 pub mod rowstarts;

@@ -9,6 +9,7 @@ use crate::sources::{self, Sources};
 use crate::starts::{self, Starts};
 use crate::subject::{Carried, Subject, held};
 use crate::tally::Tally;
+use crate::totals::{self, NightlyTotals};
 use crate::write::Writes;
 use crate::{hostile, leaf, linetable, localsplus, random::Random, values, varint, write};
 use std::ptr::null;
@@ -54,6 +55,11 @@ pub fn hold() -> bool {
             let answer = join::by_the_model(&asked);
             last_asked(&Joins::row(&asked, &answer));
             tally.count("line tables joined, and their lines", held::<Joins>(&asked, &answer));
+        }
+        for asked in totals::random_asks(26, OF_EACH) {
+            let answer = totals::by_the_model(&asked);
+            last_asked(&NightlyTotals::row(&asked, &answer));
+            tally.count("totals counted, added and printed", held::<NightlyTotals>(&asked, &answer));
         }
         ask::<Reads>(&mut tally, "values read, with their leaves", values::random_inputs(21, OF_EACH));
         last_asked("a writing from a single record");

@@ -38,13 +38,14 @@ mod shape;
 mod shares;
 mod shrink;
 mod sources;
-mod starts;
 mod stack;
+mod starts;
 mod stores;
 mod subject;
 mod sweep;
 mod tally;
 mod text;
+mod totals;
 #[cfg(carried)]
 mod trace;
 #[cfg(carried)]
@@ -70,6 +71,7 @@ use starts::Starts;
 use std::process::ExitCode;
 use stores::{Leaves, ReadStores};
 use subject::replay;
+use totals::NightlyTotals;
 use varint::Varints;
 use write::{WriteStores, Writes};
 
@@ -109,6 +111,7 @@ fn run(options: Options) -> Result<bool, String> {
         Task::Joins => joins(&options),
         Task::Sources => Ok(sources::hold(17, SOURCES)),
         Task::Starts => Ok(starts::hold(19, STARTS)),
+        Task::Totals => Ok(totals::hold(19, TOTALS)),
         Task::Extremes => Ok(extremes::hold()),
         Task::HasRust => {
             println!("{}", if cfg!(carried) { "yes" } else { "no" });
@@ -162,8 +165,11 @@ fn joins(options: &Options) -> Result<bool, String> {
 /// How many random line tables, for where places come from.
 const SOURCES: usize = 400_000;
 
-/// What documents 01 and 02 alone tell: the leaf question and writing on any stores, exception tables, joins, row starts, and demand 3
-/// at every room.
+/// How many random totals, counted, added and printed.
+const TOTALS: usize = 1_000_000;
+
+/// What documents 01 and 02 alone tell: the leaf question and writing on any stores, exception tables, joins, row starts, totals, and
+/// demand 3 at every room.
 fn without_the_rust() -> Result<bool, String> {
     let found = corpus::inputs()?;
     Ok(all([
@@ -174,6 +180,7 @@ fn without_the_rust() -> Result<bool, String> {
         starts::hold(19, STARTS),
         exceptions::hold(18, EXCEPTIONS),
         join::hold(19, JOINS),
+        totals::hold(19, TOTALS),
         sweep::hold(13, || values::inputs_to_sweep(14, 200_000).chain(found.iter().cloned())),
     ]))
 }
@@ -198,6 +205,7 @@ fn replay_answers() -> bool {
         replay::<Exceptions>("vectors"),
         replay::<Joins>("vectors"),
         replay::<Starts>("vectors"),
+        replay::<NightlyTotals>("vectors"),
     ]);
     all([fixed, vectors, written])
 }

@@ -1,8 +1,10 @@
 //! A null pointer with length 0 is an empty slice: every exported function, called so, answers as for no bytes and no room.
 use crate::tally::Tally;
 use sillgarland_sys::{
-    Exceptions, Found, Indexed, Joined, Leaf, Line, Located, Read, Salvaged, Sourced, Split, Start, Written, refusals,
+    Exceptions, Found, Indexed, Joined, Leaf, Line, Located, Read, Salvaged, Sourced, Split, Start, Totalled, Written,
+    refusals,
 };
+use sillgarland_sys::{sill_add_totals, sill_print_totals, sill_totals};
 use sillgarland_sys::{sill_index_starts, sill_start_at, sill_starts_before};
 use sillgarland_sys::{sill_join, sill_line_after, sill_read_exceptions, sill_write_exceptions};
 use sillgarland_sys::{sill_leaf, sill_locate_node, sill_read, sill_salvage, sill_sources, sill_write};
@@ -34,6 +36,11 @@ pub fn hold() -> bool {
         count(&mut tally, "sill_read_exceptions", sill_read_exceptions(n, 0, w, 0), no_entries);
         let nothing = Written { refusal: refusals::ACCEPTED, place: 0, written: 0 };
         count(&mut tally, "sill_write_exceptions", sill_write_exceptions(null(), 0, m, 0), nothing);
+        let few = Totalled { refusal: refusals::NO_ROOM, place: 0 };
+        count(&mut tally, "sill_totals", sill_totals(null(), 0, null(), 0, null_mut(), 0), few);
+        count(&mut tally, "sill_add_totals", sill_add_totals(null(), 0, null(), 0, null_mut(), 0), few);
+        let no_bytes = Written { refusal: refusals::NO_ROOM, place: 0, written: 0 };
+        count(&mut tally, "sill_print_totals", sill_print_totals(null(), 0, m, 0), no_bytes);
         count(&mut tally, "sill_locate", sill_locate(n, 0, 1, 0, w, 0), no_instructions);
         count(&mut tally, "sill_locations", sill_locations(n, 0, 1, 0, w, 0, null_mut(), 0), no_instructions);
         let empty = Salvaged {

@@ -12,6 +12,7 @@ usage: rig [--tables FILE]                       compare with the carried Rust, 
        rig --joins [--tables FILE]               joins of line tables: the model, and the carried Rust beside it, nothing else
        rig --sources                             where instructions' places come from: the model, nothing else
        rig --starts                              row starts: the model, nothing else
+       rig --totals                              nightly totals: the model, nothing else
        rig --goldens PATH..                      compare on golden files; without a PATH, say how
        rig --extremes                            values and line tables of 16 MiB in each extreme shape, timed
        rig --has-rust                            say yes or no: whether it was built with the carried Rust
@@ -42,6 +43,7 @@ pub enum Task {
     Joins,
     Sources,
     Starts,
+    Totals,
     Replay,
     Goldens(Vec<String>),
     HasRust,
@@ -77,6 +79,7 @@ impl Options {
                 "--goldens" => {
                     options.set(Task::Goldens(words.by_ref().collect()))?;
                 }
+                "--totals" => options.set(Task::Totals)?,
                 "--exceptions" => options.set(Task::Exceptions)?,
                 "--joins" => options.set(Task::Joins)?,
                 "--sources" => options.set(Task::Sources)?,

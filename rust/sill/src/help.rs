@@ -183,7 +183,26 @@ differ, the first difference is shown: the path that leads to it, and the place 
     options: &[HELP],
 };
 
-const PAGES: [&Page; 7] = [&CHECK, &SHOW, &LINES, &ROW, &WRITE, &REPAIR, &DIFF];
+pub const TOTALS: Page = Page {
+    name: "totals",
+    operands: "PATH..",
+    takes: 1..=usize::MAX,
+    summary: "count how many files are accepted, how many refused, and by which refusal",
+    text: "\
+PATH is a file, a folder as for sill check, or - for paths that standard input lists, one a line. An input is a file: accepted
+where all its values are read to its end, else counted under its first refusal. Line tables are not looked at; sill check does
+that. A file that cannot be opened is in no count; it is told on standard error, and the exit status is 2.
+
+The output is 29 lines, zero lines included: inputs, accepted, refused, then refusal N COUNT for N from 1 to 26. Accepted plus
+refused is inputs. Counts of parts add up: however files are split among machines, --add of their outputs is byte for byte the
+output of one. The exit status does not depend on how many files are refused.",
+    options: &[
+        Known { short: None, long: "add", word: None, text: "each PATH is the output of sill totals; print their sum" },
+        HELP,
+    ],
+};
+
+const PAGES: [&Page; 8] = [&CHECK, &SHOW, &LINES, &ROW, &WRITE, &REPAIR, &DIFF, &TOTALS];
 
 impl Page {
     /// The option that goes by this name, dashes included.

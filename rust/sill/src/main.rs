@@ -12,6 +12,7 @@ mod row;
 mod show;
 mod terminal;
 mod text;
+mod totals;
 mod write;
 
 use help::Page;
@@ -39,7 +40,7 @@ impl From<Outcome> for ExitCode {
 
 type Command = fn(&Arguments, &mut dyn Write) -> io::Result<Outcome>;
 
-const COMMANDS: [(&Page, Command); 7] = [
+const COMMANDS: [(&Page, Command); 8] = [
     (&help::CHECK, check::run),
     (&help::SHOW, show::run),
     (&help::LINES, lines::run),
@@ -47,6 +48,7 @@ const COMMANDS: [(&Page, Command); 7] = [
     (&help::WRITE, write::run),
     (&help::REPAIR, repair::run),
     (&help::DIFF, diff::run),
+    (&help::TOTALS, totals::run),
 ];
 
 fn main() -> ExitCode {

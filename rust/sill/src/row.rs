@@ -83,11 +83,7 @@ impl Told {
             writeln!(out, "  instruction {at} starts it, {} of it", text::count(*many, "instruction"))?;
         }
         if self.unsure > 0 {
-            writeln!(
-                out,
-                "  without a sure row, and not counted: {}",
-                text::count(self.unsure, "instruction")
-            )?;
+            writeln!(out, "  without a sure row, and not counted: {}", text::count(self.unsure, "instruction"))?;
         }
         Ok(!self.starts.is_empty())
     }

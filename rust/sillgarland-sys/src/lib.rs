@@ -27,6 +27,17 @@ pub struct Found {
     pub next: u64,
 }
 
+/// How many counters totals have: inputs, accepted, refused, then each refusal 1 to 26.
+pub const COUNTERS: usize = 29;
+
+/// What counting answers or adding totals answers.
+#[repr(C)]
+#[derive(Clone, Copy, Debug, PartialEq, Eq)]
+pub struct Totalled {
+    pub refusal: u32,
+    pub place: u32,
+}
+
 /// What reading an exception table answers: how many entries there are, five numbers each.
 #[repr(C)]
 #[derive(Clone, Copy, Debug, PartialEq, Eq)]
@@ -171,6 +182,23 @@ unsafe extern "C" {
         entries_len: usize,
     ) -> Exceptions;
     pub fn sill_write_exceptions(entries: *const u32, entries_len: usize, out: *mut u8, out_len: usize) -> Written;
+    pub fn sill_totals(
+        before: *const u64,
+        before_len: usize,
+        answers: *const u32,
+        answers_len: usize,
+        after: *mut u64,
+        after_len: usize,
+    ) -> Totalled;
+    pub fn sill_add_totals(
+        a: *const u64,
+        a_len: usize,
+        b: *const u64,
+        b_len: usize,
+        sum: *mut u64,
+        sum_len: usize,
+    ) -> Totalled;
+    pub fn sill_print_totals(totals: *const u64, totals_len: usize, out: *mut u8, out_len: usize) -> Written;
     pub fn sill_locate(
         table: *const u8,
         table_len: usize,

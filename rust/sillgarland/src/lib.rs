@@ -41,6 +41,7 @@ mod refusal;
 mod salvage;
 mod same;
 mod starts;
+mod totals;
 mod value;
 mod write;
 
@@ -54,6 +55,7 @@ pub use refusal::{Place, Refusal, Refused};
 pub use salvage::{Salvaged, salvage};
 pub use same::{Difference, Path, Step, What, first_difference};
 pub use starts::Starts;
+pub use totals::{NotTotals, Totals};
 pub use value::{Children, Content, Text, Value, Wide};
 
 /// The longest input that is read, in bytes.

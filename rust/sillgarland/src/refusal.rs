@@ -79,7 +79,9 @@ impl Refusal {
                 "both line tables must be whole, and the second must start from the line that the first leaves"
             }
             Refusal::TrailingBytes => "the golden's values end here, and bytes follow",
-            Refusal::ValueTooLong => "the value that starts here is longer than 65,535 bytes, the most that a field holds",
+            Refusal::ValueTooLong => {
+                "the value that starts here is longer than 65,535 bytes, the most that a field holds"
+            }
         }
     }
 }
