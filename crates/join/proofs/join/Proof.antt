@@ -61,22 +61,44 @@ same-length-3 : tie.Need-same-length-3
 same-length-3 c = search needs
 
 returns-3 : tie.Need-returns-3
-returns-3 c = let l = c .before .before .before .before .before .before .before .before .before .before .clear-bytes .kept .0 in joins-short _ _ _ _ _ _ _ (sym (c .before .before .before .before .before .before .before .too-long .ensures) ∙ c .before .before .before .before .before .before .if1 .left) (c .before .before .before .before .before .meet .ensures) (not-false _ (c .before .before .before .if2 .left)) (omega (arith, l, c .before .before .if3 .taken)) (c .refusal3 .ensures ∙ ap (refusedWith noRoom) (c .before .short-place .ensures ∙ ap (λ i. min i 4294967295) l)) (c .before .before .before .before .before .before .before .before .before .before .clear-bytes .ensures)
+returns-3 c =
+    let at-meet = c .before .before .before .before .before in
+    let at-if1 = at-meet .before in
+    let at-too-long = at-if1 .before in
+    let at-clear-bytes = at-too-long .before .before .before in
+    let l = at-clear-bytes .clear-bytes .kept .0 in joins-short _ _ _ _ _ _ _ (sym (at-too-long .too-long .ensures) ∙ at-if1 .if1 .left) (at-meet .meet .ensures) (not-false _ (c .before .before .before .if2 .left)) (omega (arith, l, c .before .before .if3 .taken)) (c .refusal3 .ensures ∙ ap (refusedWith noRoom) (c .before .short-place .ensures ∙ ap (λ i. min i 4294967295) l)) (at-clear-bytes .clear-bytes .ensures)
 
 write-both-requires : tie.Need-write-both-requires
 write-both-requires c κs = search needs
 
 cast-t21 : tie.Need-cast-t21
-cast-t21 c = let a = c .before .before .before .before .before .before .before .before .before .before .before .before .before .before .before .before .before .args in let h = ltb-false mostBytes (length (a .a .now) + length (a .b .now)) (sym (c .before .before .before .before .before .before .before .before .before .too-long .ensures) ∙ c .before .before .before .before .before .before .before .before .if1 .left) in omega (arith, h)
+cast-t21 c =
+    let at-if1 = c .before .before .before .before .before .before .before .before in
+    let at-too-long = at-if1 .before in
+    let at-args = at-too-long .before .before .before .before .before .before .before .before in
+    let a = at-args .args in let h = ltb-false mostBytes (length (a .a .now) + length (a .b .now)) (sym (at-too-long .too-long .ensures) ∙ at-if1 .if1 .left) in omega (arith, h)
 
 add-t22 : tie.Need-add-t22
-add-t22 c = let a = c .before .before .before .before .before .before .before .before .before .before .before .before .before .before .before .before .before .args in let h = ltb-false mostBytes (length (a .a .now) + length (a .b .now)) (sym (c .before .before .before .before .before .before .before .before .before .too-long .ensures) ∙ c .before .before .before .before .before .before .before .before .if1 .left) in omega (arith, met-small (a .a .now) (a .first-a) (a .count-a) (a .b .now) (a .first-b) (a .count-b) (c .before .before .before .before .before .before .before .meet .ensures) (not-false _ (c .before .before .before .before .before .if2 .left)) h)
+add-t22 c =
+    let at-if2 = c .before .before .before .before .before in
+    let at-meet = at-if2 .before .before in
+    let at-if1 = at-meet .before in
+    let at-too-long = at-if1 .before in
+    let at-args = at-too-long .before .before .before .before .before .before .before .before in
+    let a = at-args .args in let h = ltb-false mostBytes (length (a .a .now) + length (a .b .now)) (sym (at-too-long .too-long .ensures) ∙ at-if1 .if1 .left) in omega (arith, met-small (a .a .now) (a .first-a) (a .count-a) (a .b .now) (a .first-b) (a .count-b) (at-meet .meet .ensures) (not-false _ (at-if2 .if2 .left)) h)
 
 same-length-4 : tie.Need-same-length-4
 same-length-4 c = search needs
 
 returns-4 : tie.Need-returns-4
-returns-4 c = let l = c .before .before .before .before .before .before .before .before .before .before .before .before .clear-bytes .kept .0 in joins-done _ _ _ _ _ _ _ (sym (c .before .before .before .before .before .before .before .before .before .too-long .ensures) ∙ c .before .before .before .before .before .before .before .before .if1 .left) (c .before .before .before .before .before .before .before .meet .ensures) (not-false _ (c .before .before .before .before .before .if2 .left)) (omega (arith, l, c .before .before .before .before .if3 .left)) (c .before .before .before .before .before .before .before .before .before .before .before .before .clear-bytes .ensures) (c .before .before .write-both .ensures)
+returns-4 c =
+    let at-if3 = c .before .before .before .before in
+    let at-if2 = at-if3 .before in
+    let at-meet = at-if2 .before .before in
+    let at-if1 = at-meet .before in
+    let at-too-long = at-if1 .before in
+    let at-clear-bytes = at-too-long .before .before .before in
+    let l = at-clear-bytes .clear-bytes .kept .0 in joins-done _ _ _ _ _ _ _ (sym (at-too-long .too-long .ensures) ∙ at-if1 .if1 .left) (at-meet .meet .ensures) (not-false _ (at-if2 .if2 .left)) (omega (arith, l, at-if3 .if3 .left)) (at-clear-bytes .clear-bytes .ensures) (c .before .before .write-both .ensures)
 
 pub join-spec : {M : Type 1} → statement M
 join-spec =

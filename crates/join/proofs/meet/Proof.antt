@@ -31,10 +31,19 @@ apart-requires-3 : tie.Need-apart-requires-3
 apart-requires-3 c κs = search needs
 
 returns-3 : tie.Need-returns-3
-returns-3 c = meet-latter _ _ _ _ _ _ (c .before .before .before .before .before .before .before .before .before .before .before .pre .0) (c .before .before .before .before .before .before .before .before .before .before .before .pre .1) (c .before .before .before .before .before .before .before .before .line-told .ensures) (not-false _ (c .before .before .before .before .before .before .if1 .left)) (c .before .before .before .before .if2 .left) (c .before .before .before .line-told2 .ensures) (not-true _ (c .before .if3 .taken)) (c .apart3 .ensures)
+returns-3 c =
+    let at-if2 = c .before .before .before .before in
+    let at-if1 = at-if2 .before .before in
+    let at-line-told = at-if1 .before .before in
+    let at-pre = at-line-told .before .before .before in
+    meet-latter _ _ _ _ _ _ (at-pre .pre .0) (at-pre .pre .1) (at-line-told .line-told .ensures) (not-false _ (at-if1 .if1 .left)) (at-if2 .if2 .left) (c .before .before .before .line-told2 .ensures) (not-true _ (c .before .if3 .taken)) (c .apart3 .ensures)
 
 returns-4 : tie.Need-returns-4
-returns-4 c = meet-all _ _ _ _ _ _ (c .before .before .before .before .before .before .before .before .before .before .pre .0) (c .before .before .before .before .before .before .before .before .before .before .pre .1) (c .before .before .before .before .before .before .before .line-told .ensures) (not-false _ (c .before .before .before .before .before .if1 .left)) (c .before .before .before .if2 .left) (c .before .before .line-told2 .ensures) (not-false _ (c .if3 .left))
+returns-4 c =
+    let at-if1 = c .before .before .before .before .before in
+    let at-line-told = at-if1 .before .before in
+    let at-pre = at-line-told .before .before .before in
+    meet-all _ _ _ _ _ _ (at-pre .pre .0) (at-pre .pre .1) (at-line-told .line-told .ensures) (not-false _ (at-if1 .if1 .left)) (c .before .before .before .if2 .left) (c .before .before .line-told2 .ensures) (not-false _ (c .if3 .left))
 
 pub meet-spec : {M : Type 1} → statement M
 meet-spec =

@@ -28,8 +28,13 @@ same-length c = search needs
 
 returns : tie.Need-returns
 returns c =
-    let a = c .before .before .before .before .before .before .before .before .before .before .before .before .args in
-    sixteen-stored (a .out .now) (a .at) (a .s .now) (λ i. omega (arith, c .before .before .before .before .before .before .before .before .before .before .shared-slice-known .given i)) (a .from) (c .before .before .before .before .before .before .before .before .before .before .before .before .pre .1) (c .before .before .before .before .before .before .before .before .before .le64 .ensures) (c .before .before .before .before .before .before .before .before .le642 .ensures) (c .before .before .before .before .before .before .store-u64 .ensures) (c .before .before .store-u642 .ensures)
+    let at-store-u64 = c .before .before .before .before .before .before in
+    let at-le642 = at-store-u64 .before .before in
+    let at-le64 = at-le642 .before in
+    let at-shared-slice-known = at-le64 .before in
+    let at-args = at-shared-slice-known .before .before in
+    let a = at-args .args in
+    sixteen-stored (a .out .now) (a .at) (a .s .now) (λ i. omega (arith, at-shared-slice-known .shared-slice-known .given i)) (a .from) (at-args .pre .1) (at-le64 .le64 .ensures) (at-le642 .le642 .ensures) (at-store-u64 .store-u64 .ensures) (c .before .before .store-u642 .ensures)
 
 pub store-sixteen-spec : {M : Type 1} → statement M
 store-sixteen-spec =

@@ -44,7 +44,10 @@ same-length : tie.Need-same-length
 same-length c = c .before .before .store-slice .kept .0 ∙ c .before .before .before .before .before .before .store-u32 .kept .0 ∙ simp length-set
 
 returns-2 : tie.Need-returns-2
-returns-2 c = vec-placed (c .before .before .before .before .before .before .before .before .before .before .before .args .out .now) (c .before .before .before .before .before .before .before .before .before .before .before .args .at) (c .before .before .before .before .before .before .before .before .before .before .before .args .letter) (c .before .before .before .before .before .before .before .before .before .before .before .args .s .now) (c .before .before .before .before .before .before .before .before .before .before .before .args .from) (c .before .before .before .before .before .before .before .before .before .before .before .args .size) (c .before .before .before .before .before .before .before .before .before .before .before .pre .1) (omega arith) (c .before .before .before .before .before .before .store-u32 .ensures) (c .before .before .store-slice .ensures)
+returns-2 c =
+    let at-store-u32 = c .before .before .before .before .before .before in
+    let at-args = at-store-u32 .before .before .before .before .before in
+    vec-placed (at-args .args .out .now) (at-args .args .at) (at-args .args .letter) (at-args .args .s .now) (at-args .args .from) (at-args .args .size) (at-args .pre .1) (omega arith) (at-store-u32 .store-u32 .ensures) (c .before .before .store-slice .ensures)
 
 pub write-vec-spec : {M : Type 1} → statement M
 write-vec-spec =

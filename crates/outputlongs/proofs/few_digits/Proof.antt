@@ -60,7 +60,10 @@ add-result-3 : tie.Need-add-result-3
 add-result-3 c = search needs
 
 returns-4 : tie.Need-returns-4
-returns-4 c = digits-3 (c .before .before .before .before .before .before .before .args .s .now) (c .before .before .before .before .before .before .before .args .count) (c .before .before .before .before .before .before .before .args .at) (omega arith) (λ e. omega arith) (λ e. omega arith) (λ e. omega arith) (c .before .before .before .before .le16 .ensures .0) (c .before .before .le162 .ensures .0) (c .le163 .ensures .0)
+returns-4 c =
+    let at-le16 = c .before .before .before .before in
+    let at-args = at-le16 .before .before .before in
+    digits-3 (at-args .args .s .now) (at-args .args .count) (at-args .args .at) (omega arith) (λ e. omega arith) (λ e. omega arith) (λ e. omega arith) (at-le16 .le16 .ensures .0) (c .before .before .le162 .ensures .0) (c .le163 .ensures .0)
 
 pub few-digits-spec : {M : Type 1} → statement M
 few-digits-spec =

@@ -59,7 +59,12 @@ same-length : tie.Need-same-length
 same-length c = c .before .before .store-digits .kept .0 ∙ c .before .before .before .before .before .before .store-u32 .kept .0 ∙ simp length-set
 
 returns-2 : tie.Need-returns-2
-returns-2 c = digits-placed (c .before .before .before .before .before .before .before .before .before .before .before .before .args .out .now) (c .before .before .before .before .before .before .before .before .before .before .before .before .args .at) (c .before .before .before .before .before .before .before .before .before .before .before .before .args .negative) (c .before .before .before .before .before .before .before .before .before .before .before .before .args .magnitude) (c .before .before .before .before .before .before .before .before .before .before .digits-in .result) (c .before .before .before .before .before .before .before .before .before .before .digits-in .ensures .0) (omega arith) (c .before .before .before .before .before .before .before .signed-count .ensures) (c .before .before .before .before .before .before .store-u32 .ensures) (c .before .before .store-digits .ensures)
+returns-2 c =
+    let at-store-u32 = c .before .before .before .before .before .before in
+    let at-signed-count = at-store-u32 .before in
+    let at-digits-in = at-signed-count .before .before .before in
+    let at-args = at-digits-in .before .before in
+    digits-placed (at-args .args .out .now) (at-args .args .at) (at-args .args .negative) (at-args .args .magnitude) (at-digits-in .digits-in .result) (at-digits-in .digits-in .ensures .0) (omega arith) (at-signed-count .signed-count .ensures) (at-store-u32 .store-u32 .ensures) (c .before .before .store-digits .ensures)
 
 pub write-digits-spec : {M : Type 1} → statement M
 write-digits-spec =

@@ -21,7 +21,11 @@ same-length : tie.Need-same-length
 same-length c = search needs
 
 returns : tie.Need-returns
-returns c = puts-as (c .before .before .write-slice .ensures) (int64-low (c .before .before .before .before .before .before .before .before .args .s .now) (λ i. omega (arith, c .before .before .before .before .before .before .shared-slice-known .given i)) (c .before .before .before .before .before .before .before .before .args .place) (c .before .before .before .before .before .before .before .before .pre .1) (omega (arith, c .before .before .before .before .before .le64 .ensures)))
+returns c =
+    let at-le64 = c .before .before .before .before .before in
+    let at-shared-slice-known = at-le64 .before in
+    let at-args = at-shared-slice-known .before .before in
+    puts-as (c .before .before .write-slice .ensures) (int64-low (at-args .args .s .now) (λ i. omega (arith, at-shared-slice-known .shared-slice-known .given i)) (at-args .args .place) (at-args .pre .1) (omega (arith, at-le64 .le64 .ensures)))
 
 write-slice-requires-2 : tie.Need-write-slice-requires-2
 write-slice-requires-2 c κs = search needs
@@ -30,7 +34,11 @@ same-length-2 : tie.Need-same-length-2
 same-length-2 c = search needs
 
 returns-2 : tie.Need-returns-2
-returns-2 c = puts-as (c .before .before .write-slice2 .ensures) (int64-high (c .before .before .before .before .before .before .before .before .before .args .s .now) (λ i. omega (arith, c .before .before .before .before .before .before .before .shared-slice-known .given i)) (c .before .before .before .before .before .before .before .before .before .args .place) (c .before .before .before .before .before .before .before .before .before .pre .1) (omega (arith, c .before .before .before .before .before .before .le64 .ensures)))
+returns-2 c =
+    let at-le64 = c .before .before .before .before .before .before in
+    let at-shared-slice-known = at-le64 .before in
+    let at-args = at-shared-slice-known .before .before in
+    puts-as (c .before .before .write-slice2 .ensures) (int64-high (at-args .args .s .now) (λ i. omega (arith, at-shared-slice-known .shared-slice-known .given i)) (at-args .args .place) (at-args .pre .1) (omega (arith, at-le64 .le64 .ensures)))
 
 write-digits-requires : tie.Need-write-digits-requires
 write-digits-requires c κs = search needs
@@ -39,7 +47,11 @@ same-length-3 : tie.Need-same-length-3
 same-length-3 c = search needs
 
 returns-3 : tie.Need-returns-3
-returns-3 c = puts-as (c .before .before .write-digits .ensures) (int64-positive (c .before .before .before .before .before .before .before .before .before .before .args .s .now) (λ i. omega (arith, c .before .before .before .before .before .before .before .before .shared-slice-known .given i)) (c .before .before .before .before .before .before .before .before .before .before .args .place) (c .before .before .before .before .before .before .before .before .before .before .pre .1) (omega (arith, c .before .before .before .before .before .before .before .le64 .ensures)) (omega (arith, c .before .before .before .before .before .before .before .le64 .ensures)) ∙ ap (λ m. longBytes (record { negative = false; magnitude = m })) (sym (c .before .before .before .before .before .before .before .le64 .ensures)))
+returns-3 c =
+    let at-le64 = c .before .before .before .before .before .before .before in
+    let at-shared-slice-known = at-le64 .before in
+    let at-args = at-shared-slice-known .before .before in
+    puts-as (c .before .before .write-digits .ensures) (int64-positive (at-args .args .s .now) (λ i. omega (arith, at-shared-slice-known .shared-slice-known .given i)) (at-args .args .place) (at-args .pre .1) (omega (arith, at-le64 .le64 .ensures)) (omega (arith, at-le64 .le64 .ensures)) ∙ ap (λ m. longBytes (record { negative = false; magnitude = m })) (sym (at-le64 .le64 .ensures)))
 
 sub-write-digits : tie.Need-sub-write-digits
 sub-write-digits c = search needs

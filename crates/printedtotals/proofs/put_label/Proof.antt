@@ -53,19 +53,43 @@ sub-put-decimal : tie.Need-sub-put-decimal
 sub-put-decimal c = search needs
 
 put-decimal-requires : tie.Need-put-decimal-requires
-put-decimal-requires c κs = omega (arith, c .before .before .before .put-refusal .kept .0, length-more (c .before .before .before .before .before .before .before .before .before .args .i) (past-two (c .before .before .before .before .before .before .before .before .before .args .i) (c .before .before .before .before .before .before .before .if1 .left) (c .before .before .before .before .before .before .if2 .left) (c .before .before .before .before .before .if3 .left)))
+put-decimal-requires c κs =
+    let at-if3 = c .before .before .before .before .before in
+    let at-if2 = at-if3 .before in
+    let at-if1 = at-if2 .before in
+    let at-args = at-if1 .before .before in
+    omega (arith, c .before .before .before .put-refusal .kept .0, length-more (at-args .args .i) (past-two (at-args .args .i) (at-if1 .if1 .left) (at-if2 .if2 .left) (at-if3 .if3 .left)))
 
 put-byte-requires : tie.Need-put-byte-requires
-put-byte-requires c κs = omega (arith, c .before .before .before .put-decimal .kept .0, c .before .before .before .put-decimal .ensures .0, c .before .before .before .before .before .before .before .put-refusal .kept .0, length-more (c .before .before .before .before .before .before .before .before .before .before .before .before .before .args .i) (past-two (c .before .before .before .before .before .before .before .before .before .before .before .before .before .args .i) (c .before .before .before .before .before .before .before .before .before .before .before .if1 .left) (c .before .before .before .before .before .before .before .before .before .before .if2 .left) (c .before .before .before .before .before .before .before .before .before .if3 .left)))
+put-byte-requires c κs =
+    let at-put-refusal = c .before .before .before .before .before .before .before in
+    let at-if3 = at-put-refusal .before .before in
+    let at-if2 = at-if3 .before in
+    let at-if1 = at-if2 .before in
+    let at-args = at-if1 .before .before in
+    omega (arith, c .before .before .before .put-decimal .kept .0, c .before .before .before .put-decimal .ensures .0, at-put-refusal .put-refusal .kept .0, length-more (at-args .args .i) (past-two (at-args .args .i) (at-if1 .if1 .left) (at-if2 .if2 .left) (at-if3 .if3 .left)))
 
 add-result-4 : tie.Need-add-result-4
-add-result-4 c = record { fits = omega (arith, c .before .before .before .before .before .before .put-decimal .ensures .0, length-more (c .before .before .before .before .before .before .before .before .before .before .before .before .before .before .before .before .args .i) (past-two (c .before .before .before .before .before .before .before .before .before .before .before .before .before .before .before .before .args .i) (c .before .before .before .before .before .before .before .before .before .before .before .before .before .before .if1 .left) (c .before .before .before .before .before .before .before .before .before .before .before .before .before .if2 .left) (c .before .before .before .before .before .before .before .before .before .before .before .before .if3 .left))) }
+add-result-4 c =
+    let at-put-decimal = c .before .before .before .before .before .before in
+    let at-if3 = at-put-decimal .before .before .before .before .before .before in
+    let at-if2 = at-if3 .before in
+    let at-if1 = at-if2 .before in
+    let at-args = at-if1 .before .before in
+    record { fits = omega (arith, at-put-decimal .put-decimal .ensures .0, length-more (at-args .args .i) (past-two (at-args .args .i) (at-if1 .if1 .left) (at-if2 .if2 .left) (at-if3 .if3 .left))) }
 
 same-length-4 : tie.Need-same-length-4
 same-length-4 c = search needs
 
 returns-4 : tie.Need-returns-4
-returns-4 c = put-more (c .before .before .before .before .before .before .before .before .before .before .before .before .before .before .before .before .args .out .now) (c .before .before .before .before .before .before .before .before .before .before .before .before .before .before .before .before .args .at) (c .before .before .before .before .before .before .before .before .before .before .before .before .before .before .before .before .args .i) (past-two (c .before .before .before .before .before .before .before .before .before .before .before .before .before .before .before .before .args .i) (c .before .before .before .before .before .before .before .before .before .before .before .before .before .before .if1 .left) (c .before .before .before .before .before .before .before .before .before .before .before .before .before .if2 .left) (c .before .before .before .before .before .before .before .before .before .before .before .before .if3 .left)) (c .before .before .before .before .before .before .before .before .before .before .put-refusal .ensures) (c .before .before .before .before .before .before .put-decimal .ensures) (c .before .before .put-byte .ensures)
+returns-4 c =
+    let at-put-decimal = c .before .before .before .before .before .before in
+    let at-put-refusal = at-put-decimal .before .before .before .before in
+    let at-if3 = at-put-refusal .before .before in
+    let at-if2 = at-if3 .before in
+    let at-if1 = at-if2 .before in
+    let at-args = at-if1 .before .before in
+    put-more (at-args .args .out .now) (at-args .args .at) (at-args .args .i) (past-two (at-args .args .i) (at-if1 .if1 .left) (at-if2 .if2 .left) (at-if3 .if3 .left)) (at-put-refusal .put-refusal .ensures) (at-put-decimal .put-decimal .ensures) (c .before .before .put-byte .ensures)
 
 pub put-label-spec : {M : Type 1} → statement M
 put-label-spec =

@@ -27,7 +27,12 @@ enum-told : tie.Need-enum-told
 enum-told c = search needs
 
 add-to-requires-2 : tie.Need-add-to-requires-2
-add-to-requires-2 c κs = fresh-alone (c .before .before .before .before .before .before .before .before .before .before .before .before .before .before .before .args .a .now) (c .before .before .before .before .before .before .before .before .before .before .before .before .before .before .before .args .b .now) (length (c .before .before .before .before .before .before .before .before .before .before .before .before .before .before .before .args .sum .now)) (c .before .before .before .before .before .before .before .before .before .before .clear-counters .ensures) (c .before .before .before .before .before .before .before .if1 .left) (c .before .before .before .before .before .add-to .ensures) (c .before .enum-told .given .1)
+add-to-requires-2 c κs =
+    let at-add-to = c .before .before .before .before .before in
+    let at-if1 = at-add-to .before .before in
+    let at-clear-counters = at-if1 .before .before .before in
+    let at-args = at-clear-counters .before .before .before .before .before in
+    fresh-alone (at-args .args .a .now) (at-args .args .b .now) (length (at-args .args .sum .now)) (at-clear-counters .clear-counters .ensures) (at-if1 .if1 .left) (at-add-to .add-to .ensures) (c .before .enum-told .given .1)
 
 enum-known-number : tie.Need-enum-known-number
 enum-known-number c = search needs
@@ -36,7 +41,12 @@ same-length-2 : tie.Need-same-length-2
 same-length-2 c = search needs
 
 returns-2 : tie.Need-returns-2
-returns-2 c = c .before .before .add-to2 .ensures ∙ added-both _ _ _ (c .before .before .before .before .before .before .before .before .before .before .before .before .before .clear-counters .ensures) (c .before .before .before .before .before .before .before .before .before .before .if1 .left) (c .before .before .before .before .before .before .before .before .add-to .ensures) (c .before .before .before .before .enum-told .given .1)
+returns-2 c =
+    let at-enum-told = c .before .before .before .before in
+    let at-add-to = at-enum-told .before .before .before .before in
+    let at-if1 = at-add-to .before .before in
+    let at-clear-counters = at-if1 .before .before .before in
+    c .before .before .add-to2 .ensures ∙ added-both _ _ _ (at-clear-counters .clear-counters .ensures) (at-if1 .if1 .left) (at-add-to .add-to .ensures) (at-enum-told .enum-told .given .1)
 
 same-length-3 : tie.Need-same-length-3
 same-length-3 c = search needs

@@ -30,7 +30,12 @@ same-length-2 : tie.Need-same-length-2
 same-length-2 c = search needs
 
 returns-2 : tie.Need-returns-2
-returns-2 c = c .before .before .add-to .ensures ∙ totals-summed _ _ _ (omega (arith, c .before .before .before .before .before .before .before .before .before .if1 .left, c .before .before .before .before .before .before .before .before .before .before .before .before .clear-counters .kept .0)) (c .before .before .before .before .before .before .before .tally .kept .0 ∙ c .before .before .before .before .before .before .before .before .before .before .before .before .clear-counters .kept .0) (c .before .before .before .before .before .before .before .tally .ensures) (c .before .before .before .before .if2 .taken)
+returns-2 c =
+    let at-if2 = c .before .before .before .before in
+    let at-tally = at-if2 .before .before .before in
+    let at-if1 = at-tally .before .before in
+    let at-clear-counters = at-if1 .before .before .before in
+    c .before .before .add-to .ensures ∙ totals-summed _ _ _ (omega (arith, at-if1 .if1 .left, at-clear-counters .clear-counters .kept .0)) (at-tally .tally .kept .0 ∙ at-clear-counters .clear-counters .kept .0) (at-tally .tally .ensures) (at-if2 .if2 .taken)
 
 clear-counters-requires-2 : tie.Need-clear-counters-requires-2
 clear-counters-requires-2 c κs = search needs
@@ -39,7 +44,12 @@ same-length-3 : tie.Need-same-length-3
 same-length-3 c = search needs
 
 returns-3 : tie.Need-returns-3
-returns-3 c = totals-unknown _ _ _ _ (omega (arith, c .before .before .before .before .before .before .before .before .before .if1 .left, c .before .before .before .before .before .before .before .before .before .before .before .before .clear-counters .kept .0)) (c .before .before .before .before .before .before .before .tally .ensures) (c .before .before .before .before .if2 .left) (c .before .before .clear-counters2 .ensures) (c .before .before .before .before .before .before .before .tally .kept .0 ∙ c .before .before .before .before .before .before .before .before .before .before .before .before .clear-counters .kept .0)
+returns-3 c =
+    let at-if2 = c .before .before .before .before in
+    let at-tally = at-if2 .before .before .before in
+    let at-if1 = at-tally .before .before in
+    let at-clear-counters = at-if1 .before .before .before in
+    totals-unknown _ _ _ _ (omega (arith, at-if1 .if1 .left, at-clear-counters .clear-counters .kept .0)) (at-tally .tally .ensures) (at-if2 .if2 .left) (c .before .before .clear-counters2 .ensures) (at-tally .tally .kept .0 ∙ at-clear-counters .clear-counters .kept .0)
 
 pub count-answers-spec : {M : Type 1} → statement M
 count-answers-spec =

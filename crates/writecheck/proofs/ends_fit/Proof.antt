@@ -27,10 +27,24 @@ node-of-requires-3 : tie.Need-node-of-requires-3
 node-of-requires-3 c κs = search needs
 
 returns : tie.Need-returns
-returns c = ends-not (c .before .before .before .before .before .before .before .before .before .before .before .args .nodes .now) (c .before .before .before .before .before .before .before .before .part-at .ensures) (c .before .before .before .before .before .before .part-at2 .ensures) (c .before .before .before .before .part-at3 .ensures) (ap (λ (m : Node). m .count) (c .before .before .before .before .before .node-of2 .ensures)) (ap (λ (m : Node). m .size) (c .before .before .before .node-of3 .ensures)) (λ e. omega arith)
+returns c =
+    let at-part-at3 = c .before .before .before .before in
+    let at-node-of2 = at-part-at3 .before in
+    let at-part-at2 = at-node-of2 .before in
+    let at-part-at = at-part-at2 .before .before in
+    let at-args = at-part-at .before .before .before in
+    ends-not (at-args .args .nodes .now) (at-part-at .part-at .ensures) (at-part-at2 .part-at2 .ensures) (at-part-at3 .part-at3 .ensures) (ap (λ (m : Node). m .count) (at-node-of2 .node-of2 .ensures)) (ap (λ (m : Node). m .size) (c .before .before .before .node-of3 .ensures)) (λ e. omega arith)
 
 returns-2 : tie.Need-returns-2
-returns-2 c = ends-so (c .before .before .before .before .before .before .before .before .before .before .before .before .args .nodes .now) (c .before .before .before .before .before .before .before .before .before .part-at .ensures) (c .before .before .before .before .before .before .before .part-at2 .ensures) (c .before .before .before .before .before .part-at3 .ensures) (ap (λ (m : Node). m .size) (c .before .before .before .before .before .before .before .before .node-of .ensures)) (ap (λ (m : Node). m .count) (c .before .before .before .before .before .before .node-of2 .ensures)) (ap (λ (m : Node). m .size) (c .before .before .before .before .node-of3 .ensures)) (omega arith)
+returns-2 c =
+    let at-node-of3 = c .before .before .before .before in
+    let at-part-at3 = at-node-of3 .before in
+    let at-node-of2 = at-part-at3 .before in
+    let at-part-at2 = at-node-of2 .before in
+    let at-node-of = at-part-at2 .before in
+    let at-part-at = at-node-of .before in
+    let at-args = at-part-at .before .before .before in
+    ends-so (at-args .args .nodes .now) (at-part-at .part-at .ensures) (at-part-at2 .part-at2 .ensures) (at-part-at3 .part-at3 .ensures) (ap (λ (m : Node). m .size) (at-node-of .node-of .ensures)) (ap (λ (m : Node). m .count) (at-node-of2 .node-of2 .ensures)) (ap (λ (m : Node). m .size) (at-node-of3 .node-of3 .ensures)) (omega arith)
 
 pub ends-fit-spec : {M : Type 1} → statement M
 ends-fit-spec =

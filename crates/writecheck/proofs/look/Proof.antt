@@ -31,20 +31,28 @@ parts-fit-requires c κs = search needs
 
 returns-3 : tie.Need-returns-3
 returns-3 c =
-    let a = c .before .before .before .before .before .before .before .before .before .before .args in
+    let at-node-of = c .before .before .before .before in
+    let at-if1 = at-node-of .before in
+    let at-whole = at-if1 .before in
+    let at-args = at-whole .before .before .before .before in
+    let a = at-args .args in
     let t = lent (a .s .now) (a .nodes .now) (a .entries .now) (a .used) in
-    let node-of = c .before .before .before .before .node-of .ensures in
-    let w = (some-is (Record.whole t (a .node)) (sym (not-false _ (c .before .before .before .before .before .if1 .left)) ∙ c .before .before .before .before .before .before .whole .ensures)) in let l = (ap (λ (m : Node). m .letter) node-of) in look-parts t (a .node) (w .0) (w .1) (omega arith) (c .before .before .before .before .node-of .result .first) (ap (λ (m : Node). m .first) node-of) (c .before .parts-fit .ensures) (not-true _ (c .if3 .taken))
+    let node-of = at-node-of .node-of .ensures in
+    let w = (some-is (Record.whole t (a .node)) (sym (not-false _ (at-if1 .if1 .left)) ∙ at-whole .whole .ensures)) in let l = (ap (λ (m : Node). m .letter) node-of) in look-parts t (a .node) (w .0) (w .1) (omega arith) (at-node-of .node-of .result .first) (ap (λ (m : Node). m .first) node-of) (c .before .parts-fit .ensures) (not-true _ (c .if3 .taken))
 
 ends-fit-requires : tie.Need-ends-fit-requires
 ends-fit-requires c κs = search needs
 
 returns-4 : tie.Need-returns-4
 returns-4 c =
-    let a = c .before .before .before .before .before .before .before .before .before .before .before .args in
+    let at-node-of = c .before .before .before .before .before in
+    let at-if1 = at-node-of .before in
+    let at-whole = at-if1 .before in
+    let at-args = at-whole .before .before .before .before in
+    let a = at-args .args in
     let t = lent (a .s .now) (a .nodes .now) (a .entries .now) (a .used) in
-    let node-of = c .before .before .before .before .before .node-of .ensures in
-    let w = (some-is (Record.whole t (a .node)) (sym (not-false _ (c .before .before .before .before .before .before .if1 .left)) ∙ c .before .before .before .before .before .before .before .whole .ensures)) in let l = (ap (λ (m : Node). m .letter) node-of) in look-ends t (a .node) (w .0) (w .1) (omega arith) (c .before .before .before .before .before .node-of .result .first) (ap (λ (m : Node). m .first) node-of) (c .before .before .parts-fit .ensures) (not-false _ (c .before .if3 .left)) (c .ends-fit .ensures)
+    let node-of = at-node-of .node-of .ensures in
+    let w = (some-is (Record.whole t (a .node)) (sym (not-false _ (at-if1 .if1 .left)) ∙ at-whole .whole .ensures)) in let l = (ap (λ (m : Node). m .letter) node-of) in look-ends t (a .node) (w .0) (w .1) (omega arith) (at-node-of .node-of .result .first) (ap (λ (m : Node). m .first) node-of) (c .before .before .parts-fit .ensures) (not-false _ (c .before .if3 .left)) (c .ends-fit .ensures)
 
 pub look-spec : {M : Type 1} → statement M
 look-spec =

@@ -42,10 +42,15 @@ string-at-requires c κs = search needs
 
 returns-2 : tie.Need-returns-2 Inv-loop μ-loop
 returns-2 c =
-    let a = c .before .before .before .before .before .before .before .before .before .before .before .args in
+    let at-loop-test = c .before .before .before .before in
+    let at-loop = at-loop-test .before in
+    let at-at-most = at-loop .before in
+    let at-entries-in = at-at-most .before in
+    let at-args = at-entries-in .before .before .before .before in
+    let a = at-args .args in
     let t = lent (a .s .now) (a .nodes .now) (a .entries .now) (a .used) in
-    let entries-in = c .before .before .before .before .before .before .before .entries-in .ensures .0 in
-    named-are t (a .count) (a .first) entries-in (c .before .before .before .before .before .before .at-most .ensures) (walk-stop _ _ _ _ (c .before .before .before .before .before .loop .inv) (c .before .before .before .before .loop-test .taken) (spelt-as t (c .before .before .before .before .before .loop .e) entries-in (omega arith) (c .before .before .child-of .result) (c .before .before .child-of .ensures) (c .before .string-at .ensures) ∙ not-true _ (c .if2 .taken)))
+    let entries-in = at-entries-in .entries-in .ensures .0 in
+    named-are t (a .count) (a .first) entries-in (at-at-most .at-most .ensures) (walk-stop _ _ _ _ (at-loop .loop .inv) (at-loop-test .loop-test .taken) (spelt-as t (at-loop .loop .e) entries-in (omega arith) (c .before .before .child-of .result) (c .before .before .child-of .ensures) (c .before .string-at .ensures) ∙ not-true _ (c .if2 .taken)))
 
 next-of-requires : tie.Need-next-of-requires Inv-loop μ-loop
 next-of-requires c κs = search needs
@@ -58,9 +63,13 @@ loop-less c = search needs
 
 loop-again : tie.Need-loop-again Inv-loop μ-loop
 loop-again c =
-    let a = c .before .before .before .before .before .before .before .before .before .before .before .before .args in
+    let at-loop-test = c .before .before .before .before .before in
+    let at-loop = at-loop-test .before in
+    let at-entries-in = at-loop .before .before in
+    let at-args = at-entries-in .before .before .before .before in
+    let a = at-args .args in
     let t = lent (a .s .now) (a .nodes .now) (a .entries .now) (a .used) in
-    walk-more _ _ _ _ (c .before .before .before .before .before .before .loop .inv) (c .before .before .before .before .before .loop-test .taken) (spelt-as t (c .before .before .before .before .before .before .loop .e) (c .before .before .before .before .before .before .before .before .entries-in .ensures .0) (omega arith) (c .before .before .before .child-of .result) (c .before .before .before .child-of .ensures) (c .before .before .string-at .ensures) ∙ not-false _ (c .before .if2 .left)) (c .next-of .ensures)
+    walk-more _ _ _ _ (at-loop .loop .inv) (at-loop-test .loop-test .taken) (spelt-as t (at-loop .loop .e) (at-entries-in .entries-in .ensures .0) (omega arith) (c .before .before .before .child-of .result) (c .before .before .before .child-of .ensures) (c .before .before .string-at .ensures) ∙ not-false _ (c .before .if2 .left)) (c .next-of .ensures)
 
 returns-3 : tie.Need-returns-3 Inv-loop μ-loop
 returns-3 c =

@@ -15,7 +15,9 @@ is-tuple-requires : tie.Need-is-tuple-requires
 is-tuple-requires c κs = search needs
 
 returns : tie.Need-returns
-returns c = no-tuple (lent (c .before .before .before .before .before .before .args .s .now) (c .before .before .before .before .before .before .args .nodes .now) (c .before .before .before .before .before .before .args .entries .now) (c .before .before .before .before .before .before .args .used)) (c .before .before .before .before .before .before .args .node) (ap (λ (m : Node). m .letter) (c .before .before .node-of .ensures)) (c .before .is-tuple .ensures) (not-true _ (c .if1 .taken))
+returns c =
+    let at-args = c .before .before .before .before .before .before in
+    no-tuple (lent (at-args .args .s .now) (at-args .args .nodes .now) (at-args .args .entries .now) (at-args .args .used)) (at-args .args .node) (ap (λ (m : Node). m .letter) (c .before .before .node-of .ensures)) (c .before .is-tuple .ensures) (not-true _ (c .if1 .taken))
 
 named-requires : tie.Need-named-requires
 named-requires c κs = search needs

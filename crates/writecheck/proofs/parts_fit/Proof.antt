@@ -40,9 +40,12 @@ loop-less c = search needs
 
 loop-again : tie.Need-loop-again Inv-loop μ-loop
 loop-again c =
-    let a = c .before .before .before .before .before .before .before .before .before .args in
+    let at-loop-test = c .before .before .before .before in
+    let at-loop = at-loop-test .before in
+    let at-args = at-loop .before .before .before .before in
+    let a = at-args .args in
     let t = lent (a .s .now) (a .nodes .now) (a .entries .now) (a .used) in
-    fitting-more t (a .first) (c .before .before .before .before .before .loop .part) (c .before .before .before .before .before .loop .e) (c .next-of .result) (c .before .before .before .child-of .result) (c .before .before .before .before .before .loop .inv) (c .before .before .before .before .loop-test .taken) (c .before .before .before .child-of .ensures) (c .before .before .part-fits .ensures) (not-false _ (c .before .if1 .left)) (c .next-of .ensures)
+    fitting-more t (a .first) (at-loop .loop .part) (at-loop .loop .e) (c .next-of .result) (c .before .before .before .child-of .result) (at-loop .loop .inv) (at-loop-test .loop-test .taken) (c .before .before .before .child-of .ensures) (c .before .before .part-fits .ensures) (not-false _ (c .before .if1 .left)) (c .next-of .ensures)
 
 returns-2 : tie.Need-returns-2 Inv-loop μ-loop
 returns-2 c = fitting-all (lent (c .before .before .before .before .before .args .s .now) (c .before .before .before .before .before .args .nodes .now) (c .before .before .before .before .before .args .entries .now) (c .before .before .before .before .before .args .used)) (c .before .before .before .before .before .args .first) (c .before .loop .part) (c .before .loop .e) (c .before .loop .inv) (omega arith)

@@ -40,10 +40,11 @@ child-of-requires c κs = search needs
 
 belongs-requires : tie.Need-belongs-requires Inv-loop μ-loop
 belongs-requires c κs =
-    let a = c .before .before .before .before .before .before .before .before .before .args in
+    let at-args = c .before .before .before .before .before .before .before .before .before in
+    let a = at-args .args in
     let t = lent (a .s .now) (a .nodes .now) (a .entries .now) (a .used) in
     let f = stringPart t (a .allowance) in
-    (c .before .before .before .before .before .before .before .before .before .pre .1, (member-next t (a .locals) (a .bit) f (a .counted) (a .out .now) (a .at) _ (c .before .before .before .before .before .before .before .before .before .pre .1) (c .before .before .before .loop .inv) (c .before .before .loop-test .taken) (c .child-of .ensures)) .text, c .before .before .before .before .before .before .before .before .before .pre .2)
+    (at-args .pre .1, (member-next t (a .locals) (a .bit) f (a .counted) (a .out .now) (a .at) _ (at-args .pre .1) (c .before .before .before .loop .inv) (c .before .before .loop-test .taken) (c .child-of .ensures)) .text, at-args .pre .2)
 
 write-member-requires : tie.Need-write-member-requires Inv-loop μ-loop
 write-member-requires c κs =
@@ -63,10 +64,16 @@ same-length c = c .before .before .before .before .before .write-member .ensures
 
 returns : tie.Need-returns Inv-loop μ-loop
 returns c =
-    let a = c .before .before .before .before .before .before .before .before .before .before .before .before .before .before .before .before .before .args in
+    let at-write-member = c .before .before .before .before .before in
+    let at-belongs = at-write-member .before .before in
+    let at-child-of = at-belongs .before in
+    let at-loop-test = at-child-of .before .before in
+    let at-loop = at-loop-test .before in
+    let at-args = at-loop .before .before .before .before .before .before in
+    let a = at-args .args in
     let t = lent (a .s .now) (a .nodes .now) (a .entries .now) (a .used) in
     let f = stringPart t (a .allowance) in
-    member-refused t (a .locals) (a .bit) f (a .counted) (a .out .now) (a .at) (c .before .before .before .before .before .before .before .before .before .before .before .loop .inv) (member-next t (a .locals) (a .bit) f (a .counted) (a .out .now) (a .at) _ (c .before .before .before .before .before .before .before .before .before .before .before .before .before .before .before .before .before .pre .1) (c .before .before .before .before .before .before .before .before .before .before .before .loop .inv) (c .before .before .before .before .before .before .before .before .before .before .loop-test .taken) (c .before .before .before .before .before .before .before .before .child-of .ensures)) (c .before .before .before .before .before .before .before .belongs .ensures) (c .before .before .before .before .before .write-member .ensures) (c .before .number .given .1)
+    member-refused t (a .locals) (a .bit) f (a .counted) (a .out .now) (a .at) (at-loop .loop .inv) (member-next t (a .locals) (a .bit) f (a .counted) (a .out .now) (a .at) _ (at-args .pre .1) (at-loop .loop .inv) (at-loop-test .loop-test .taken) (at-child-of .child-of .ensures)) (at-belongs .belongs .ensures) (at-write-member .write-member .ensures) (c .before .number .given .1)
 
 enum-known-a : tie.Need-enum-known-a Inv-loop μ-loop
 enum-known-a c = search needs
@@ -75,7 +82,11 @@ one-if-requires : tie.Need-one-if-requires Inv-loop μ-loop
 one-if-requires c κs = search needs
 
 add-n : tie.Need-add-n Inv-loop μ-loop
-add-n c = omega (arith, c .before .before .before .before .before .before .before .before .before .before .before .before .loop .inv .most, c .before .before .before .before .before .before .before .before .before .before .before .loop-test .taken, c .one-if .ensures .1, c .before .before .before .before .before .before .before .before .before .before .before .before .before .before .before .before .before .before .pre .3)
+add-n c =
+    let at-loop-test = c .before .before .before .before .before .before .before .before .before .before .before in
+    let at-loop = at-loop-test .before in
+    let at-pre = at-loop .before .before .before .before .before .before in
+    omega (arith, at-loop .loop .inv .most, at-loop-test .loop-test .taken, c .one-if .ensures .1, at-pre .pre .3)
 
 next-of-requires : tie.Need-next-of-requires Inv-loop μ-loop
 next-of-requires c κs = search needs
@@ -88,10 +99,16 @@ loop-less c = search needs
 
 loop-again : tie.Need-loop-again Inv-loop μ-loop
 loop-again c =
-    let a = c .before .before .before .before .before .before .before .before .before .before .before .before .before .before .before .before .before .before .before .args in
+    let at-write-member = c .before .before .before .before .before .before .before in
+    let at-belongs = at-write-member .before .before in
+    let at-child-of = at-belongs .before in
+    let at-loop-test = at-child-of .before .before in
+    let at-loop = at-loop-test .before in
+    let at-args = at-loop .before .before .before .before .before .before in
+    let a = at-args .args in
     let t = lent (a .s .now) (a .nodes .now) (a .entries .now) (a .used) in
     let f = stringPart t (a .allowance) in
-    member-more t (a .locals) (a .bit) f (a .counted) (a .out .now) (a .at) (c .before .before .before .before .before .before .before .before .before .before .before .before .before .loop .inv) (member-next t (a .locals) (a .bit) f (a .counted) (a .out .now) (a .at) _ (c .before .before .before .before .before .before .before .before .before .before .before .before .before .before .before .before .before .before .before .pre .1) (c .before .before .before .before .before .before .before .before .before .before .before .before .before .loop .inv) (c .before .before .before .before .before .before .before .before .before .before .before .before .loop-test .taken) (c .before .before .before .before .before .before .before .before .before .before .child-of .ensures)) (c .before .before .before .before .before .before .before .before .before .belongs .ensures) (c .before .before .before .before .before .before .before .write-member .ensures) (c .before .before .before .a .given .1) (c .before .one-if .ensures) (c .before .before .before .before .before .before .before .before .before .before .before .before .loop-test .taken) (c .next-of .ensures)
+    member-more t (a .locals) (a .bit) f (a .counted) (a .out .now) (a .at) (at-loop .loop .inv) (member-next t (a .locals) (a .bit) f (a .counted) (a .out .now) (a .at) _ (at-args .pre .1) (at-loop .loop .inv) (at-loop-test .loop-test .taken) (at-child-of .child-of .ensures)) (at-belongs .belongs .ensures) (at-write-member .write-member .ensures) (c .before .before .before .a .given .1) (c .before .one-if .ensures) (at-loop-test .loop-test .taken) (c .next-of .ensures)
 
 same-length-2 : tie.Need-same-length-2 Inv-loop μ-loop
 same-length-2 c = c .before .loop .inv .same

@@ -23,16 +23,18 @@ enum-known-a c = search needs
 
 write-group-requires-2 : tie.Need-write-group-requires-2
 write-group-requires-2 c κs =
-    let a = c .before .before .before .before .before .before .before .before .before .before .before .before .args in
+    let at-write-group = c .before .before .before .before .before .before in
+    let at-args = at-write-group .before .before .before .before .before .before in
+    let a = at-args .args in
     let t = lent (a .s .now) (a .nodes .now) (a .entries .now) (a .used) in
     let f = stringPart t (a .allowance) in
     let local = groupIn t (a .locals) localBit in
-    let k = c .before .before .before .before .before .before .write-group .ensures in
+    let k = at-write-group .write-group .ensures in
     let is = c .before .before .a .given .1 in (
-      groups-open f local k (c .before .before .before .before .before .before .before .before .before .before .before .before .pre .0) is,
-      c .before .before .before .before .before .before .before .before .before .before .before .before .pre .1,
+      groups-open f local k (at-args .pre .0) is,
+      at-args .pre .1,
       omega arith,
-      omega (arith, groups-count f local k (c .before .before .before .before .before .before .before .before .before .before .before .before .pre .0) is, group-most t (a .locals) localBit (c .before .before .before .before .before .before .before .before .before .before .before .before .pre .1), c .before .before .before .before .before .before .before .before .before .before .before .before .pre .1 .kinds, c .before .before .before .before .before .before .before .before .before .before .before .before .pre .2),
+      omega (arith, groups-count f local k (at-args .pre .0) is, group-most t (a .locals) localBit (at-args .pre .1), at-args .pre .1 .kinds, at-args .pre .2),
     )
 
 enum-known-number-2 : tie.Need-enum-known-number-2
@@ -43,20 +45,24 @@ enum-known-b c = search needs
 
 write-group-requires-3 : tie.Need-write-group-requires-3
 write-group-requires-3 c κs =
-    let a = c .before .before .before .before .before .before .before .before .before .before .before .before .before .before .before .before .before .before .before .args in
+    let at-write-group2 = c .before .before .before .before .before .before in
+    let at-a = at-write-group2 .before .before .before in
+    let at-write-group = at-a .before .before .before .before in
+    let at-args = at-write-group .before .before .before .before .before .before in
+    let a = at-args .args in
     let t = lent (a .s .now) (a .nodes .now) (a .entries .now) (a .used) in
     let f = stringPart t (a .allowance) in
     let local = groupIn t (a .locals) localBit in
     let cell = groupIn t (a .locals) cellBit in
-    let k = c .before .before .before .before .before .before .before .before .before .before .before .before .before .write-group .ensures in
-    let is = c .before .before .before .before .before .before .before .before .before .a .given .1 in
-    let h = groups-open f local k (c .before .before .before .before .before .before .before .before .before .before .before .before .before .before .before .before .before .before .before .pre .0) is in
-    let k₂ = c .before .before .before .before .before .before .write-group2 .ensures in
+    let k = at-write-group .write-group .ensures in
+    let is = at-a .a .given .1 in
+    let h = groups-open f local k (at-args .pre .0) is in
+    let k₂ = at-write-group2 .write-group2 .ensures in
     let is₂ = c .before .before .b .given .1 in (
       groups-open f cell k₂ h is₂,
-      c .before .before .before .before .before .before .before .before .before .before .before .before .before .before .before .before .before .before .before .pre .1,
+      at-args .pre .1,
       omega arith,
-      omega (arith, groups-count f local k (c .before .before .before .before .before .before .before .before .before .before .before .before .before .before .before .before .before .before .before .pre .0) is, groups-count f cell k₂ h is₂, group-most t (a .locals) localBit (c .before .before .before .before .before .before .before .before .before .before .before .before .before .before .before .before .before .before .before .pre .1), group-most t (a .locals) cellBit (c .before .before .before .before .before .before .before .before .before .before .before .before .before .before .before .before .before .before .before .pre .1), c .before .before .before .before .before .before .before .before .before .before .before .before .before .before .before .before .before .before .before .pre .1 .kinds, c .before .before .before .before .before .before .before .before .before .before .before .before .before .before .before .before .before .before .before .pre .2),
+      omega (arith, groups-count f local k (at-args .pre .0) is, groups-count f cell k₂ h is₂, group-most t (a .locals) localBit (at-args .pre .1), group-most t (a .locals) cellBit (at-args .pre .1), at-args .pre .1 .kinds, at-args .pre .2),
     )
 
 same-length : tie.Need-same-length
@@ -94,15 +100,20 @@ same-length-3 c = c .before .before .write-group3 .ensures .puts .same ∙ c .be
 
 returns-3 : tie.Need-returns-3
 returns-3 c =
-    let a = c .before .before .before .before .before .before .before .before .before .before .before .before .before .before .before .before .before .before .before .before .before .before .args in
+    let at-b = c .before .before .before .before .before in
+    let at-write-group2 = at-b .before .before .before .before in
+    let at-a = at-write-group2 .before .before .before in
+    let at-write-group = at-a .before .before .before .before in
+    let at-args = at-write-group .before .before .before .before .before .before in
+    let a = at-args .args in
     let t = lent (a .s .now) (a .nodes .now) (a .entries .now) (a .used) in
     let f = stringPart t (a .allowance) in
     let local = groupIn t (a .locals) localBit in
     let cell = groupIn t (a .locals) cellBit in
     let free = groupIn t (a .locals) freeBit in
-    let h = c .before .before .before .before .before .before .before .before .before .before .before .before .before .before .before .before .before .before .before .before .before .before .pre .0 in
+    let h = at-args .pre .0 in
     groups-all t (a .locals) f
-    (groups-then f (local ++ cell) (groups-then f local (c .before .before .before .before .before .before .before .before .before .before .before .before .before .before .before .before .write-group .ensures) h (c .before .before .before .before .before .before .before .before .before .before .before .before .a .given .1) cell (c .before .before .before .before .before .before .before .before .before .write-group2 .ensures)) h (c .before .before .before .before .before .b .given .1) free (c .before .before .write-group3 .ensures))
+    (groups-then f (local ++ cell) (groups-then f local (at-write-group .write-group .ensures) h (at-a .a .given .1) cell (at-write-group2 .write-group2 .ensures)) h (at-b .b .given .1) free (c .before .before .write-group3 .ensures))
 
 pub write-groups-spec : {M : Type 1} → statement M
 write-groups-spec =

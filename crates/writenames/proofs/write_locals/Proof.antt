@@ -44,11 +44,15 @@ sub-write-groups c = search needs
 
 write-groups-requires : tie.Need-write-groups-requires
 write-groups-requires c κs =
-    let a = c .before .before .before .before .before .before .before .before .before .before .before .before .before .before .before .args in
+    let at-write-len = c .before .before .before .before .before .before in
+    let at-node-of2 = at-write-len .before .before in
+    let at-node-of = at-node-of2 .before in
+    let at-args = at-node-of .before .before .before .before .before .before in
+    let a = at-args .args in
     let t = lent (a .s .now) (a .nodes .now) (a .entries .now) (a .used) in (
-      puts-open (c .before .before .before .before .before .before .before .before .before .before .before .before .before .before .before .pre .0) (c .before .before .before .before .before .before .write-len .ensures) (c .before .before .a .given .1),
-      listed t (a .kinds) (a .node) (c .before .before .before .before .before .before .before .before .before .before .before .before .before .before .before .pre .1) (ap (λ (m : Node). m .count) (c .before .before .before .before .before .before .before .before .before .node-of .ensures)) (ap (λ (m : Node). m .first) (c .before .before .before .before .before .before .before .before .before .node-of .ensures)) (ap (λ (m : Node). m .place) (c .before .before .before .before .before .before .before .before .node-of2 .ensures)),
-      c .before .before .before .before .before .before .before .before .before .before .before .before .before .before .before .pre .2,
+      puts-open (at-args .pre .0) (at-write-len .write-len .ensures) (c .before .before .a .given .1),
+      listed t (a .kinds) (a .node) (at-args .pre .1) (ap (λ (m : Node). m .count) (at-node-of .node-of .ensures)) (ap (λ (m : Node). m .first) (at-node-of .node-of .ensures)) (ap (λ (m : Node). m .place) (at-node-of2 .node-of2 .ensures)),
+      at-args .pre .2,
     )
 
 enum-known-number-2 : tie.Need-enum-known-number-2
@@ -58,40 +62,65 @@ enum-known-b : tie.Need-enum-known-b
 enum-known-b c = search needs
 
 add-store-u32 : tie.Need-add-store-u32
-add-store-u32 c = omega (arith, c .before .before .before .before .before .before .before .before .before .before .before .before .before .before .before .before .before .before .before .before .before .before .pre .0 .inside, c .before .before .before .before .before .before .before .before .before .before .before .before .before .before .before .before .before .before .before .before .before .before .pre .0 .counts)
+add-store-u32 c =
+    let at-pre = c .before .before .before .before .before .before .before .before .before .before .before .before .before .before .before .before .before .before .before .before .before .before in
+    omega (arith, at-pre .pre .0 .inside, at-pre .pre .0 .counts)
 
 store-u32-requires : tie.Need-store-u32-requires
 store-u32-requires c κs =
-    let a = c .before .before .before .before .before .before .before .before .before .before .before .before .before .before .before .before .before .before .before .before .before .before .args in
+    let at-write-groups = c .before .before .before .before .before .before in
+    let at-a = at-write-groups .before .before .before in
+    let at-write-len = at-a .before .before .before .before in
+    let at-node-of2 = at-write-len .before .before in
+    let at-node-of = at-node-of2 .before in
+    let at-args = at-node-of .before .before .before .before .before .before in
+    let a = at-args .args in
     let t = lent (a .s .now) (a .nodes .now) (a .entries .now) (a .used) in
-    omega (arith, locals-room t (a .allowance) (a .kinds) (a .node) (omega arith) (c .before .before .before .before .before .before .before .before .before .before .before .before .before .before .before .before .before .before .before .before .before .before .pre .1) (ap (λ (m : Node). m .count) (c .before .before .before .before .before .before .before .before .before .before .before .before .before .before .before .before .node-of .ensures)) (ap (λ (m : Node). m .first) (c .before .before .before .before .before .before .before .before .before .before .before .before .before .before .before .before .node-of .ensures)) (ap (λ (m : Node). m .place) (c .before .before .before .before .before .before .before .before .before .before .before .before .before .before .before .node-of2 .ensures)) (c .before .before .before .before .before .before .before .before .before .before .before .before .before .write-len .ensures) (c .before .before .before .before .before .before .before .before .before .a .given .1) (c .before .before .before .before .before .before .before .before .before .before .before .before .before .before .before .before .before .before .before .before .before .before .pre .0 .inside) (c .before .before .before .before .before .before .write-groups .ensures))
+    omega (arith, locals-room t (a .allowance) (a .kinds) (a .node) (omega arith) (at-args .pre .1) (ap (λ (m : Node). m .count) (at-node-of .node-of .ensures)) (ap (λ (m : Node). m .first) (at-node-of .node-of .ensures)) (ap (λ (m : Node). m .place) (at-node-of2 .node-of2 .ensures)) (at-write-len .write-len .ensures) (at-a .a .given .1) (at-args .pre .0 .inside) (at-write-groups .write-groups .ensures))
 
 same-length : tie.Need-same-length
 same-length c = c .before .before .before .before .before .write-len .ensures .same
 
 returns-2 : tie.Need-returns-2
 returns-2 c =
-    let a = c .before .before .before .before .before .before .before .before .before .before .before .before .before .before .args in
+    let at-write-len = c .before .before .before .before .before in
+    let at-node-of2 = at-write-len .before .before in
+    let at-node-of = at-node-of2 .before in
+    let at-args = at-node-of .before .before .before .before .before .before in
+    let a = at-args .args in
     let t = lent (a .s .now) (a .nodes .now) (a .entries .now) (a .used) in
-    locals-refused t (a .allowance) (a .kinds) (a .node) (omega arith) (c .before .before .before .before .before .before .before .before .before .before .before .before .before .before .pre .1) (ap (λ (m : Node). m .count) (c .before .before .before .before .before .before .before .before .node-of .ensures)) (ap (λ (m : Node). m .first) (c .before .before .before .before .before .before .before .before .node-of .ensures)) (ap (λ (m : Node). m .place) (c .before .before .before .before .before .before .before .node-of2 .ensures)) (c .before .before .before .before .before .write-len .ensures) (c .before .number .given .1)
+    locals-refused t (a .allowance) (a .kinds) (a .node) (omega arith) (at-args .pre .1) (ap (λ (m : Node). m .count) (at-node-of .node-of .ensures)) (ap (λ (m : Node). m .first) (at-node-of .node-of .ensures)) (ap (λ (m : Node). m .place) (at-node-of2 .node-of2 .ensures)) (at-write-len .write-len .ensures) (c .before .number .given .1)
 
 same-length-2 : tie.Need-same-length-2
 same-length-2 c = c .before .before .before .before .before .write-groups .ensures .puts .same ∙ c .before .before .before .before .before .before .before .before .before .before .before .before .write-len .ensures .same
 
 returns-3 : tie.Need-returns-3
 returns-3 c =
-    let a = c .before .before .before .before .before .before .before .before .before .before .before .before .before .before .before .before .before .before .before .before .before .args in
+    let at-write-groups = c .before .before .before .before .before in
+    let at-a = at-write-groups .before .before .before in
+    let at-write-len = at-a .before .before .before .before in
+    let at-node-of2 = at-write-len .before .before in
+    let at-node-of = at-node-of2 .before in
+    let at-args = at-node-of .before .before .before .before .before .before in
+    let a = at-args .args in
     let t = lent (a .s .now) (a .nodes .now) (a .entries .now) (a .used) in
-    locals-stopped t (a .allowance) (a .kinds) (a .node) (omega arith) (c .before .before .before .before .before .before .before .before .before .before .before .before .before .before .before .before .before .before .before .before .before .pre .1) (ap (λ (m : Node). m .count) (c .before .before .before .before .before .before .before .before .before .before .before .before .before .before .before .node-of .ensures)) (ap (λ (m : Node). m .first) (c .before .before .before .before .before .before .before .before .before .before .before .before .before .before .before .node-of .ensures)) (ap (λ (m : Node). m .place) (c .before .before .before .before .before .before .before .before .before .before .before .before .before .before .node-of2 .ensures)) (c .before .before .before .before .before .before .before .before .before .before .before .before .write-len .ensures) (c .before .before .before .before .before .before .before .before .a .given .1) (c .before .before .before .before .before .before .before .before .before .before .before .before .before .before .before .before .before .before .before .before .before .pre .0 .inside) (c .before .before .before .before .before .write-groups .ensures) (c .before .number2 .given .1)
+    locals-stopped t (a .allowance) (a .kinds) (a .node) (omega arith) (at-args .pre .1) (ap (λ (m : Node). m .count) (at-node-of .node-of .ensures)) (ap (λ (m : Node). m .first) (at-node-of .node-of .ensures)) (ap (λ (m : Node). m .place) (at-node-of2 .node-of2 .ensures)) (at-write-len .write-len .ensures) (at-a .a .given .1) (at-args .pre .0 .inside) (at-write-groups .write-groups .ensures) (c .before .number2 .given .1)
 
 same-length-3 : tie.Need-same-length-3
 same-length-3 c = c .before .before .store-u32 .kept .0 ∙ c .before .before .before .before .before .before .before .before .before .write-groups .ensures .puts .same ∙ c .before .before .before .before .before .before .before .before .before .before .before .before .before .before .before .before .write-len .ensures .same
 
 returns-4 : tie.Need-returns-4
 returns-4 c =
-    let a = c .before .before .before .before .before .before .before .before .before .before .before .before .before .before .before .before .before .before .before .before .before .before .before .before .before .args in
+    let at-b = c .before .before .before .before .before in
+    let at-write-groups = at-b .before .before .before .before in
+    let at-a = at-write-groups .before .before .before in
+    let at-write-len = at-a .before .before .before .before in
+    let at-node-of2 = at-write-len .before .before in
+    let at-node-of = at-node-of2 .before in
+    let at-args = at-node-of .before .before .before .before .before .before in
+    let a = at-args .args in
     let t = lent (a .s .now) (a .nodes .now) (a .entries .now) (a .used) in
-    locals-done t (a .allowance) (a .kinds) (a .node) (omega arith) (c .before .before .before .before .before .before .before .before .before .before .before .before .before .before .before .before .before .before .before .before .before .before .before .before .before .pre .1) (ap (λ (m : Node). m .count) (c .before .before .before .before .before .before .before .before .before .before .before .before .before .before .before .before .before .before .before .node-of .ensures)) (ap (λ (m : Node). m .first) (c .before .before .before .before .before .before .before .before .before .before .before .before .before .before .before .before .before .before .before .node-of .ensures)) (ap (λ (m : Node). m .place) (c .before .before .before .before .before .before .before .before .before .before .before .before .before .before .before .before .before .before .node-of2 .ensures)) (c .before .before .before .before .before .before .before .before .before .before .before .before .before .before .before .before .write-len .ensures) (c .before .before .before .before .before .before .before .before .before .before .before .before .a .given .1) (c .before .before .before .before .before .before .before .before .before .before .before .before .before .before .before .before .before .before .before .before .before .before .before .before .before .pre .0 .inside) (c .before .before .before .before .before .before .before .before .before .write-groups .ensures) (c .before .before .before .before .before .b .given .1) (c .before .before .store-u32 .ensures)
+    locals-done t (a .allowance) (a .kinds) (a .node) (omega arith) (at-args .pre .1) (ap (λ (m : Node). m .count) (at-node-of .node-of .ensures)) (ap (λ (m : Node). m .first) (at-node-of .node-of .ensures)) (ap (λ (m : Node). m .place) (at-node-of2 .node-of2 .ensures)) (at-write-len .write-len .ensures) (at-a .a .given .1) (at-args .pre .0 .inside) (at-write-groups .write-groups .ensures) (at-b .b .given .1) (c .before .before .store-u32 .ensures)
 
 pub write-locals-spec : {M : Type 1} → statement M
 write-locals-spec =

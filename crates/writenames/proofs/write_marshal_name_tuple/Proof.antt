@@ -42,22 +42,28 @@ sub-write-names c = search needs
 
 write-names-requires : tie.Need-write-names-requires
 write-names-requires c κs =
-    let a = c .before .before .before .before .before .before .before .before .before .before .before .before .before .before .args in
+    let at-write-len = c .before .before .before .before .before .before in
+    let at-node-of = at-write-len .before .before in
+    let at-args = at-node-of .before .before .before .before .before .before in
+    let a = at-args .args in
     let t = lent (a .s .now) (a .nodes .now) (a .entries .now) (a .used) in
-    let asked = c .before .before .before .before .before .before .before .before .before .before .before .before .before .before .pre in
-    let node-of = c .before .before .before .before .before .before .before .before .node-of .ensures in
-    (opens (written-in (tuple-way t (a .allowance) (a .node) (omega arith) (tuple-at t (a .node) (asked .1) (ap (λ (m : Node). m .count) node-of) (ap (λ (m : Node). m .first) node-of)) (asked .0 .inside)) (c .before .before .before .before .before .before .write-len .ensures) (c .before .before .a .given .1)) (asked .0 .counts), (tuple-at t (a .node) (asked .1) (ap (λ (m : Node). m .count) node-of) (ap (λ (m : Node). m .first) node-of)) .chained, (tuple-at t (a .node) (asked .1) (ap (λ (m : Node). m .count) node-of) (ap (λ (m : Node). m .first) node-of)) .texts)
+    let asked = at-args .pre in
+    let node-of = at-node-of .node-of .ensures in
+    (opens (written-in (tuple-way t (a .allowance) (a .node) (omega arith) (tuple-at t (a .node) (asked .1) (ap (λ (m : Node). m .count) node-of) (ap (λ (m : Node). m .first) node-of)) (asked .0 .inside)) (at-write-len .write-len .ensures) (c .before .before .a .given .1)) (asked .0 .counts), (tuple-at t (a .node) (asked .1) (ap (λ (m : Node). m .count) node-of) (ap (λ (m : Node). m .first) node-of)) .chained, (tuple-at t (a .node) (asked .1) (ap (λ (m : Node). m .count) node-of) (ap (λ (m : Node). m .first) node-of)) .texts)
 
 same-length : tie.Need-same-length
 same-length c = c .before .before .before .before .before .write-len .kept .0
 
 returns-2 : tie.Need-returns-2
 returns-2 c =
-    let a = c .before .before .before .before .before .before .before .before .before .before .before .before .before .args in
+    let at-write-len = c .before .before .before .before .before in
+    let at-node-of = at-write-len .before .before in
+    let at-args = at-node-of .before .before .before .before .before .before in
+    let a = at-args .args in
     let t = lent (a .s .now) (a .nodes .now) (a .entries .now) (a .used) in
-    let asked = c .before .before .before .before .before .before .before .before .before .before .before .before .before .pre in
-    let node-of = c .before .before .before .before .before .before .before .node-of .ensures in
-    refused-in (each (stringPart t (a .allowance - 1)) (kidsFrom t (c .before .before .before .before .before .before .before .node-of .result .count) (c .before .before .before .before .before .before .before .node-of .result .first))) (tuple-way t (a .allowance) (a .node) (omega arith) (tuple-at t (a .node) (asked .1) (ap (λ (m : Node). m .count) node-of) (ap (λ (m : Node). m .first) node-of)) (asked .0 .inside)) (c .before .before .before .before .before .write-len .ensures) (c .before .number .given .1)
+    let asked = at-args .pre in
+    let node-of = at-node-of .node-of .ensures in
+    refused-in (each (stringPart t (a .allowance - 1)) (kidsFrom t (at-node-of .node-of .result .count) (at-node-of .node-of .result .first))) (tuple-way t (a .allowance) (a .node) (omega arith) (tuple-at t (a .node) (asked .1) (ap (λ (m : Node). m .count) node-of) (ap (λ (m : Node). m .first) node-of)) (asked .0 .inside)) (at-write-len .write-len .ensures) (c .before .number .given .1)
 
 same-length-2 : tie.Need-same-length-2
 same-length-2 c = c .before .before .write-names .kept .1 .1 .1 .0 ∙ c .before .before .before .before .before .before .before .before .before .write-len .kept .0

@@ -55,10 +55,15 @@ loop-less c = search needs
 
 loop-again : tie.Need-loop-again Inv-loop μ-loop
 loop-again c =
-    let a = c .before .before .before .before .before .before .before .before .before .before .before .before .before .before .before .args in
+    let at-write-string = c .before .before .before .before .before .before in
+    let at-child-of = at-write-string .before .before in
+    let at-loop-test = at-child-of .before in
+    let at-loop = at-loop-test .before in
+    let at-args = at-loop .before .before .before .before .before in
+    let a = at-args .args in
     let t = lent (a .s .now) (a .nodes .now) (a .entries .now) (a .used) in
-    row-more {w₀ = each (stringPart t (a .allowance)) (kidsFrom t (a .count) (a .first))} (row-turn (c .before .before .before .before .before .before .before .before .before .before .loop .inv) (c .before .before .before .before .before .before .before .before .before .loop-test .taken) (c .before .before .before .before .before .before .before .before .child-of .ensures)) (texts-later t (c .before .before .before .before .before .before .before .before .child-of .result)) (c .before .before .before .before .before .before .before .before .before .loop-test .taken) (c .next-of .ensures)
-    (c .before .before .before .before .before .before .write-string .ensures) (c .before .before .a .given .1)
+    row-more {w₀ = each (stringPart t (a .allowance)) (kidsFrom t (a .count) (a .first))} (row-turn (at-loop .loop .inv) (at-loop-test .loop-test .taken) (at-child-of .child-of .ensures)) (texts-later t (at-child-of .child-of .result)) (at-loop-test .loop-test .taken) (c .next-of .ensures)
+    (at-write-string .write-string .ensures) (c .before .before .a .given .1)
 
 same-length-2 : tie.Need-same-length-2 Inv-loop μ-loop
 same-length-2 c = c .before .loop .inv .way .same

@@ -13,7 +13,9 @@ use Rattle.writenames.proofs.write_string.Statement.{statement}
 use Rattle.writenames.proofs.write_string.Tie as tie
 
 returns : tie.Need-returns
-returns c = no-level (c .before .before .before .before .before .args .allowance) (c .before .before .before .before .before .args .node) (emit (codeString (contentsOf (lent (c .before .before .before .before .before .args .s .now) (c .before .before .before .before .before .args .nodes .now) (c .before .before .before .before .before .args .entries .now) (c .before .before .before .before .before .args .used)) (c .before .before .before .before .before .args .node))) ended) (omega arith)
+returns c =
+    let at-args = c .before .before .before .before .before in
+    no-level (at-args .args .allowance) (at-args .args .node) (emit (codeString (contentsOf (lent (at-args .args .s .now) (at-args .args .nodes .now) (at-args .args .entries .now) (at-args .args .used)) (at-args .args .node))) ended) (omega arith)
 
 node-of-requires : tie.Need-node-of-requires
 node-of-requires c κs = search needs

@@ -48,10 +48,18 @@ cast-clear-bytes : tie.Need-cast-clear-bytes
 cast-clear-bytes c = search needs
 
 sub-clear-bytes : tie.Need-sub-clear-bytes
-sub-clear-bytes c = search (fits-behind (c .before .before .before .before .before .before .before .counted .result) (c .before .before .before .before .before .before .before .before .before .before .before .before .before .before .args .out .now) (omega (arith, c .before .before .before .before .before .before .before .counted .ensures .1)) (c .before .before .before .before .before .write-value .ensures) (c .before .a .given .1), needs)
+sub-clear-bytes c =
+    let at-write-value = c .before .before .before .before .before in
+    let at-counted = at-write-value .before .before in
+    let at-args = at-counted .before .before .before .before .before .before .before in
+    search (fits-behind (at-counted .counted .result) (at-args .args .out .now) (omega (arith, at-counted .counted .ensures .1)) (at-write-value .write-value .ensures) (c .before .a .given .1), needs)
 
 part-clear-bytes-start : tie.Need-part-clear-bytes-start
-part-clear-bytes-start c = search (fits-behind (c .before .before .before .before .before .before .before .counted .result) (c .before .before .before .before .before .before .before .before .before .before .before .before .before .before .args .out .now) (omega (arith, c .before .before .before .before .before .before .before .counted .ensures .1)) (c .before .before .before .before .before .write-value .ensures) (c .before .a .given .1), needs)
+part-clear-bytes-start c =
+    let at-write-value = c .before .before .before .before .before in
+    let at-counted = at-write-value .before .before in
+    let at-args = at-counted .before .before .before .before .before .before .before in
+    search (fits-behind (at-counted .counted .result) (at-args .args .out .now) (omega (arith, at-counted .counted .ensures .1)) (at-write-value .write-value .ensures) (c .before .a .given .1), needs)
 
 part-clear-bytes-end : tie.Need-part-clear-bytes-end
 part-clear-bytes-end c = search needs
@@ -70,23 +78,33 @@ same-length-2 c = search needs
 
 returns-2 : tie.Need-returns-2
 returns-2 c =
-    let b = c .before .before .before .before .before .before .before .before .before .before .before .before .before .before .before .before .before .before .args in
+    let at-a = c .before .before .before .before .before in
+    let at-write-value = at-a .before .before .before .before in
+    let at-counted = at-write-value .before .before in
+    let at-at-most = at-counted .before in
+    let at-args = at-at-most .before .before .before .before .before .before in
+    let b = at-args .args in
     let t = tablesOf (b .input .now) (b .nodes .now) (b .entries .now) (b .used-nodes) (b .used-entries) in
-    let o = (c .before .before .before .before .before .before .before .before .before .write-value .last .1 .1 .1 .0) ++ drop (c .before .before .before .before .before .before .before .before .before .before .before .counted .result) (b .out .now) in
-    let fits = fits-behind (c .before .before .before .before .before .before .before .before .before .before .before .counted .result) (b .out .now) (omega (arith, c .before .before .before .before .before .before .before .before .before .before .before .counted .ensures .1)) (c .before .before .before .before .before .before .before .before .before .write-value .ensures) (c .before .before .before .before .before .a .given .1) in
-    let long = length-front (b .out .now) (c .before .before .before .before .before .before .before .before .before .write-value .last .1 .1 .1 .0) (c .before .before .before .before .before .before .before .before .before .before .before .counted .result) (c .before .before .before .before .before .before .before .before .before .write-value .kept .1 .1 .1 .0) in
-    finish-done t (b .root) (b .nesting) (length (b .out .now)) (omega arith) (b .out .now) (c .before .before .before .before .before .before .before .before .before .before .before .before .at-most .ensures) (c .before .before .before .before .before .before .before .before .before .before .before .counted .ensures .0) (omega (arith, c .before .before .before .before .before .before .before .before .before .before .before .counted .ensures .1)) (c .before .before .before .before .before .before .before .before .before .write-value .ensures) (c .before .before .before .before .before .a .given .1)
-    (behind-cleared (c .before .before .before .before .before .a .given .0 .0) (length (b .out .now)) o fits long (c .before .before .clear-bytes2 .ensures))
+    let o = (at-write-value .write-value .last .1 .1 .1 .0) ++ drop (at-counted .counted .result) (b .out .now) in
+    let fits = fits-behind (at-counted .counted .result) (b .out .now) (omega (arith, at-counted .counted .ensures .1)) (at-write-value .write-value .ensures) (at-a .a .given .1) in
+    let long = length-front (b .out .now) (at-write-value .write-value .last .1 .1 .1 .0) (at-counted .counted .result) (at-write-value .write-value .kept .1 .1 .1 .0) in
+    finish-done t (b .root) (b .nesting) (length (b .out .now)) (omega arith) (b .out .now) (at-at-most .at-most .ensures) (at-counted .counted .ensures .0) (omega (arith, at-counted .counted .ensures .1)) (at-write-value .write-value .ensures) (at-a .a .given .1)
+    (behind-cleared (at-a .a .given .0 .0) (length (b .out .now)) o fits long (c .before .before .clear-bytes2 .ensures))
 
 same-length-3 : tie.Need-same-length-3
 same-length-3 c = search needs
 
 returns-3 : tie.Need-returns-3
 returns-3 c =
-    let b = c .before .before .before .before .before .before .before .before .before .before .before .before .before .before .before .before .before .before .args in
+    let at-number = c .before .before .before .before .before in
+    let at-write-value = at-number .before .before .before .before in
+    let at-counted = at-write-value .before .before in
+    let at-at-most = at-counted .before in
+    let at-args = at-at-most .before .before .before .before .before .before in
+    let b = at-args .args in
     let t = tablesOf (b .input .now) (b .nodes .now) (b .entries .now) (b .used-nodes) (b .used-entries) in
-    finish-refused t (b .root) (b .nesting) (length (b .out .now)) (omega arith) (b .out .now) (c .before .before .before .before .before .before .before .before .before .before .before .before .at-most .ensures) (c .before .before .before .before .before .before .before .before .before .before .before .counted .ensures .0) (omega (arith, c .before .before .before .before .before .before .before .before .before .before .before .counted .ensures .1)) (c .before .before .before .before .before .before .before .before .before .write-value .ensures) (c .before .before .before .before .before .number .given .1)
-    (c .before .before .clear-bytes3 .ensures ∙ ap zeros (length-front (b .out .now) (c .before .before .before .before .before .before .before .before .before .write-value .last .1 .1 .1 .0) (c .before .before .before .before .before .before .before .before .before .before .before .counted .result) (c .before .before .before .before .before .before .before .before .before .write-value .kept .1 .1 .1 .0)))
+    finish-refused t (b .root) (b .nesting) (length (b .out .now)) (omega arith) (b .out .now) (at-at-most .at-most .ensures) (at-counted .counted .ensures .0) (omega (arith, at-counted .counted .ensures .1)) (at-write-value .write-value .ensures) (at-number .number .given .1)
+    (c .before .before .clear-bytes3 .ensures ∙ ap zeros (length-front (b .out .now) (at-write-value .write-value .last .1 .1 .1 .0) (at-counted .counted .result) (at-write-value .write-value .kept .1 .1 .1 .0)))
 
 pub serialize-value-spec : {M : Type 1} → statement M
 serialize-value-spec =

@@ -46,9 +46,15 @@ same-length c = c .before .before .write-front .kept .1 .0
 
 returns-3 : tie.Need-returns-3
 returns-3 c =
-    let a = c .before .before .before .before .before .before .before .before .before .before .before .before .before .before .args in
+    let at-node-of = c .before .before .before .before .before in
+    let at-if2 = at-node-of .before in
+    let at-look = at-if2 .before in
+    let at-if1 = at-look .before in
+    let at-too-deep = at-if1 .before in
+    let at-args = at-too-deep .before .before .before .before .before in
+    let a = at-args .args in
     let t = lent (a .s .now) (a .nodes .now) (a .entries .now) (a .used) in
-    open-front t (a .allowance) (a .node) (c .before .before .before .before .before .before .before .before .before .too-deep .ensures .tells t refl refl) (c .before .before .before .before .before .before .before .before .if1 .left) (looks-held t (a .node) (c .before .before .before .before .before .before .before .look .result) (c .before .before .before .before .before .before .before .look .ensures) (not-false _ (c .before .before .before .before .before .before .if2 .left))) (c .before .before .before .before .before .node-of .ensures) (c .before .before .write-front .kept .1 .0) (c .before .before .write-front .ensures)
+    open-front t (a .allowance) (a .node) (at-too-deep .too-deep .ensures .tells t refl refl) (at-if1 .if1 .left) (looks-held t (a .node) (at-look .look .result) (at-look .look .ensures) (not-false _ (at-if2 .if2 .left))) (at-node-of .node-of .ensures) (c .before .before .write-front .kept .1 .0) (c .before .before .write-front .ensures)
 
 pub open-node-spec : {M : Type 1} → statement M
 open-node-spec =

@@ -23,7 +23,9 @@ node-of-requires : tie.Need-node-of-requires
 node-of-requires c κs = search needs
 
 returns-4 : tie.Need-returns-4
-returns-4 c = levels-code (c .before .before .before .before .before .before .before .args .nodes .now) (c .before .before .before .before .before .before .before .args .used) (c .before .before .before .before .before .before .before .args .allowance) (c .before .before .before .before .before .before .before .args .node) (omega arith) (c .before .before .before .nodes-in .ensures) (omega arith) (ap (λ (m : Node). m .letter) (c .before .node-of .ensures))
+returns-4 c =
+    let at-args = c .before .before .before .before .before .before .before in
+    levels-code (at-args .args .nodes .now) (at-args .args .used) (at-args .args .allowance) (at-args .args .node) (omega arith) (c .before .before .before .nodes-in .ensures) (omega arith) (ap (λ (m : Node). m .letter) (c .before .node-of .ensures))
 
 pub too-deep-spec : {M : Type 1} → statement M
 too-deep-spec =

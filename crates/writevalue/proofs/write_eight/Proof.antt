@@ -20,7 +20,10 @@ same-length : tie.Need-same-length
 same-length c = search needs
 
 returns : tie.Need-returns
-returns c = puts-equal (c .before .before .write-slice .ensures) (ap (λ b. emit b ended) (float-eight (c .before .before .before .before .before .before .before .args .s .now) (λ i. omega (arith, c .before .before .before .before .before .before .shared-slice-known .given i)) (record { letter = 0; place = c .before .before .before .before .before .before .before .args .place; size = 0; first = 0; count = 0 }) (c .before .before .before .before .before .before .before .args .letter) (omega arith) (c .before .before .before .before .before .before .before .pre .1)))
+returns c =
+    let at-shared-slice-known = c .before .before .before .before .before .before in
+    let at-args = at-shared-slice-known .before in
+    puts-equal (c .before .before .write-slice .ensures) (ap (λ b. emit b ended) (float-eight (at-args .args .s .now) (λ i. omega (arith, at-shared-slice-known .shared-slice-known .given i)) (record { letter = 0; place = at-args .args .place; size = 0; first = 0; count = 0 }) (at-args .args .letter) (omega arith) (at-args .pre .1)))
 
 write-int64-requires : tie.Need-write-int64-requires
 write-int64-requires c κs = search needs
@@ -29,7 +32,9 @@ same-length-2 : tie.Need-same-length-2
 same-length-2 c = search needs
 
 returns-2 : tie.Need-returns-2
-returns-2 c = puts-equal (c .before .before .write-int64 .ensures) (ap (λ t. emit (cond t (0x67 ∷ bytes64 (le64 (c .before .before .before .before .before .before .before .args .s .now) (c .before .before .before .before .before .before .before .args .place))) (integerBytes (ofBits 9223372036854775808 (le64 (c .before .before .before .before .before .before .before .args .s .now) (c .before .before .before .before .before .before .before .args .place))))) ended) (ne-eqb (c .before .before .before .before .before .before .before .args .letter) 0x67 (λ e. omega arith)))
+returns-2 c =
+    let at-args = c .before .before .before .before .before .before .before in
+    puts-equal (c .before .before .write-int64 .ensures) (ap (λ t. emit (cond t (0x67 ∷ bytes64 (le64 (at-args .args .s .now) (at-args .args .place))) (integerBytes (ofBits 9223372036854775808 (le64 (at-args .args .s .now) (at-args .args .place))))) ended) (ne-eqb (at-args .args .letter) 0x67 (λ e. omega arith)))
 
 pub write-eight-spec : {M : Type 1} → statement M
 write-eight-spec =

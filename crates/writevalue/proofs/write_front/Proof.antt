@@ -97,7 +97,9 @@ whole-requires-8 : tie.Need-whole-requires-8
 whole-requires-8 c κs = search needs
 
 write-slice-requires-3 : tie.Need-write-slice-requires-3
-write-slice-requires-3 c κs = (c .before .before .before .before .pre .0, code-numbers (c .before .before .before .before .args .s .now) (nodeOf (c .before .before .before .before .args .n)) (c .before .before .before .before .pre .2) (code-else (c .before .before .before .before .args .s .now) (nodeOf (c .before .before .before .before .args .n)) (c .before .before .before .before .pre .2) (c .before .before .before .before .args .class) (avoids (c .before .before .before .before .args .class) 12 (c .before .match .rest)) (c .before .before .before .before .pre .3)))
+write-slice-requires-3 c κs =
+    let at-pre = c .before .before .before .before in
+    (at-pre .pre .0, code-numbers (at-pre .args .s .now) (nodeOf (at-pre .args .n)) (at-pre .pre .2) (code-else (at-pre .args .s .now) (nodeOf (at-pre .args .n)) (at-pre .pre .2) (at-pre .args .class) (avoids (at-pre .args .class) 12 (c .before .match .rest)) (at-pre .pre .3)))
 
 with-parts-requires : tie.Need-with-parts-requires
 with-parts-requires c κs = search needs
@@ -107,7 +109,11 @@ same-length c = search needs
 
 returns : tie.Need-returns
 unfolding classAt classes
-returns c = front-whole (λ f g kids. as-single (c .before .before .before .before .before .before .before .before .before .args .s .now) (λ i. omega (arith, c .before .before .before .before .before .before .before .before .shared-slice-known .given i)) (nodeOf (c .before .before .before .before .before .before .before .before .before .args .n)) f g kids (sym (c .before .before .before .before .before .before .before .before .before .pre .3) ∙ ap classAt (c .before .before .before .before .before .before .match .keys1))) (c .before .before .before .write-u8 .ensures) (c .whole .ensures)
+returns c =
+    let at-match = c .before .before .before .before .before .before in
+    let at-shared-slice-known = at-match .before .before in
+    let at-args = at-shared-slice-known .before in
+    front-whole (λ f g kids. as-single (at-args .args .s .now) (λ i. omega (arith, at-shared-slice-known .shared-slice-known .given i)) (nodeOf (at-args .args .n)) f g kids (sym (at-args .pre .3) ∙ ap classAt (at-match .match .keys1))) (c .before .before .before .write-u8 .ensures) (c .whole .ensures)
 
 same-length-2 : tie.Need-same-length-2
 same-length-2 c = search needs
@@ -115,16 +121,23 @@ same-length-2 c = search needs
 returns-2 : tie.Need-returns-2
 unfolding classAt classes
 returns-2 c =
-    let a = c .before .before .before .before .before .before .before .before .args in
-    let asked = c .before .before .before .before .before .before .before .before .pre in
-    front-whole (λ f g kids. as-four (a .s .now) (λ i. omega (arith, c .before .before .before .before .before .before .before .shared-slice-known .given i)) (nodeOf (a .n)) f g kids (sym (asked .3) ∙ ap classAt (c .before .before .before .before .before .match .keys2)) (fixed-held (a .s .now) (nodeOf (a .n)) (asked .2) 4 (sym (asked .3) ∙ ap classAt (c .before .before .before .before .before .match .keys2)))) (c .before .before .before .write-slice .ensures) (c .whole2 .ensures)
+    let at-match = c .before .before .before .before .before in
+    let at-shared-slice-known = at-match .before .before in
+    let at-args = at-shared-slice-known .before in
+    let a = at-args .args in
+    let asked = at-args .pre in
+    front-whole (λ f g kids. as-four (a .s .now) (λ i. omega (arith, at-shared-slice-known .shared-slice-known .given i)) (nodeOf (a .n)) f g kids (sym (asked .3) ∙ ap classAt (at-match .match .keys2)) (fixed-held (a .s .now) (nodeOf (a .n)) (asked .2) 4 (sym (asked .3) ∙ ap classAt (at-match .match .keys2)))) (c .before .before .before .write-slice .ensures) (c .whole2 .ensures)
 
 same-length-3 : tie.Need-same-length-3
 same-length-3 c = search needs
 
 returns-3 : tie.Need-returns-3
 unfolding classAt classes
-returns-3 c = front-whole (λ f g kids. as-eight (c .before .before .before .before .before .before .before .before .args .s .now) (λ i. omega (arith, c .before .before .before .before .before .before .before .shared-slice-known .given i)) (nodeOf (c .before .before .before .before .before .before .before .before .args .n)) f g kids (sym (c .before .before .before .before .before .before .before .before .pre .3) ∙ ap classAt (c .before .before .before .before .before .match .keys3))) (c .before .before .before .write-eight .ensures) (c .whole3 .ensures)
+returns-3 c =
+    let at-match = c .before .before .before .before .before in
+    let at-shared-slice-known = at-match .before .before in
+    let at-args = at-shared-slice-known .before in
+    front-whole (λ f g kids. as-eight (at-args .args .s .now) (λ i. omega (arith, at-shared-slice-known .shared-slice-known .given i)) (nodeOf (at-args .args .n)) f g kids (sym (at-args .pre .3) ∙ ap classAt (at-match .match .keys3))) (c .before .before .before .write-eight .ensures) (c .whole3 .ensures)
 
 same-length-4 : tie.Need-same-length-4
 same-length-4 c = search needs
@@ -142,7 +155,11 @@ same-length-5 c = search needs
 
 returns-5 : tie.Need-returns-5
 unfolding classAt classes
-returns-5 c = front-whole (λ f g kids. as-long (c .before .before .before .before .before .before .before .before .args .s .now) (λ i. omega (arith, c .before .before .before .before .before .before .before .shared-slice-known .given i)) (nodeOf (c .before .before .before .before .before .before .before .before .args .n)) f g kids (sym (c .before .before .before .before .before .before .before .before .pre .3) ∙ ap classAt (c .before .before .before .before .before .match .keys5))) (c .before .before .before .write-pylong .ensures) (c .whole5 .ensures)
+returns-5 c =
+    let at-match = c .before .before .before .before .before in
+    let at-shared-slice-known = at-match .before .before in
+    let at-args = at-shared-slice-known .before in
+    front-whole (λ f g kids. as-long (at-args .args .s .now) (λ i. omega (arith, at-shared-slice-known .shared-slice-known .given i)) (nodeOf (at-args .args .n)) f g kids (sym (at-args .pre .3) ∙ ap classAt (at-match .match .keys5))) (c .before .before .before .write-pylong .ensures) (c .whole5 .ensures)
 
 same-length-6 : tie.Need-same-length-6
 same-length-6 c = search needs
@@ -189,30 +206,45 @@ same-length-10 c = search needs
 
 returns-10 : tie.Need-returns-10
 unfolding classAt classes
-returns-10 c = front-whole (λ f g kids. as-bytes (c .before .before .before .before .before .before .before .before .args .s .now) (λ i. omega (arith, c .before .before .before .before .before .before .before .shared-slice-known .given i)) (nodeOf (c .before .before .before .before .before .before .before .before .args .n)) f g kids (sym (c .before .before .before .before .before .before .before .before .pre .3) ∙ ap classAt (c .before .before .before .before .before .match .keys10))) (c .before .before .before .write-vec .ensures) (c .whole6 .ensures)
+returns-10 c =
+    let at-match = c .before .before .before .before .before in
+    let at-shared-slice-known = at-match .before .before in
+    let at-args = at-shared-slice-known .before in
+    front-whole (λ f g kids. as-bytes (at-args .args .s .now) (λ i. omega (arith, at-shared-slice-known .shared-slice-known .given i)) (nodeOf (at-args .args .n)) f g kids (sym (at-args .pre .3) ∙ ap classAt (at-match .match .keys10))) (c .before .before .before .write-vec .ensures) (c .whole6 .ensures)
 
 same-length-11 : tie.Need-same-length-11
 same-length-11 c = search needs
 
 returns-11 : tie.Need-returns-11
 unfolding classAt classes
-returns-11 c = front-whole (λ f g kids. as-text (c .before .before .before .before .before .before .before .before .args .s .now) (λ i. omega (arith, c .before .before .before .before .before .before .before .shared-slice-known .given i)) (nodeOf (c .before .before .before .before .before .before .before .before .args .n)) f g kids (sym (c .before .before .before .before .before .before .before .before .pre .3) ∙ ap classAt (c .before .before .before .before .before .match .keys11))) (c .before .before .before .write-vec2 .ensures) (c .whole7 .ensures)
+returns-11 c =
+    let at-match = c .before .before .before .before .before in
+    let at-shared-slice-known = at-match .before .before in
+    let at-args = at-shared-slice-known .before in
+    front-whole (λ f g kids. as-text (at-args .args .s .now) (λ i. omega (arith, at-shared-slice-known .shared-slice-known .given i)) (nodeOf (at-args .args .n)) f g kids (sym (at-args .pre .3) ∙ ap classAt (at-match .match .keys11))) (c .before .before .before .write-vec2 .ensures) (c .whole7 .ensures)
 
 same-length-12 : tie.Need-same-length-12
 same-length-12 c = search needs
 
 returns-12 : tie.Need-returns-12
 unfolding classAt classes
-returns-12 c = front-whole (λ f g kids. as-short (c .before .before .before .before .before .before .before .before .args .s .now) (λ i. omega (arith, c .before .before .before .before .before .before .before .shared-slice-known .given i)) (nodeOf (c .before .before .before .before .before .before .before .before .args .n)) f g kids (sym (c .before .before .before .before .before .before .before .before .pre .3) ∙ ap classAt (c .before .before .before .before .before .match .keys12))) (c .before .before .before .write-vec3 .ensures) (c .whole8 .ensures)
+returns-12 c =
+    let at-match = c .before .before .before .before .before in
+    let at-shared-slice-known = at-match .before .before in
+    let at-args = at-shared-slice-known .before in
+    front-whole (λ f g kids. as-short (at-args .args .s .now) (λ i. omega (arith, at-shared-slice-known .shared-slice-known .given i)) (nodeOf (at-args .args .n)) f g kids (sym (at-args .pre .3) ∙ ap classAt (at-match .match .keys12))) (c .before .before .before .write-vec3 .ensures) (c .whole8 .ensures)
 
 same-length-13 : tie.Need-same-length-13
 same-length-13 c = search needs
 
 returns-13 : tie.Need-returns-13
 returns-13 c =
-    let a = c .before .before .before .before .before .before .before .before .args in
-    let asked = c .before .before .before .before .before .before .before .before .pre in
-    front-parts (asked .0 .inside) (code-else (a .s .now) (nodeOf (a .n)) (asked .2) (a .class) (avoids (a .class) 12 (c .before .before .before .before .before .match .rest)) (asked .3)) (λ f g kids. as-code (a .s .now) (λ i. omega (arith, c .before .before .before .before .before .before .before .shared-slice-known .given i)) (nodeOf (a .n)) f g kids (code-else (a .s .now) (nodeOf (a .n)) (asked .2) (a .class) (avoids (a .class) 12 (c .before .before .before .before .before .match .rest)) (asked .3)) (code-numbers (a .s .now) (nodeOf (a .n)) (asked .2) (code-else (a .s .now) (nodeOf (a .n)) (asked .2) (a .class) (avoids (a .class) 12 (c .before .before .before .before .before .match .rest)) (asked .3)))) (c .before .before .before .write-slice3 .ensures) (c .with-parts .ensures)
+    let at-match = c .before .before .before .before .before in
+    let at-shared-slice-known = at-match .before .before in
+    let at-args = at-shared-slice-known .before in
+    let a = at-args .args in
+    let asked = at-args .pre in
+    front-parts (asked .0 .inside) (code-else (a .s .now) (nodeOf (a .n)) (asked .2) (a .class) (avoids (a .class) 12 (at-match .match .rest)) (asked .3)) (λ f g kids. as-code (a .s .now) (λ i. omega (arith, at-shared-slice-known .shared-slice-known .given i)) (nodeOf (a .n)) f g kids (code-else (a .s .now) (nodeOf (a .n)) (asked .2) (a .class) (avoids (a .class) 12 (at-match .match .rest)) (asked .3)) (code-numbers (a .s .now) (nodeOf (a .n)) (asked .2) (code-else (a .s .now) (nodeOf (a .n)) (asked .2) (a .class) (avoids (a .class) 12 (at-match .match .rest)) (asked .3)))) (c .before .before .before .write-slice3 .ensures) (c .with-parts .ensures)
 
 pub write-front-spec : {M : Type 1} → statement M
 write-front-spec =
