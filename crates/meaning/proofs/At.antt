@@ -45,7 +45,7 @@ contents-at s a l r h = cut a s ∙ ap (take (length l)) h ∙ take-append-seam 
         let e : suc a + length l ≡ suc (a + length l) = omega arith in
         rw e (cut a s)
 
-word-back : (x : ℕ) → x < 4294967296 → x % 256 + x / 256 % 256 * 256 + x / 256 / 256 % 256 * 65536 + x / 256 / 256 / 256 % 256 * 16777216 ≡ x
+pub word-back : (x : ℕ) → x < 4294967296 → x % 256 + x / 256 % 256 * 256 + x / 256 / 256 % 256 * 65536 + x / 256 / 256 / 256 % 256 * 16777216 ≡ x
 word-back x h = omega arith
 
 pub half-at : (s : List ℕ) (a x : ℕ) (r : List ℕ) → x < 65536 → drop a s ≡ bytes16 x ++ r → le16 s a ≡ x

@@ -29,6 +29,7 @@ use Rattle.meaning.specs.Canonical.{canonical, codeStrings}
 use Rattle.meaning.specs.Extent.{depthOf, nodesOf, entriesOf}
 use Rattle.meaning.specs.Order.{frees, cellsThenFrees, localNames, grouped, nameOrder}
 use Rattle.meaning.specs.Meaning.{allOf, valueOf, tablesAfter}
+use Rattle.meaning.specs.Written.{withBit, apart, groups}
 
 abbrev number : ℕ → Value
 number n = integer (record { negative = false; magnitude = n })
@@ -120,3 +121,9 @@ pub orders :
     × (nameOrder (0xA0 ∷ []) ((1 ∷ []) ∷ []) ≡ false)
 unfolding frees cellsThenFrees localNames grouped nameOrder has sameBytes
 orders = (refl, refl, refl, refl)
+
+-- Out of name order two codes can be written alike: a Cell named like a Local is not written, so that where it stood does not show.
+pub alike-out-of-order :
+    groups (0x20 ∷ 0x40 ∷ 0x40 ∷ []) ((1 ∷ []) ∷ (1 ∷ []) ∷ (2 ∷ []) ∷ []) ≡ groups (0x20 ∷ 0x40 ∷ 0x40 ∷ []) ((1 ∷ []) ∷ (2 ∷ []) ∷ (1 ∷ []) ∷ [])
+unfolding groups withBit apart has sameBytes
+alike-out-of-order = refl

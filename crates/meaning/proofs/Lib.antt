@@ -13,6 +13,9 @@ pub mod Names
 pub mod Emits
 pub mod TheoremC
 pub mod NameOrder
+pub mod Fronts
+pub mod Injective
+pub mod Accepted
 pub mod Sense
 pub mod Kept
 pub mod Sensible

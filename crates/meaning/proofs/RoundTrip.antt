@@ -1,5 +1,5 @@
 -- The two ways of the round trip, of whole answers: a value that fits once sharing is written out is written as its bytes, and these read
--- as that value; read and written once more they are the same bytes; and values with the same bytes are the same. From theorems A, B and C.
+-- as that value; read and written once more they are the same bytes. From theorems A, B and C.
 -- Assumes that the input is bytes.
 use mathlib.Core.Path.{_≡_, refl, sym, ap, subst, _∙_}
 use Prim.Native.Nat.{ℕ, _≤_, _<_, min, max}
@@ -11,12 +11,11 @@ use borrow.Author.Tests.{le-ltb}
 use Rattle.refusals.specs.Numbers.{noRoom}
 use Rattle.refusals.specs.Limits.{mostBytes, mostNesting}
 use Rattle.grammar.specs.Reading.{gives, stops}
-use Rattle.grammar.specs.State.{State, start, nodeCapacity, entryCapacity}
+use Rattle.grammar.specs.State.{State, nodeCapacity, entryCapacity}
 use Rattle.grammar.specs.Record.{Tables}
 use Rattle.grammar.proofs.Tests.{same-some}
-use Rattle.grammar.specs.Answer.{plain, reading, Counts, countsOf, readOf}
+use Rattle.grammar.specs.Answer.{reading, Counts, countsOf, readOf}
 use Rattle.grammar.specs.Input.{Bytes}
-use Rattle.grammar.proofs.Following.{follows-gives}
 use Rattle.grammar.proofs.ReadBack.{tablesRead}
 use Rattle.writing.specs.Steps.{writing}
 use Rattle.writing.specs.Answer.{mostOutput, written}
@@ -28,16 +27,14 @@ use Rattle.meaning.specs.Proper.{Below, Proper}
 use Rattle.meaning.specs.Meaning.{valueOf, tablesAfter}
 use Rattle.meaning.specs.Written.{writtenAs}
 use Rattle.meaning.proofs.Means.{Means}
-use Rattle.meaning.proofs.Standing.{InState}
-use Rattle.meaning.proofs.Goes.{Never, Anywhere, Wrote}
 use Rattle.meaning.proofs.Emits.{InTables, emits-into, emits-over}
 use Rattle.meaning.proofs.Octets.{octets, below-append, below-at}
 use Rattle.meaning.proofs.Stores.{in-tables}
 use Rattle.meaning.proofs.TheoremA.{root-means, answer-gives}
-use Rattle.meaning.proofs.TheoremB.{read-back, reads-value, goes-somewhere, none-claimed, at-start}
+use Rattle.meaning.proofs.TheoremB.{read-back}
 use Rattle.meaning.proofs.TheoremC.{emits-written}
 use Rattle.meaning.proofs.NameOrder.{in-order-same}
-use Rattle.meaning.proofs.Unique.{means-value, means-one, by-tables, by-state, worth}
+use Rattle.meaning.proofs.Unique.{means-value, by-tables}
 
 -- Theorem C, of the whole answer: exactly what is written of the value where it fits, and the refusal of room where it does not.
 module _ (t : Tables) (n : ℕ) (v : Value) (small : length (t .input) ≤ mostBytes) (m : Means (InTables t) n v) (p : Proper v) (nesting : ℕ) (depth : depthOf v ≤ min nesting mostNesting) where
@@ -112,17 +109,3 @@ module _ (v : Value) (nodes entries slots nesting : ℕ) (depth : depthOf v ≤ 
       let same : m .value ≡ v = same-some (sym (m .found top (omega arith)) ∙ ap (λ t. valueOf top t 0) (sym (a .tables)) ∙ i .1 top (omega arith)) in
       ap (λ t. written t 0 nesting room) (a .tables)
       ∙ written-is (tablesRead s nodes entries (a .read)) 0 v small (subst (Means (InTables (tablesRead s nodes entries (a .read))) 0) same (m .means)) p nesting depth o room fits
-
--- Equal bytes mean the same value: both are what the bytes are read as.
-pub canonical-injective : (v w : Value) → Proper v → Proper w → length (canonical v) ≤ mostBytes → canonical v ≡ canonical w → v ≡ w
-unfolding plain Below
-canonical-injective v w pv pw small e =
-    let s = canonical v ++ [] in
-    let small′ : length s ≤ mostBytes = subst (λ x. length x ≤ mostBytes) (sym (append-nil (canonical v))) small in
-    let bytes = bytes-of v [] pv tt in
-    let g = reads-value s small′ bytes v pv .goes (length s) 0 start none-claimed [] (omega arith) (at-start s) refl in
-    let h = reads-value s small′ bytes w pw .goes (length s) 0 start none-claimed [] (omega arith) (at-start s) (ap (λ x. x ++ []) e) in
-    let a = goes-somewhere (Wrote s v (length (canonical v)) 0 start none-claimed) none-claimed (plain s) g in
-    let x = follows-gives Never Anywhere (Wrote s v (length (canonical v)) 0 start none-claimed) none-claimed (plain s) (a .0) g (a .1) .holds .means in
-    let y = follows-gives Never Anywhere (Wrote s w (length (canonical w)) 0 start none-claimed) none-claimed (plain s) (a .0) h (a .1) .holds .means in
-    means-one (InState s (a .0 .1)) (worth s (a .0 .1)) (by-state s (a .0 .1)) (a .0 .0) v w x y

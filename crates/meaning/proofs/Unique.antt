@@ -3,22 +3,18 @@
 use mathlib.Core.Path.{_≡_, refl, sym, ap, ap₂, _∙_}
 use Prim.Native.Nat.{ℕ, zero, suc, _≤_, max}
 use native.Mathlib.Omega.{arith}
-use mathlib.Core.Option.{Option, none, some}
-use mathlib.Core.List.{List, [], _∷_}
-use lib.ListN.{length, getD, take, drop}
-use Rattle.grammar.specs.Letters.{classOf}
-use Rattle.grammar.specs.State.{Entry, State, blank}
+use mathlib.Core.Option.{Option, some}
+use mathlib.Core.List.{List}
+use lib.ListN.{take, drop}
 use Rattle.grammar.specs.Steps.{linePart}
 use Rattle.grammar.specs.Record.{Tables}
-use Rattle.grammar.proofs.Links.{Linked, More, childOf, nextOf}
 use Rattle.grammar.proofs.Tests.{same-some}
 use Rattle.writing.specs.Canonical.{shownLine}
-use Rattle.writing.specs.Shape.{Shape, classed}
+use Rattle.writing.specs.Shape.{Shape}
 use Rattle.meaning.specs.Value.{Value, Values, nil, more, single, integer, float, complex, bytes, text, sequence, slice, dict, code}
 use Rattle.meaning.specs.Extent.{depthOf, depthAll}
 use Rattle.meaning.specs.Meaning.{put, allOf, holding, codeOf, shaped, lookedAs, nowhere, valueOf}
 use Rattle.meaning.proofs.Means.{Sees, Means, MeanAll}
-use Rattle.meaning.proofs.Standing.{InState}
 use Rattle.meaning.proofs.Emits.{InTables}
 
 -- A valuation that goes by the shapes that P sees.
@@ -82,43 +78,3 @@ by-tables t =
       one = λ n kids sh h. ap (lookedAs nowhere nowhere t n) (h .held) ∙ ap (shaped nowhere nowhere) (h .is);
       more-than-one = λ a n kids sh h. ap (lookedAs (valueOf (suc a) t) (valueOf a t) t n) (h .held) ∙ ap (shaped (valueOf (suc a) t) (valueOf a t)) (h .is);
     }
-
--- In the stores of a state: the chain walked, and the shape of the record.
-unfoldable walk : List Entry → ℕ → ℕ → List ℕ
-walk es zero e = []
-walk es (suc k) e = childOf es e ∷ walk es k (nextOf es e)
-
-more-walk : (es : List Entry) (e : ℕ) (kids : List ℕ) → More es e kids → walk es (length kids) (nextOf es e) ≡ kids
-unfolding walk
-more-walk es e [] h = refl
-more-walk es e (v ∷ vs) h = ap₂ (λ x y. x ∷ y) (h .2) (more-walk es (nextOf es e) vs (h .3))
-
-linked-walk : (es : List Entry) (e : ℕ) (kids : List ℕ) → Linked es e kids → walk es (length kids) e ≡ kids
-unfolding walk
-linked-walk es e [] h = refl
-linked-walk es e (v ∷ vs) h = ap₂ (λ x y. x ∷ y) (h .1) (more-walk es e vs (h .2))
-
-module _ (s : List ℕ) (st : State) where
-  pub see : ℕ → Shape
-  see n =
-      classed s (getD (st .nodes) n blank) (walk (st .entries) (getD (st .nodes) n blank .count) (getD (st .nodes) n blank .first)) (classOf (getD (st .nodes) n blank .letter))
-
-  unfoldable pub worth : ℕ → ℕ → Option Value
-  worth zero n = none
-  worth (suc zero) n = shaped nowhere nowhere (see n)
-  worth (suc (suc a)) n = shaped (worth (suc a)) (worth a) (see n)
-
-  saw : (n : ℕ) (kids : List ℕ) (sh : Shape) → InState s st n kids sh → see n ≡ sh
-  unfolding see
-  saw n kids sh h =
-      ap (λ k. classed s (getD (st .nodes) n blank) k (classOf (getD (st .nodes) n blank .letter)))
-      (ap (λ c. walk (st .entries) c (getD (st .nodes) n blank .first)) (h .counted) ∙ linked-walk (st .entries) (getD (st .nodes) n blank .first) kids (h .linked))
-      ∙ h .is
-
-  pub by-state : Values-by (InState s st) worth
-  unfolding worth
-  by-state =
-      record {
-        one = λ n kids sh h. ap (shaped nowhere nowhere) (saw n kids sh h);
-        more-than-one = λ a n kids sh h. ap (shaped (worth (suc a)) (worth a)) (saw n kids sh h);
-      }

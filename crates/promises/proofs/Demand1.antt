@@ -1,29 +1,23 @@
 -- DEMAND 1: no export asks anything; each call returns; and it ends in its answer, or in a refusal of 01's table with every store lent for
 -- writing all zero. By cases of the definition that each contract cites, with Numbers. Assumes nothing.
-use mathlib.Core.Path.{_≡_, refl, ap, subst, _∙_}
+use mathlib.Core.Path.{_≡_, refl, ap, _∙_}
 use Prim.Native.Nat.{ℕ, _/_, min}
-use mathlib.Core.Bool.{Bool, true, false}
+use mathlib.Core.Bool.{Bool}
 use mathlib.Core.List.{List}
 use mathlib.Core.Option.{none, some}
-use native.Mathlib.Omega.{arith}
-use lib.Dec.{ltb}
-use lib.ListN.{length, replicate}
+use lib.ListN.{length}
 use mir.Syntax.{w32}
 use mir.Val.{ofZ}
 use base.Logic.{emp, id⊢}
 use contract.Monad.{fact-mono}
 use denote.Ref.{now}
-use Rattle.refusals.specs.Numbers.{accepted, inputTooLong, noRoom}
-use Rattle.refusals.specs.Limits.{mostBytes}
 use Rattle.grammar.specs.Reading.{Answer, gives, stops}
 use Rattle.grammar.specs.State.{State}
 use Rattle.grammar.specs.Answer.{outcomeOf, reading, readOf}
 use Rattle.grammar.specs.Leaf.{Leaf, leafOf}
 use Rattle.leaf.specs.Answers.{toldOf, answeredOf}
 use Rattle.leaf.specs.declared.Answered.the-variants as leaf
-use Rattle.lineentry.specs.declared.Location.{Location}
-use Rattle.linetable.specs.Walk as table
-use Rattle.linetable.specs.Answer.{located, firstLine, answer, recordsOf, locationsOf, blank}
+use Rattle.linetable.specs.Answer.{located, firstLine}
 use Rattle.locate.specs.Part.{locatedAt}
 use Rattle.localsplus.specs.declared.Split.{Split}
 use Rattle.localsplus.specs.declared.Split.the-variants as split
@@ -39,53 +33,32 @@ use Rattle.varint.specs.Writing.{littleEndian, bigEndian, bigEndianWithStart}
 use Rattle.varintread.specs.Reading.{readVarint, readVarintWithStart}
 use Rattle.varint.specs.Answers.{stored, storedSigned}
 use Rattle.varintread.proofs.Refusals.{Told, varint-told, with-start-told}
-use Rattle.exceptiontable.specs.declared.Decoded.{Decoded}
-use Rattle.exceptiontable.specs.declared.Decoded.the-variants as decoded
-use Rattle.exceptiontable.specs.declared.Encoded.{Encoded}
-use Rattle.exceptiontable.specs.declared.Encoded.the-variants as encoded
 use Rattle.exceptiontable.specs.Reading.{decodedOf}
 use Rattle.exceptiontable.specs.Writing.{encodedOf}
-use Rattle.totals.specs.declared.Totalled.{Totalled}
-use Rattle.totals.specs.declared.Totalled.the-variants as totalled
 use Rattle.totals.specs.Totals.{totalsOf, addedOf}
-use Rattle.printedtotals.specs.declared.Printed.{Printed}
-use Rattle.printedtotals.specs.declared.Printed.the-variants as printed
 use Rattle.printedtotals.specs.Lines.{printedOf}
 use Rattle.output.specs.declared.Wrote.the-variants as wrote
-use Rattle.sillgarland.specs.Exceptions.{decodedStruct, decodedAs, encodedStruct, encodedAs}
-use Rattle.sillgarland.specs.Nightly.{totalledStruct, totalledAs, printedStruct, printedAs}
 use Rattle.sillgarland.specs.Leaves.{leafStruct}
 use Rattle.sillgarland.specs.Locals.{splitStruct}
-use Rattle.salvage.specs.Salvage.{salvaged, Account, salvage}
-use Rattle.salvage.specs.Repair.{refusedWith, listed, repair}
-use Rattle.sources.specs.declared.Counts.{Counts}
-use Rattle.sources.specs.Marks.{Marks, marked, denied, sources, counts, countsOf, told, answerOf, bytesOf}
-use Rattle.sources.specs.Beside.{Agrees}
+use Rattle.sources.specs.Marks.{sources, counts, told}
 use Rattle.sources.proofs.Beside.{beside-located}
-use Rattle.sillgarland.specs.Locations.{locatedStruct}
-use Rattle.sillgarland.specs.Salvage.{salvagedStruct}
-use Rattle.sillgarland.specs.Sources.{sourcedStruct}
 use Rattle.sillgarland.specs.Values.{readStruct, ReadAs, wroteStruct, WroteAs}
 use Rattle.sillgarland.specs.Varints.{writtenAs, foundStruct}
-use Rattle.sillgarland.specs.declared.exceptions.SillExceptions.{SillExceptions}
-use Rattle.sillgarland.specs.declared.nightly.SillTotalled.{SillTotalled}
 use Rattle.sillgarland.specs.declared.leaves.SillLeaf.{SillLeaf}
 use Rattle.sillgarland.specs.declared.locals.SillSplit.{SillSplit}
-use Rattle.sillgarland.specs.declared.locations.SillLocated.{SillLocated}
-use Rattle.sillgarland.specs.declared.repairs.SillSalvaged.{SillSalvaged}
-use Rattle.sillgarland.specs.declared.origins.SillSourced.{SillSourced}
 use Rattle.sillgarland.specs.declared.values.SillRead.{SillRead}
 use Rattle.sillgarland.specs.declared.varints.SillWritten.{SillWritten}
 use Rattle.sillgarland.specs.declared.varints.SillFound.{SillFound}
 use Rattle.sillgarland.proofs as sillgarland
 use Rattle.promises.specs.Calls.{sillWrite}
-use Rattle.promises.specs.Demand1.{InTable, Ends, answers, refuses, Zero, LocateEnds, VarintEnds, FoundEnds, Demand1}
+use Rattle.promises.specs.Demand1.{Ends, answers, refuses, Zero, VarintEnds, FoundEnds, Demand1}
 use Rattle.promises.proofs.Reading.{writtenBy}
+use Rattle.promises.proofs.LineEnds.{locate-ends, locations-end, salvage-ends, marks-in-table, sources-end}
 use Rattle.promises.proofs.Joins.{join-ends, line-ends}
-use Rattle.promises.proofs.Exceptions.{TabledDecoded, decoded-in-table, TabledEncoded, encoded-in-table}
+use Rattle.promises.proofs.Exceptions.{decoded-in-table, decoded-ends, encoded-in-table, encoded-ends}
 use Rattle.promises.proofs.RowStarts.{index-ends, before-ends, at-ends}
-use Rattle.promises.proofs.Nightly.{TabledTotals, totals-in-table, added-in-table, TabledPrinted, printed-in-table}
-use Rattle.promises.proofs.Numbers.{Tabled, reading-in-table, leaf-in-table, TabledLines, located-in-table, located-at-in-table, TabledSplit, split-in-table, TabledStore, stored-in-table, signed-in-table, told-in-table, written-in-table}
+use Rattle.promises.proofs.Nightly.{totals-in-table, added-in-table, totalled-ends, printed-in-table, printed-ends}
+use Rattle.promises.proofs.Numbers.{Tabled, reading-in-table, leaf-in-table, located-in-table, located-at-in-table, TabledSplit, split-in-table, TabledStore, stored-in-table, signed-in-table, told-in-table, written-in-table}
 
 -- Each kind of definition: what its contract says of an outcome gives the end.
 read-ends : (s : List ℕ) (nodes entries slots : List ℕ) (nesting : ℕ) (r : SillRead) (ns es ss : List ℕ)
@@ -110,48 +83,6 @@ leaf-ends : (a : Answer Leaf) → Tabled a → (r : SillLeaf) → r ≡ leafStru
 leaf-ends (gives l) t r h = answers (toldOf l) h
 leaf-ends (stops n p) t r h = refuses n p t h tt
 
-locate-ends : (x : table.Reading) → TabledLines x → (lent left : List ℕ) (r : SillLocated) → r ≡ locatedStruct (answer x) → left ≡ recordsOf (length lent) x → LocateEnds r (Zero lent left)
-unfolding recordsOf
-locate-ends (table.done at k whole) t lent left r e h = answers (k, whole) e
-locate-ends (table.refused n p) t lent left r e h = refuses n p t e h
-
-locations-end : (x : table.Reading) → TabledLines x → (flat left : List ℕ) (out placed : List Location) (r : SillLocated)
-    → r ≡ locatedStruct (answer x) → left ≡ recordsOf (length flat) x → placed ≡ locationsOf (length out) x
-    → LocateEnds r (Zero flat left × (placed ≡ replicate (length out) blank))
-unfolding recordsOf locationsOf
-locations-end (table.done at k whole) t flat left out placed r e h h′ = answers (k, whole) e
-locations-end (table.refused n p) t flat left out placed r e h h′ = refuses n p t e (h, h′)
-
-salvage-ends : (s : List ℕ) (first count : ℕ) (lent left : List ℕ) (r : SillSalvaged) → r ≡ salvagedStruct (repair s first count (length lent) .0) → left ≡ repair s first count (length lent) .1
-    → Ends r (λ (d : ℕ × Account). salvagedStruct (listed (d .0) (d .1))) (λ number place. salvagedStruct (refusedWith number place)) (Zero lent left)
-unfolding repair
-salvage-ends s first count lent left r e h =
-    go (ltb mostBytes (length s)) (ltb mostBytes (length (salvaged s first count))) (ltb (length lent) (length (salvaged s first count))) refl refl refl e h
-  where
-    go : (t u v : Bool) → ltb mostBytes (length s) ≡ t → ltb mostBytes (length (salvaged s first count)) ≡ u → ltb (length lent) (length (salvaged s first count)) ≡ v
-        → r ≡ salvagedStruct (repair s first count (length lent) .0) → left ≡ repair s first count (length lent) .1
-        → Ends r (λ (d : ℕ × Account). salvagedStruct (listed (d .0) (d .1))) (λ number place. salvagedStruct (refusedWith number place)) (Zero lent left)
-    go true u v x y z e h = refuses inputTooLong 0 (omega arith, omega arith) (rw x at e) (rw x at h)
-    go false true v x y z e h = refuses inputTooLong 0 (omega arith, omega arith) (rw (x, y) at e) (rw (x, y) at h)
-    go false false true x y z e h = refuses noRoom (min (length lent) 4294967295) (omega arith, omega arith) (rw (x, y, z) at e) (rw (x, y, z) at h)
-    go false false false x y z e h = answers (length (salvaged s first count), salvage s first count) (rw (x, y, z) at e)
-
--- `sill_sources` refuses as `sill_locate` does, so with a number of the table
-abbrev TabledMarks : Marks → Type 0
-TabledMarks (marked bytes) = Unit {0}
-TabledMarks (denied number place) = InTable number
-
-marks-in-table : (count : ℕ) (x : table.Reading) (m : Marks) → TabledLines x → Agrees count x m → TabledMarks m
-marks-in-table count x (marked bytes) t g = tt
-marks-in-table count (table.done at k whole) (denied number place) t g = absurd g
-marks-in-table count (table.refused n p) (denied number place) t g = subst InTable (g .0) t
-
-sources-end : (m : Marks) → TabledMarks m → (lent left : List ℕ) (r : SillSourced) → r ≡ sourcedStruct (answerOf m) → left ≡ bytesOf (length lent) m
-    → Ends r (λ (d : Counts). sourcedStruct (told accepted 0 d)) (λ number place. sourcedStruct (told number place (counts 0 0 0 0))) (Zero lent left)
-unfolding bytesOf
-sources-end (marked bytes) t lent left r e h = answers (countsOf bytes) e
-sources-end (denied number place) t lent left r e h = refuses number place t e h
-
 varint-ends : (o : Written × List ℕ) (lent : List ℕ) → TabledStore (length lent) o → (r : SillWritten) (left : List ℕ) → (r, left) ≡ writtenAs o → VarintEnds r (Zero lent left)
 varint-ends (varint.Done count, xs) lent t r left e = answers count (ap (λ x. x .0) e)
 varint-ends (varint.Refused n p, xs) lent t r left e = refuses n p (t .0) (ap (λ x. x .0) e) (ap (λ x. x .1) e ∙ t .1)
@@ -168,26 +99,6 @@ found-ends : (count at : ℕ) (x : Found) → Told count at at x → (r : SillFo
 found-ends count at (found.Number value next) t r e = answers (some (value, next)) e
 found-ends count at found.Nothing t r e = answers none e
 found-ends count at (found.Refused n p) t r e = refuses n p (told-in-table (t .1)) e tt
-
-decoded-ends : (o : Decoded × List ℕ) (lent : List ℕ) → TabledDecoded (length lent) o → (r : SillExceptions) (left : List ℕ) → (r, left) ≡ decodedAs o
-    → Ends r (λ count. decodedStruct (decoded.Done count)) (λ number place. decodedStruct (decoded.Refused number place)) (Zero lent left)
-decoded-ends (decoded.Done count, xs) lent t r left e = answers count (ap (λ x. x .0) e)
-decoded-ends (decoded.Refused n p, xs) lent t r left e = refuses n p (t .0) (ap (λ x. x .0) e) (ap (λ x. x .1) e ∙ t .1)
-
-encoded-ends : (o : Encoded × List ℕ) (lent : List ℕ) → TabledEncoded (length lent) o → (r : SillWritten) (left : List ℕ) → (r, left) ≡ encodedAs o
-    → Ends r (λ count. encodedStruct (encoded.Done count)) (λ number place. encodedStruct (encoded.Refused number place)) (Zero lent left)
-encoded-ends (encoded.Done count, xs) lent t r left e = answers count (ap (λ x. x .0) e)
-encoded-ends (encoded.Refused n p, xs) lent t r left e = refuses n p (t .0) (ap (λ x. x .0) e) (ap (λ x. x .1) e ∙ t .1)
-
-totalled-ends : (o : Totalled × List ℕ) (lent : List ℕ) → TabledTotals (length lent) o → (r : SillTotalled) (left : List ℕ) → (r, left) ≡ totalledAs o
-    → Ends r (λ (done : Unit {0}). totalledStruct totalled.Done) (λ number place. totalledStruct (totalled.Refused number place)) (Zero lent left)
-totalled-ends (totalled.Done, xs) lent t r left e = answers tt (ap (λ x. x .0) e)
-totalled-ends (totalled.Refused n p, xs) lent t r left e = refuses n p (t .0) (ap (λ x. x .0) e) (ap (λ x. x .1) e ∙ t .1)
-
-printed-ends : (o : Printed × List ℕ) (lent : List ℕ) → TabledPrinted (length lent) o → (r : SillWritten) (left : List ℕ) → (r, left) ≡ printedAs o
-    → Ends r (λ count. printedStruct (printed.Done count)) (λ number place. printedStruct (printed.Refused number place)) (Zero lent left)
-printed-ends (printed.Done count, xs) lent t r left e = answers count (ap (λ x. x .0) e)
-printed-ends (printed.Refused n p, xs) lent t r left e = refuses n p (t .0) (ap (λ x. x .0) e) (ap (λ x. x .1) e ∙ t .1)
 
 pub demand-1 : Demand1
 demand-1 =

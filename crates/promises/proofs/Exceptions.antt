@@ -1,15 +1,14 @@
 -- The refusals of exception tables are numbers of the table, and a refusal leaves the store zero: 14, 19, 2, 18 and 17 when reading, 18
--- and 17 when writing. By cases of the definitions. Assumes nothing.
-use mathlib.Core.Path.{_≡_, refl}
-use mathlib.Core.Logic.{_⊎_, inl, inr}
-use mathlib.Core.Bool.{Bool, true, false, cond, _&&_}
+-- and 17 when writing. So the exports end. By cases of the definitions. Assumes nothing.
+use mathlib.Core.Path.{_≡_, refl, ap, _∙_}
+use mathlib.Core.Bool.{_&&_}
 use mathlib.Core.List.{List, [], _∷_}
 use mathlib.Core.Option.{Option, none, some}
-use Prim.Native.Nat.{ℕ, zero, suc, _+_, _/_, _^_, _≤_, _<_, min}
+use Prim.Native.Nat.{ℕ, zero, suc, _+_, _/_, _^_, min}
 use native.Mathlib.Omega.{arith}
 use lib.Dec.{ltb}
 use lib.ListN.{length}
-use Rattle.refusals.specs.Numbers.{accepted, dataTooShort, inputTooLong, noRoom, numberRange, noMarker}
+use Rattle.refusals.specs.Numbers.{dataTooShort, noMarker}
 use Rattle.refusals.specs.Limits.{mostBytes, nothing}
 use Rattle.clearing.specs.Lent.{zeros}
 use Rattle.varintread.specs.Reading.{readVarint, readVarintWithStart}
@@ -27,12 +26,11 @@ use Rattle.exceptiontable.specs.declared.Decoded.{Decoded}
 use Rattle.exceptiontable.specs.declared.Decoded.the-variants as decoded
 use Rattle.exceptiontable.specs.declared.Encoded.{Encoded}
 use Rattle.exceptiontable.specs.declared.Encoded.the-variants as encoded
-use Rattle.promises.specs.Demand1.{InTable}
-use Rattle.promises.proofs.Numbers.{told-in-table}
-
-either : {A : Type 0} (P : A → Type 0) (t : Bool) (x y : A) → P x → P y → P (cond t x y)
-either P true x y h k = h
-either P false x y h k = k
+use Rattle.sillgarland.specs.Exceptions.{decodedStruct, decodedAs, encodedStruct, encodedAs}
+use Rattle.sillgarland.specs.declared.exceptions.SillExceptions.{SillExceptions}
+use Rattle.sillgarland.specs.declared.varints.SillWritten.{SillWritten}
+use Rattle.promises.specs.Demand1.{InTable, Ends, answers, refuses, Zero}
+use Rattle.promises.proofs.Numbers.{either, told-in-table}
 
 abbrev TabledTaken : Taken → Type 0
 TabledTaken (taken.Number value next) = Unit {0}
@@ -126,3 +124,14 @@ unfolding encodedOf
 encoded-in-table store room =
     let es = entriesIn store 0 (length store / 5) in
     held-tabled room (tableOf es) (encodedFrom (min room nothing) 0 es) (encoded-tabled (min room nothing) 0 es)
+
+-- what a contract says of an outcome gives the end
+pub decoded-ends : (o : Decoded × List ℕ) (lent : List ℕ) → TabledDecoded (length lent) o → (r : SillExceptions) (left : List ℕ) → (r, left) ≡ decodedAs o
+    → Ends r (λ count. decodedStruct (decoded.Done count)) (λ number place. decodedStruct (decoded.Refused number place)) (Zero lent left)
+decoded-ends (decoded.Done count, xs) lent t r left e = answers count (ap (λ x. x .0) e)
+decoded-ends (decoded.Refused n p, xs) lent t r left e = refuses n p (t .0) (ap (λ x. x .0) e) (ap (λ x. x .1) e ∙ t .1)
+
+pub encoded-ends : (o : Encoded × List ℕ) (lent : List ℕ) → TabledEncoded (length lent) o → (r : SillWritten) (left : List ℕ) → (r, left) ≡ encodedAs o
+    → Ends r (λ count. encodedStruct (encoded.Done count)) (λ number place. encodedStruct (encoded.Refused number place)) (Zero lent left)
+encoded-ends (encoded.Done count, xs) lent t r left e = answers count (ap (λ x. x .0) e)
+encoded-ends (encoded.Refused n p, xs) lent t r left e = refuses n p (t .0) (ap (λ x. x .0) e) (ap (λ x. x .1) e ∙ t .1)

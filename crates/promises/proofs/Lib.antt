@@ -1,6 +1,7 @@
 pub mod RowStarts
 pub mod Numbers
 pub mod Reading
+pub mod LineEnds
 pub mod Exceptions
 pub mod Joins
 pub mod Nightly

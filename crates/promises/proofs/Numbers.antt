@@ -56,9 +56,13 @@ abbrev pub Tabled : {A : Type 0} → Answer A → Type 0
 Tabled (gives x) = Unit
 Tabled (stops number place) = InTable number
 
+-- what holds of both, whichever it is
+pub either : {A : Type 0} (P : A → Type 0) (b : Bool) (x y : A) → P x → P y → P (cond b x y)
+either P true x y h k = h
+either P false x y h k = k
+
 if-tabled : {A : Type 0} (b : Bool) (x y : Answer A) → Tabled x → Tabled y → Tabled (cond b x y)
-if-tabled true x y h k = h
-if-tabled false x y h k = k
+if-tabled b x y h k = either Tabled b x y h k
 
 -- The reading.
 abbrev inTable : List ℕ → Bool

@@ -4,6 +4,7 @@
 mod beside;
 mod corpus;
 mod cpython;
+mod equal;
 mod exceptions;
 mod extremes;
 #[cfg(carried)]
@@ -112,6 +113,7 @@ fn run(options: Options) -> Result<bool, String> {
         Task::Sources => Ok(sources::hold(17, SOURCES)),
         Task::Starts => Ok(starts::hold(19, STARTS)),
         Task::Totals => Ok(totals::hold(19, TOTALS)),
+        Task::Equal => Ok(equal::hold(20, EQUAL)),
         Task::Extremes => Ok(extremes::hold()),
         Task::HasRust => {
             println!("{}", if cfg!(carried) { "yes" } else { "no" });
@@ -165,11 +167,14 @@ fn joins(options: &Options) -> Result<bool, String> {
 /// How many random line tables, for where places come from.
 const SOURCES: usize = 400_000;
 
+/// How many random values, each in two forms and changed in one place.
+const EQUAL: usize = 400_000;
+
 /// How many random totals, counted, added and printed.
 const TOTALS: usize = 1_000_000;
 
-/// What documents 01 and 02 alone tell: the leaf question and writing on any stores, exception tables, joins, row starts, totals, and
-/// demand 3 at every room.
+/// What documents 01 and 02 alone tell: the leaf question and writing on any stores, exception tables, joins, row starts, totals,
+/// equal values and equal bytes, and demand 3 at every room.
 fn without_the_rust() -> Result<bool, String> {
     let found = corpus::inputs()?;
     Ok(all([
@@ -181,6 +186,7 @@ fn without_the_rust() -> Result<bool, String> {
         exceptions::hold(18, EXCEPTIONS),
         join::hold(19, JOINS),
         totals::hold(19, TOTALS),
+        equal::hold(20, EQUAL),
         sweep::hold(13, || values::inputs_to_sweep(14, 200_000).chain(found.iter().cloned())),
     ]))
 }

@@ -13,6 +13,7 @@ usage: rig [--tables FILE]                       compare with the carried Rust, 
        rig --sources                             where instructions' places come from: the model, nothing else
        rig --starts                              row starts: the model, nothing else
        rig --totals                              nightly totals: the model, nothing else
+       rig --equal                               equal values are written as equal bytes and no others, nothing else
        rig --goldens PATH..                      compare on golden files; without a PATH, say how
        rig --extremes                            values and line tables of 16 MiB in each extreme shape, timed
        rig --has-rust                            say yes or no: whether it was built with the carried Rust
@@ -44,6 +45,7 @@ pub enum Task {
     Sources,
     Starts,
     Totals,
+    Equal,
     Replay,
     Goldens(Vec<String>),
     HasRust,
@@ -80,6 +82,7 @@ impl Options {
                     options.set(Task::Goldens(words.by_ref().collect()))?;
                 }
                 "--totals" => options.set(Task::Totals)?,
+                "--equal" => options.set(Task::Equal)?,
                 "--exceptions" => options.set(Task::Exceptions)?,
                 "--joins" => options.set(Task::Joins)?,
                 "--sources" => options.set(Task::Sources)?,

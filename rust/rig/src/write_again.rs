@@ -22,7 +22,8 @@ pub fn write_all(text: &str, path: &str) -> Result<bool, String> {
     Ok(true)
 }
 
-fn written(input: &[u8]) -> Result<Vec<u8>, String> {
+/// What the port writes of what it reads.
+pub fn written(input: &[u8]) -> Result<Vec<u8>, String> {
     let reading = read(&Part::new(input), MOST_NESTING, ample(input));
     if reading.answer.refusal != ACCEPTED {
         return Err(format!("not read: {:?}", reading.answer));

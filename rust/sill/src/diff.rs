@@ -1,4 +1,5 @@
 //! `sill diff`: whether two files hold the same values, and where they first differ.
+use crate::by_bytes::{self, Told};
 use crate::options::Arguments;
 use crate::{Outcome, files, text};
 use sillgarland::{Content, Difference, Golden, NUMBERS, Reader, Refused, Value, What, first_difference};
@@ -38,6 +39,7 @@ impl<'a> Side<'a> {
 fn compare(mut sides: [Side; 2], out: &mut dyn Write) -> io::Result<Outcome> {
     let mut readers = [Reader::new(), Reader::new()];
     let mut values = 0;
+    let mut all_by_bytes = true;
     while sides.iter().all(Side::has_more) {
         values += 1;
         let [one, other] = &mut readers;
@@ -50,22 +52,50 @@ fn compare(mut sides: [Side; 2], out: &mut dyn Write) -> io::Result<Outcome> {
                 return Ok(Outcome::Bad);
             }
         };
-        if let Some(difference) = first_difference(left.root(), right.root()) {
-            tell(&difference, values, &sides, out)?;
-            return Ok(Outcome::Bad);
+        match judge(left, right, values, &sides, out)? {
+            Judged::SameBytes => {}
+            Judged::SameParts => all_by_bytes = false,
+            Judged::Different => return Ok(Outcome::Bad),
         }
         let consumed = [left.consumed(), right.consumed()];
         sides.iter_mut().zip(consumed).for_each(|(side, consumed)| side.at += consumed);
     }
-    tell_end(&sides, values, out)
+    tell_end(&sides, values, all_by_bytes, out)
 }
 
-fn tell_end(sides: &[Side; 2], values: usize, out: &mut dyn Write) -> io::Result<Outcome> {
+/// By what two values were found the same, or that they are not.
+enum Judged {
+    SameBytes,
+    SameParts,
+    Different,
+}
+
+/// The written bytes decide. The comparison part by part only says where two values differ; where the bytes say nothing it
+/// decides, and that is told.
+fn judge(left: Golden, right: Golden, values: usize, sides: &[Side; 2], out: &mut dyn Write) -> io::Result<Judged> {
+    let told = by_bytes::tell(left, right);
+    match &told {
+        Told::Same => return Ok(Judged::SameBytes),
+        Told::Different { .. } => {}
+        Told::Nothing(why) => {
+            writeln!(out, "value {values} is compared part by part, not by its written bytes: {why}")?
+        }
+    }
+    match (first_difference(left.root(), right.root()), told) {
+        (Some(difference), _) => tell(&difference, values, sides, out)?,
+        (None, Told::Different { from }) => writeln!(out, "different in value {values}: written, from byte {from} on")?,
+        (None, _) => return Ok(Judged::SameParts),
+    }
+    Ok(Judged::Different)
+}
+
+fn tell_end(sides: &[Side; 2], values: usize, all_by_bytes: bool, out: &mut dyn Write) -> io::Result<Outcome> {
     let [one, other] = sides.each_ref().map(|side| text::path(side.path));
     let longer = sides.iter().find(|side| side.has_more());
     match longer {
         None => {
-            writeln!(out, "the same: {one} and {other}, {}", text::count(values, "value"))?;
+            let how = if all_by_bytes { ", written as the same bytes" } else { "" };
+            writeln!(out, "the same: {one} and {other}, {}{how}", text::count(values, "value"))?;
             Ok(Outcome::Good)
         }
         Some(side) => {
@@ -107,6 +137,5 @@ fn first_different_byte(left: Value, right: Value) -> Option<usize> {
         (Content::Text(left), Content::Text(right)) => (left.bytes(), right.bytes()),
         _ => return None,
     };
-    let alike = left.iter().zip(right).take_while(|(left, right)| left == right).count();
-    Some(alike)
+    Some(by_bytes::alike(left, right))
 }

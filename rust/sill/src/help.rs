@@ -178,8 +178,14 @@ pub const DIFF: Page = Page {
     summary: "say whether two files hold the same values",
     text: "\
 The same means: the same numbers, float bits, bytes and strings, the same kinds and sequences of children, and code objects
-alike in all parts. How values are shared and which of several letters an integer, string or tuple has does not count. If they
-differ, the first difference is shown: the path that leads to it, and the place and value on both sides.",
+alike in all parts. How values are shared and which of several letters an integer, string or tuple has does not count. Members
+of sets and dicts are compared in the order in which they are stored.
+
+Values are compared by the bytes that they are written as: it is proved that bytes that differ are of different values, and that
+equal bytes are of the same value if its code objects keep the name order. Of values that differ the first difference is shown:
+the path that leads to it, and the place and value on both sides. Where the bytes do not tell, since a value is longer than
+16 MiB once sharing is written out, or is out of name order, it is compared part by part, and a line says so: that comparison is
+tested and not proved.",
     options: &[HELP],
 };
 

@@ -1,5 +1,6 @@
 //! `sill`: the command for people who keep golden files. Exit status: 0 all is well, 1 a file is refused, not whole or
 //! different, 2 called wrongly, or a file that cannot be read or written.
+mod by_bytes;
 mod check;
 mod complaints;
 mod diff;

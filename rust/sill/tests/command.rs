@@ -403,8 +403,58 @@ mod comparing {
         let other = file(&folder, "other.golden", b"(\x02\0\0\0i\x05\0\0\0i\x05\0\0\0N");
         assert_eq!(
             ended(&["diff", &one, &other]),
-            (0, format!("the same: {one} and {other}, 2 values\n"), String::new())
+            (0, format!("the same: {one} and {other}, 2 values, written as the same bytes\n"), String::new())
         );
+    }
+
+    #[test]
+    fn a_set_in_another_order_is_another_value() {
+        let folder = folder("set-order");
+        let one = file(&folder, "one.golden", b"<\x02\0\0\0NT");
+        let other = file(&folder, "other.golden", b"<\x02\0\0\0TN");
+        let (status, shown, _) = ended(&["diff", &one, &other]);
+        assert_eq!(status, 1);
+        assert!(shown.starts_with("different in value 1, at [0]\n"), "{shown}");
+    }
+
+    /// The local names of a code object with a Local and two Cells.
+    fn with_local_names(folder: &Path, name: &str, locals: [&str; 3]) -> String {
+        let locals: String = locals.iter().map(|name| format!("z\x01{name}")).collect();
+        let code = [
+            b"c\0\0\0\0\0\0\0\0\0\0\0\0\0\0\0\0\0\0\0\0s\0\0\0\0)\0)\0)\x03".as_slice(),
+            locals.as_bytes(),
+            b"s\x03\0\0\0\x20\x40\x40z\0z\0z\x01f\x01\0\0\0s\0\0\0\0s\0\0\0\0",
+        ];
+        file(folder, name, &code.concat())
+    }
+
+    /// A Cell that has a Local's name is not written, so that equal bytes do not show where it stood.
+    #[test]
+    fn names_out_of_order_are_compared_part_by_part() {
+        let folder = folder("diff-order");
+        let one = with_local_names(&folder, "one.golden", ["a", "a", "b"]);
+        let alike = with_local_names(&folder, "alike.golden", ["a", "a", "b"]);
+        let other = with_local_names(&folder, "other.golden", ["a", "b", "a"]);
+        let why = "value 1 is compared part by part, not by its written bytes: \
+                   the local names of code object f are out of order\n";
+        let same = format!("{why}the same: {one} and {alike}, 1 value\n");
+        assert_eq!(ended(&["diff", &one, &alike]), (0, same, String::new()));
+        let (status, shown, _) = ended(&["diff", &one, &other]);
+        assert_eq!(status, 1);
+        assert!(shown.starts_with(&format!("{why}different in value 1, at .local_names[1]\n")), "{shown}");
+    }
+
+    /// 200 times 128 KiB, once sharing is written out.
+    #[test]
+    fn a_value_too_long_to_write_is_compared_part_by_part() {
+        let folder = folder("diff-long");
+        let long =
+            [b")\xC8".as_slice(), &counted(b'u' | 0x80, &vec![b'x'; 1 << 17]), &b"r\0\0\0\0".repeat(199)].concat();
+        let (one, other) = (file(&folder, "one.golden", &long), file(&folder, "other.golden", &long));
+        let (status, shown, _) = ended(&["diff", &one, &other]);
+        assert_eq!(status, 0);
+        assert!(shown.contains("not by its written bytes: it cannot be written: 17 NoRoom"), "{shown}");
+        assert!(shown.ends_with(&format!("the same: {one} and {other}, 1 value\n")), "{shown}");
     }
 
     #[test]
