@@ -81,11 +81,17 @@ le64-agrees κs a asked r r′ ws ws′ p p′ = (one p p′, refl)
 pub class-of-agrees : Agree fields.class_of.ended fields.class_of.Reads.Asked fields.class_of.Reads.Learnt
 class-of-agrees κs a asked r r′ ws ws′ p p′ = (retold classAt numberOf class-back p p′, refl)
 
+pub class-at-agrees : Agree fields.class_at.ended fields.class_at.Reads.Asked fields.class_at.Reads.Learnt
+class-at-agrees κs a asked r r′ ws ws′ p p′ = (retold classAt numberOf class-back p p′, refl)
+
 pub digit-count-agrees : Agree fields.digit_count.ended fields.digit_count.Reads.Asked fields.digit_count.Reads.Learnt
 digit-count-agrees κs a asked r r′ ws ws′ p p′ = (one (p .0) (p′ .0), refl)
 
 pub argument-sum-agrees : Agree fields.argument_sum.ended fields.argument_sum.Reads.Asked fields.argument_sum.Reads.Learnt
 argument-sum-agrees κs a asked r r′ ws ws′ p p′ = (one p p′, refl)
+
+pub read-form-agrees : Agree fields.read_form.ended fields.read_form.Reads.Asked fields.read_form.Reads.Learnt
+read-form-agrees κs a asked r r′ ws ws′ p p′ = (retold behindOf behindFrom behind-back (p .exact) (p′ .exact), refl)
 
 pub read-fields-agrees : Agree fields.read_fields.ended fields.read_fields.Reads.Asked fields.read_fields.Reads.Learnt
 read-fields-agrees κs a asked r r′ ws ws′ p p′ = (retold behindOf behindFrom behind-back (p .exact) (p′ .exact), refl)

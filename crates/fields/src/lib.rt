@@ -1,13 +1,17 @@
 // What stands behind a header and is read without looking at any child: numbers, classes of letters, and the fields of each class.
 // The reader asks it of a header that it has read, and the record test of a node that claims to have been read.
 ghost use mathlib.Core.Path.{_≡_};
-ghost use Prim.Native.Nat.{_+_, _*_, _≤_, _<_};
+ghost use Prim.Native.Nat.{_+_, _*_, _%_, _≤_, _<_};
 ghost use lib.ListN.{length};
 ghost use Rattle.refusals.specs.Limits.{mostBytes};
 ghost use Rattle.grammar.specs.Letters.{classOf, keeps, contains, codes, fixed, double, long, bytes, text, short, sequence, few};
 ghost use Rattle.grammar.specs.Fields;
-ghost use Rattle.fields.specs.Classes.{classAt, keptClasses};
+ghost use Rattle.wtf8.specs.Leads.{leadTable};
+ghost use Rattle.fields.specs.Classes.{classAt, formClasses, keptClasses};
+ghost use Rattle.fields.specs.Headers.{headerTable};
 ghost use Rattle.fields.specs.Behind.{Reads, Judges};
+
+pub mod header_bytes;
 
 // The children to come: so many values, pairs up to the null in a key's place, or the parts of a code.
 pub enum Kids {
@@ -144,6 +148,15 @@ pub fn class_of(letter: u32) -> u32
     }
 }
 
+// The class of a header byte's letter, by the table of header bytes, which is lent. A letter of a record, which may be any number of 32
+// bits, is asked of `class_of`.
+pub fn class_at(classes: &[u8; 256], header: u32) -> u32
+    requires { ⌜ (header < 256) × (now classes ≡ headerTable) ⌝ }
+    ensures { λ r. ⌜ classAt r ≡ classOf (header % 128) ⌝ }
+{
+    word(classes[header as usize])
+}
+
 // A field of a fixed size, and no children.
 pub fn read_fixed(s: &[u8], at: u32, size: u32) -> Behind
     requires { ⌜ (at ≤ length (now s)) × (length (now s) ≤ mostBytes) × (size ≤ mostBytes) ⌝ }
@@ -227,8 +240,8 @@ pub fn read_bytes(s: &[u8], at: u32) -> Behind
 }
 
 // So many bytes that are UTF-8 with surrogates allowed.
-fn read_wtf8(s: &[u8], at: u32, size: u32) -> Judged
-    requires { ⌜ (at ≤ length (now s)) × (length (now s) ≤ mostBytes) ⌝ }
+fn read_wtf8(s: &[u8], at: u32, size: u32, leads: &[u8; 256]) -> Judged
+    requires { ⌜ (at ≤ length (now s)) × (length (now s) ≤ mostBytes) × (now leads ≡ leadTable) ⌝ }
     ensures { λ r. ⌜ Judges (now (s .entry)) (at + size) (Fields.string (now (s .entry)) at size) r ⌝ }
 {
     let from = at as usize;
@@ -236,22 +249,22 @@ fn read_wtf8(s: &[u8], at: u32, size: u32) -> Judged
     if s.len() < from + count {
         return Judged::Refused(refusals::DATA_TOO_SHORT, at);
     }
-    if !wtf8::is_wtf8(&s[from..from + count]) {
+    if !wtf8::is_wtf8_by_table(&s[from..from + count], leads) {
         return Judged::Refused(refusals::INVALID_UTF8, at);
     }
     Judged::Fine
 }
 
 // A length, and a string of so many bytes.
-pub fn read_text(s: &[u8], at: u32) -> Behind
-    requires { ⌜ (at ≤ length (now s)) × (length (now s) ≤ mostBytes) ⌝ }
+pub fn read_text(s: &[u8], at: u32, leads: &[u8; 256]) -> Behind
+    requires { ⌜ (at ≤ length (now s)) × (length (now s) ≤ mostBytes) × (now leads ≡ leadTable) ⌝ }
     ensures { λ r. ⌜ Reads (now (s .entry)) (contains text) at r ⌝ }
 {
     match read_len(s, at) {
         Judged::Refused(number, place) => Behind::Refused(number, place),
         Judged::Fine => {
             let size = le32(s, at as usize);
-            match read_wtf8(s, at + 4, size) {
+            match read_wtf8(s, at + 4, size, leads) {
                 Judged::Refused(number, place) => Behind::Refused(number, place),
                 Judged::Fine => Behind::Span(at + 4, size, Kids::Items(0)),
             }
@@ -260,8 +273,8 @@ pub fn read_text(s: &[u8], at: u32) -> Behind
 }
 
 // A one-byte length, and a string of so many bytes.
-pub fn read_short(s: &[u8], at: u32) -> Behind
-    requires { ⌜ (at ≤ length (now s)) × (length (now s) ≤ mostBytes) ⌝ }
+pub fn read_short(s: &[u8], at: u32, leads: &[u8; 256]) -> Behind
+    requires { ⌜ (at ≤ length (now s)) × (length (now s) ≤ mostBytes) × (now leads ≡ leadTable) ⌝ }
     ensures { λ r. ⌜ Reads (now (s .entry)) (contains short) at r ⌝ }
 {
     let p = at as usize;
@@ -269,7 +282,7 @@ pub fn read_short(s: &[u8], at: u32) -> Behind
         return Behind::Refused(refusals::DATA_TOO_SHORT, at);
     }
     let size = word(s[p]);
-    match read_wtf8(s, at + 1, size) {
+    match read_wtf8(s, at + 1, size, leads) {
         Judged::Refused(number, place) => Behind::Refused(number, place),
         Judged::Fine => Behind::Span(at + 1, size, Kids::Items(0)),
     }
@@ -364,9 +377,9 @@ pub fn argument_sum(s: &[u8], place: usize) -> u64
     arguments + keyword_only + flags / 4 % 2 + flags / 8 % 2
 }
 
-// The fields behind the header of a node, from the byte after it on.
-pub fn read_fields(s: &[u8], class: u32, at: u32) -> Behind
-    requires { ⌜ (class < keptClasses) × (at ≤ length (now s)) × (length (now s) ≤ mostBytes) ⌝ }
+// The fields behind the header of a node whose place is the byte after the header.
+pub fn read_form(s: &[u8], class: u32, at: u32) -> Behind
+    requires { ⌜ (class < formClasses) × (at ≤ length (now s)) × (length (now s) ≤ mostBytes) ⌝ }
     ensures { λ r. ⌜ Reads (now (s .entry)) (classAt class) at r ⌝ }
 {
     match class {
@@ -378,10 +391,22 @@ pub fn read_fields(s: &[u8], class: u32, at: u32) -> Behind
         SEQUENCE_CLASS => read_sequence(s, at),
         FEW_CLASS => read_few(s, at),
         SLICE_CLASS => Behind::Span(at, 0, Kids::Items(3)),
-        DICT_CLASS => Behind::Span(at, 0, Kids::Pairs),
+        _ => Behind::Span(at, 0, Kids::Pairs),
+    }
+}
+
+// The fields behind the header of a node, from the byte after it on.
+pub fn read_fields(s: &[u8], class: u32, at: u32, leads: &[u8; 256]) -> Behind
+    requires { ⌜ (class < keptClasses) × (at ≤ length (now s)) × (length (now s) ≤ mostBytes) × (now leads ≡ leadTable) ⌝ }
+    ensures { λ r. ⌜ Reads (now (s .entry)) (classAt class) at r ⌝ }
+{
+    if class < BYTES_CLASS {
+        return read_form(s, class, at);
+    }
+    match class {
         BYTES_CLASS => read_bytes(s, at),
-        TEXT_CLASS => read_text(s, at),
-        SHORT_CLASS => read_short(s, at),
+        TEXT_CLASS => read_text(s, at, leads),
+        SHORT_CLASS => read_short(s, at, leads),
         _ => read_numbers(s, at),
     }
 }

@@ -3,15 +3,15 @@
 ghost use mathlib.Core.Path.{_≡_};
 ghost use Prim.Native.Nat.{ℕ, _+_, _*_, _≤_, _<_};
 ghost use lib.ListN.{length, getD};
-ghost use Rattle.grammar.specs.Fields.{parts, codeNumbers};
 ghost use Rattle.grammar.specs.Answer.{readOf};
-ghost use Rattle.fields.specs.Behind.{childrenOf};
+ghost use Rattle.fields.specs.Headers.{tablesLent};
 ghost use Rattle.readsteps.specs.Held.{Safe, LineIn};
+ghost use Rattle.readleaves.specs.Turns.{PartsIn};
 ghost use Rattle.readleaves.specs.Readings.{ReadsValue, ReadsBody, ReadsChild};
 ghost use Rattle.reader.specs.Delivered.{Delivers};
 
 // A value, the Rust's deserialize_value_depth: what stands before its children, then these, then its record and its slot, which are
-// written when it is complete.
+// written when it is complete. Letter and flag are read again then, so that no level holds them while its children are read.
 fn value(
     s: &[u8],
     nodes: &mut [u32],
@@ -20,11 +20,12 @@ fn value(
     room: readsteps::Room,
     allowance: u32,
     w: readsteps::Walk,
+    tables: &[[u8; 256]; 2],
 ) -> readsteps::Step
-    requires { ⌜ Safe (now s) room w (now nodes) (now entries) (now slots) ⌝ }
+    requires { ⌜ Safe (now s) room w (now nodes) (now entries) (now slots) × (now tables ≡ tablesLent) ⌝ }
     ensures { λ r. ⌜ ReadsValue (now (s .entry)) room allowance w (now (nodes .entry)) (now (entries .entry)) (now (slots .entry)) r (now (nodes .exit)) (now (entries .exit)) (now (slots .exit)) ⌝ }
 {
-    let o = readsteps::front(s, slots, room, allowance, w);
+    let o = readsteps::front(s, slots, room, allowance, w, tables);
     match o {
         readsteps::Opened::Refused(number, place) => readsteps::Step::Refused(number, place),
         readsteps::Opened::Known(v, at) => readsteps::Step::Value(
@@ -65,6 +66,7 @@ fn value(
                 line,
                 kids,
                 w.at,
+                tables,
             );
             match k {
                 readsteps::Linked::Refused(number, place) => readsteps::Step::Refused(
@@ -73,15 +75,16 @@ fn value(
                 ),
                 readsteps::Linked::Line(l) => {
                     let size = readsteps::node_size(kids, h.place, h.size, l.line);
+                    let byte = readsteps::byte_at(s, w.at);
                     let record = stores::Node {
-                        letter: h.letter,
+                        letter: byte % 128,
                         place: h.place,
                         size,
                         first: l.first,
                         count: l.count,
                     };
                     stores::write_node(nodes, node, record);
-                    stores::fill_slot(slots, h.flag, slot, node);
+                    stores::fill_slot(slots, byte / 128, slot, node);
                     let after = l.walk;
                     readsteps::Step::Value(node, after)
                 }
@@ -103,14 +106,27 @@ fn typed(
     line: readsteps::Line,
     kids: fields::Kids,
     header: u32,
+    tables: &[[u8; 256]; 2],
 ) -> readsteps::Linked
-    requires { ⌜ Safe (now s) room (line .walk) (now nodes) (now entries) (now slots) × LineIn line × (line .count ≡ 0) × (childrenOf kids ≡ parts → (0 < allowance) × (header + 1 + codeNumbers ≤ length (now s))) ⌝ }
-    ensures { λ r. ⌜ ReadsBody kids header (now (s .entry)) room allowance line (now (nodes .entry)) (now (entries .entry)) (now (slots .entry)) r (now (nodes .exit)) (now (entries .exit)) (now (slots .exit)) ⌝ }
+    requires { ⌜ Safe (now s) room (line .walk) (now nodes) (now entries) (now slots) × LineIn line × (line .count ≡ 0) × PartsIn kids allowance header (now s) × (now tables ≡ tablesLent) ⌝ }
+    ensures { λ r. ⌜ ReadsBody kids header (now (s .entry)) room allowance line (now (nodes .entry)) (now (entries .entry)) (now (slots .entry))
+        r (now (nodes .exit)) (now (entries .exit)) (now (slots .exit)) ⌝ }
 {
     let below = readsteps::below(kids, allowance);
     let mut l = line;
     loop {
-        let n = readleaves::run(s, nodes, entries, slots, room, below, l, kids, header);
+        let n = readleaves::run(
+            s,
+            nodes,
+            entries,
+            slots,
+            room,
+            below,
+            l,
+            kids,
+            header,
+            tables,
+        );
         match n {
             readsteps::Next::Refused(number, place) => {
                 return readsteps::Linked::Refused(number, place);
@@ -119,7 +135,7 @@ fn typed(
                 return readsteps::Linked::Line(m);
             }
             readsteps::Next::Child(m, rule) => {
-                let r = child(s, nodes, entries, slots, room, below, m, rule);
+                let r = child(s, nodes, entries, slots, room, below, m, rule, tables);
                 match r {
                     readsteps::Linked::Refused(number, place) => {
                         return readsteps::Linked::Refused(number, place);
@@ -143,12 +159,14 @@ fn child(
     allowance: u32,
     line: readsteps::Line,
     rule: u32,
+    tables: &[[u8; 256]; 2],
 ) -> readsteps::Linked
-    requires { ⌜ Safe (now s) room (line .walk) (now nodes) (now entries) (now slots) × LineIn line ⌝ }
-    ensures { λ r. ⌜ ReadsChild rule (now (s .entry)) room allowance line (now (nodes .entry)) (now (entries .entry)) (now (slots .entry)) r (now (nodes .exit)) (now (entries .exit)) (now (slots .exit)) ⌝ }
+    requires { ⌜ Safe (now s) room (line .walk) (now nodes) (now entries) (now slots) × LineIn line × (now tables ≡ tablesLent) ⌝ }
+    ensures { λ r. ⌜ ReadsChild rule (now (s .entry)) room allowance line (now (nodes .entry)) (now (entries .entry)) (now (slots .entry))
+        r (now (nodes .exit)) (now (entries .exit)) (now (slots .exit)) ⌝ }
 {
     let from = line.walk;
-    let c = value(s, nodes, entries, slots, room, allowance, from);
+    let c = value(s, nodes, entries, slots, room, allowance, from, tables);
     match c {
         readsteps::Step::Refused(number, place) => readsteps::Linked::Refused(number, place),
         readsteps::Step::Value(v, after) => {
@@ -158,6 +176,23 @@ fn child(
             readsteps::attach(entries, room.entries, line, from.at, v, after)
         }
     }
+}
+
+// A value, by the tables of header bytes and of first bytes, which are made here, once for all that is read.
+fn by_tables(
+    s: &[u8],
+    nodes: &mut [u32],
+    entries: &mut [u32],
+    slots: &mut [u32],
+    room: readsteps::Room,
+    allowance: u32,
+    w: readsteps::Walk,
+) -> readsteps::Step
+    requires { ⌜ Safe (now s) room w (now nodes) (now entries) (now slots) ⌝ }
+    ensures { λ r. ⌜ ReadsValue (now (s .entry)) room allowance w (now (nodes .entry)) (now (entries .entry)) (now (slots .entry)) r (now (nodes .exit)) (now (entries .exit)) (now (slots .exit)) ⌝ }
+{
+    let tables = [fields::header_bytes::CLASSES, wtf8::first_bytes::LEADS];
+    value(s, nodes, entries, slots, room, allowance, w, &tables)
 }
 
 // The answer: bytes consumed and the counts of nodes, entries and slots; or a refusal's number and place.
@@ -179,7 +214,8 @@ pub fn deserialize_value(
     slots: &mut [u32],
     nesting: u32,
 ) -> Outcome
-    ensures { λ r. ⌜ Delivers (readOf (now (input .entry)) (length (now (nodes .entry))) (length (now (entries .entry))) (length (now (slots .entry))) nesting) r (now (nodes .exit)) (now (entries .exit)) (now (slots .exit)) ⌝ }
+    ensures { λ r. ⌜ Delivers (readOf (now (input .entry)) (length (now (nodes .entry))) (length (now (entries .entry))) (length (now (slots .entry))) nesting)
+        r (now (nodes .exit)) (now (entries .exit)) (now (slots .exit)) ⌝ }
 {
     clearing::clear_words(nodes);
     clearing::clear_words(entries);
@@ -199,7 +235,7 @@ pub fn deserialize_value(
         entries: 0,
         slots: 0,
     };
-    let r = value(input, nodes, entries, slots, room, allowance, start);
+    let r = by_tables(input, nodes, entries, slots, room, allowance, start);
     match r {
         readsteps::Step::Value(_, w) => Outcome::Read {
             consumed: w.at,

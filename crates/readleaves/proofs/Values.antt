@@ -4,10 +4,11 @@ use mathlib.Core.Path.{_≡_, refl, sym, ap, subst, subst₂, _∙_}
 use Prim.Native.Nat.{ℕ, zero, suc, _+_, _-_, _≤_}
 use native.Mathlib.Omega.{arith}
 use mathlib.Core.List.{List}
-use lib.ListN.{length}
+use lib.ListN.{length, getD}
 use borrow.Author.Tests.{le-ltb}
 use Rattle.grammar.specs.Reading.{gives, bind}
 use Rattle.grammar.specs.Room.{run}
+use Rattle.grammar.specs.Letters.{letterOf, flagOf}
 use Rattle.grammar.specs.Fields.{Fields}
 use Rattle.grammar.specs.State.{State, movedTo}
 use Rattle.grammar.specs.Steps.{known, opens, front, body, enter, close, fresh, fill, sizeOf, after, one, value}
@@ -155,3 +156,13 @@ module _ {s : List ℕ} {room : Room} {allowance : ℕ} {w : Walk} {ns es ss : L
                     (holds-close {l = l} refl (g .2) st (w .nodes) (w .slots) (hd .letter) (hd .flag) (said hd kids) size (h .nodes) (h .slots) ez (omega (arith, mv .0)) (omega (arith, mv .0))),
               );
         }
+
+    -- the same where letter and flag are read from the header byte again
+    pub value-closed : {l : Line} {size byte : ℕ} {ns″ ss″ : List ℕ} → r ≡ linked.Line l → size ≡ sizeOf (childrenOf kids) (hd .place) (hd .size) (l .line) → byte ≡ getD s (w .at) 0
+        → ns″ ≡ nodeWritten ns′ (w .nodes) (record { letter = letterOf byte; place = hd .place; size = size; first = l .first; count = l .count })
+        → ss″ ≡ fill (flagOf byte) (w .slots) (w .nodes) ss′
+        → ReadsValue s room allowance w ns es ss (step.Value (w .nodes) (l .walk)) ns″ es′ ss″
+    value-closed {l} {size} q ez is en ek =
+        value-whole q ez
+        (en ∙ ap (λ x. nodeWritten ns′ (w .nodes) (record { letter = x; place = hd .place; size = size; first = l .first; count = l .count })) (ap letterOf is ∙ sym (ahead .lettered)))
+        (ek ∙ ap (λ x. fill x (w .slots) (w .nodes) ss′) (ap flagOf is ∙ sym (ahead .flagged)))

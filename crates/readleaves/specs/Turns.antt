@@ -9,7 +9,7 @@ use Rattle.refusals.specs.Limits.{mostBytes, mostRecords}
 use Rattle.grammar.specs.Reading.{bind}
 use Rattle.grammar.specs.Room.{run}
 use Rattle.grammar.specs.State.{nodeWidth}
-use Rattle.grammar.specs.Fields.{parts}
+use Rattle.grammar.specs.Fields.{parts, codeNumbers}
 use Rattle.grammar.specs.Steps.{Chain, whatever, codeParts, ended}
 use Rattle.fields.specs.Behind.{childrenOf}
 use Rattle.fields.specs.declared.Kids.{Kids}
@@ -28,6 +28,13 @@ use Rattle.readleaves.specs.declared.Taken.the-variants as taken
 use Rattle.readleaves.specs.declared.Tried.{Tried}
 use Rattle.readleaves.specs.declared.Tried.the-variants as tried
 use Rattle.readleaves.specs.Readings.{ChainReader, ReadsValue, ReadsChild, ReadsBody, childOf, kidsOf, couplesOf, partsOf}
+
+-- What is asked where a code's parts are read: its numbers stand behind its header; and, where its levels are not yet tested, one is left.
+abbrev pub NumbersIn : Kids → (header : ℕ) → List ℕ → Type 0
+NumbersIn kids header s = childrenOf kids ≡ parts → header + 1 + codeNumbers ≤ length s
+
+abbrev pub PartsIn : Kids → (allowance header : ℕ) → List ℕ → Type 0
+PartsIn kids allowance header s = childrenOf kids ≡ parts → (0 < allowance) × (header + 1 + codeNumbers ≤ length s)
 
 -- The head of the loop.
 

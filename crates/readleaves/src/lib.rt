@@ -4,11 +4,11 @@ ghost use mathlib.Core.Path.{_≡_};
 ghost use Prim.Native.Nat.{_+_, _≤_, _<_};
 ghost use lib.ListN.{length};
 ghost use Rattle.refusals.specs.Limits.{mostBytes, mostRecords};
-ghost use Rattle.grammar.specs.Fields.{parts, codeNumbers};
-ghost use Rattle.fields.specs.Behind.{childrenOf};
+ghost use Rattle.wtf8.specs.Leads.{leadTable};
+ghost use Rattle.fields.specs.Headers.{tablesLent};
 ghost use Rattle.readsteps.specs.Held.{Safe, LineIn};
 ghost use Rattle.readleaves.specs.Fronts.{Refers, Spans, Leafs, Plainly};
-ghost use Rattle.readleaves.specs.Turns.{SafeLeaf, Takes, Tries, Runs};
+ghost use Rattle.readleaves.specs.Turns.{NumbersIn, SafeLeaf, Takes, Tries, Runs};
 
 // A value that is known already and the place after it; a leaf; or what is left to others.
 pub enum Plain {
@@ -31,8 +31,8 @@ fn reference(s: &[u8], slots: &[u32], at: u32) -> Plain
 
 // The fields of the classes that are read in a few steps. Any other class is answered as fields that are refused are: both are left to
 // others.
-fn read_leaf(s: &[u8], class: u32, at: u32) -> fields::Behind
-    requires { ⌜ (at ≤ length (now s)) × (length (now s) ≤ mostBytes) ⌝ }
+fn read_leaf(s: &[u8], class: u32, at: u32, leads: &[u8; 256]) -> fields::Behind
+    requires { ⌜ (at ≤ length (now s)) × (length (now s) ≤ mostBytes) × (now leads ≡ leadTable) ⌝ }
     ensures { λ r. ⌜ Spans (now (s .entry)) class at r ⌝ }
 {
     match class {
@@ -40,18 +40,18 @@ fn read_leaf(s: &[u8], class: u32, at: u32) -> fields::Behind
         fields::FIXED4_CLASS => fields::read_fixed(s, at, 4),
         fields::FIXED8_CLASS => fields::read_fixed(s, at, 8),
         fields::BYTES_CLASS => fields::read_bytes(s, at),
-        fields::TEXT_CLASS => fields::read_text(s, at),
-        fields::SHORT_CLASS => fields::read_short(s, at),
+        fields::TEXT_CLASS => fields::read_text(s, at, leads),
+        fields::SHORT_CLASS => fields::read_short(s, at, leads),
         _ => fields::Behind::Refused(refusals::ACCEPTED, at),
     }
 }
 
 // The head of a leaf: of a node without children.
-fn head(s: &[u8], letter: u32, flag: u32, class: u32, at: u32) -> Plain
-    requires { ⌜ (at ≤ length (now s)) × (length (now s) ≤ mostBytes) ⌝ }
+fn head(s: &[u8], letter: u32, flag: u32, class: u32, at: u32, leads: &[u8; 256]) -> Plain
+    requires { ⌜ (at ≤ length (now s)) × (length (now s) ≤ mostBytes) × (now leads ≡ leadTable) ⌝ }
     ensures { λ r. ⌜ Leafs (now (s .entry)) letter flag class at r ⌝ }
 {
-    match read_leaf(s, class, at) {
+    match read_leaf(s, class, at, leads) {
         fields::Behind::Refused(_, _) => Plain::Other,
         fields::Behind::Span(place, size, kids) => match kids {
             fields::Kids::Pairs => Plain::Other,
@@ -78,8 +78,9 @@ fn front(
     room: readsteps::Room,
     allowance: u32,
     w: readsteps::Walk,
+    tables: &[[u8; 256]; 2],
 ) -> Plain
-    requires { ⌜ (w .at ≤ length (now s)) × (length (now s) ≤ mostBytes) × (w .slots ≤ room .slots) × (room .slots ≤ mostRecords) ⌝ }
+    requires { ⌜ (w .at ≤ length (now s)) × (length (now s) ≤ mostBytes) × (w .slots ≤ room .slots) × (room .slots ≤ mostRecords) × (now tables ≡ tablesLent) ⌝ }
     ensures { λ r. ⌜ Plainly (now (s .entry)) (now (slots .entry)) room allowance w r ⌝ }
 {
     let at = w.at;
@@ -92,7 +93,7 @@ fn front(
     let byte = readsteps::byte_at(s, at);
     let letter = byte % 128;
     let flag = byte / 128;
-    let class = fields::class_of(letter);
+    let class = fields::class_at(&tables[0], byte);
     if class == fields::REFERENCE_CLASS {
         return reference(s, slots, at + 1);
     }
@@ -102,7 +103,7 @@ fn front(
     if room.nodes <= w.nodes {
         return Plain::Other;
     }
-    head(s, letter, flag, class, at + 1)
+    head(s, letter, flag, class, at + 1, &tables[1])
 }
 
 // A plain value, read on the spot; or none, and then nothing is written.
@@ -126,11 +127,12 @@ fn leaf(
     room: readsteps::Room,
     allowance: u32,
     w: readsteps::Walk,
+    tables: &[[u8; 256]; 2],
 ) -> Taken
-    requires { ⌜ SafeLeaf (now s) room w (now nodes) (now slots) ⌝ }
+    requires { ⌜ SafeLeaf (now s) room w (now nodes) (now slots) × (now tables ≡ tablesLent) ⌝ }
     ensures { λ r. ⌜ Takes (now (s .entry)) room allowance w (now (nodes .entry)) (now (slots .entry)) r (now (nodes .exit)) (now (slots .exit)) ⌝ }
 {
-    let o = front(s, slots, room, allowance, w);
+    let o = front(s, slots, room, allowance, w, tables);
     match o {
         Plain::Other => Taken::Other,
         Plain::Known(v, at) => Taken::Value(
@@ -174,12 +176,14 @@ fn leaf_child(
     allowance: u32,
     line: readsteps::Line,
     rule: u32,
+    tables: &[[u8; 256]; 2],
 ) -> Tried
-    requires { ⌜ Safe (now s) room (line .walk) (now nodes) (now entries) (now slots) × LineIn line ⌝ }
-    ensures { λ r. ⌜ Tries rule (now (s .entry)) room allowance line (now (nodes .entry)) (now (entries .entry)) (now (slots .entry)) r (now (nodes .exit)) (now (entries .exit)) (now (slots .exit)) ⌝ }
+    requires { ⌜ Safe (now s) room (line .walk) (now nodes) (now entries) (now slots) × LineIn line × (now tables ≡ tablesLent) ⌝ }
+    ensures { λ r. ⌜ Tries rule (now (s .entry)) room allowance line (now (nodes .entry)) (now (entries .entry)) (now (slots .entry))
+        r (now (nodes .exit)) (now (entries .exit)) (now (slots .exit)) ⌝ }
 {
     let from = line.walk;
-    let t = leaf(s, nodes, slots, room, allowance, from);
+    let t = leaf(s, nodes, slots, room, allowance, from, tables);
     match t {
         Taken::Other => Tried::Other,
         Taken::Value(v, after) => {
@@ -206,9 +210,11 @@ pub fn run(
     line: readsteps::Line,
     kids: fields::Kids,
     header: u32,
+    tables: &[[u8; 256]; 2],
 ) -> readsteps::Next
-    requires { ⌜ Safe (now s) room (line .walk) (now nodes) (now entries) (now slots) × LineIn line × (childrenOf kids ≡ parts → header + 1 + codeNumbers ≤ length (now s)) ⌝ }
-    ensures { λ r. ⌜ Runs kids header (now (s .entry)) room allowance line (now (nodes .entry)) (now (entries .entry)) (now (slots .entry)) r (now (nodes .exit)) (now (entries .exit)) (now (slots .exit)) ⌝ }
+    requires { ⌜ Safe (now s) room (line .walk) (now nodes) (now entries) (now slots) × LineIn line × NumbersIn kids header (now s) × (now tables ≡ tablesLent) ⌝ }
+    ensures { λ r. ⌜ Runs kids header (now (s .entry)) room allowance line (now (nodes .entry)) (now (entries .entry)) (now (slots .entry))
+        r (now (nodes .exit)) (now (entries .exit)) (now (slots .exit)) ⌝ }
 {
     let mut l = line;
     loop {
@@ -221,7 +227,7 @@ pub fn run(
                 return readsteps::Next::Done(m);
             }
             readsteps::Next::Child(m, rule) => {
-                let t = leaf_child(s, nodes, entries, slots, room, allowance, m, rule);
+                let t = leaf_child(s, nodes, entries, slots, room, allowance, m, rule, tables);
                 match t {
                     Tried::Other => {
                         return readsteps::Next::Child(m, rule);

@@ -100,6 +100,7 @@ module _ {s : List ℕ} {allowance letter flag class at : ℕ} (is : class < kep
           ahead = record {
             past = a .0;
             within = a .1;
+            lettered = refl;
             flagged = refl;
             code = λ q.
                 let x = parts-code s class at is place size (childrenOf kids) e q in
@@ -171,11 +172,23 @@ module _ (s ss : List ℕ) (room : Room) (allowance : ℕ) (w : Walk) where
   known-ahead (answer.Node hd kids) h = absurd h
   known-ahead (answer.Refused n p) h = tt
 
-  node-ahead : (flag : ℕ) (r : Opened) → NodeAhead s allowance flag (w .at + 1) r → flag ≤ 1 → w .slots + flag ≤ room .slots → w .nodes < room .nodes → 0 < allowance → Ahead s room allowance w r
-  node-ahead flag (answer.Known v at) h one slots n l = absurd h
-  node-ahead flag (answer.Node hd kids) h one slots n l =
-      record { past = h .past; within = h .within; flag = omega (arith, h .flagged); slot = omega (arith, h .flagged); node = n; level = l; code = h .code }
-  node-ahead flag (answer.Refused x p) h one slots n l = tt
+  -- of a header byte: its letter and its flag go with the node
+  node-ahead : (byte : ℕ) (r : Opened) → byte ≡ getD s (w .at) 0 → NodeAhead s allowance (letterOf byte) (flagOf byte) (w .at + 1) r → byte < 256 → w .slots + flagOf byte ≤ room .slots
+      → w .nodes < room .nodes → 0 < allowance → Ahead s room allowance w r
+  node-ahead byte (answer.Known v at) is h small slots n l = absurd h
+  node-ahead byte (answer.Node hd kids) is h small slots n l =
+      record {
+        past = h .past;
+        within = h .within;
+        lettered = h .lettered ∙ ap letterOf is;
+        flagged = h .flagged ∙ ap flagOf is;
+        flag = omega (arith, h .flagged);
+        slot = omega (arith, h .flagged);
+        node = n;
+        level = l;
+        code = h .code;
+      }
+  node-ahead byte (answer.Refused x p) is h small slots n l = tt
 
   module _ (byte class : ℕ) (some : allowance ≡ 0 → ⊥) (there : w .at < length s) (is : byte ≡ getD s (w .at) 0) (sorted : classAt class ≡ classOf (byte % 128)) where
     at-header : (depth : ℕ) → run (R depth) (front s depth (w .at) (w .nodes) (w .slots) ss) ≡ run (R depth) (header s depth (w .at) (w .nodes) (w .slots) ss (byte % 128) (byte / 128) (classAt class))
@@ -261,7 +274,7 @@ module _ {s ss : List ℕ} {room : Room} {allowance : ℕ} {w : Walk} where
           pub front-opened : class < refusedFrom → w .nodes < room .nodes → {r : Opened} → Opens s allowance (byte % 128) (byte / 128) class (w .at + 1) r → Fronts s ss room allowance w r
           front-opened sound h {r} k =
               record {
-                ahead = node-ahead s ss room allowance w (byte / 128) r (k .ahead) (omega arith) fits h (omega arith);
+                ahead = node-ahead s ss room allowance w byte r is (k .ahead) small fits h (omega arith);
                 exact = λ depth.
                     k .exact room depth
                     ∙ sym

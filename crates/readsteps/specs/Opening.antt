@@ -3,9 +3,9 @@
 use mathlib.Core.Path.{_≡_}
 use Prim.Native.Nat.{ℕ, _+_, _≤_, _<_}
 use mathlib.Core.List.{List}
-use lib.ListN.{length}
+use lib.ListN.{length, getD}
 use Rattle.grammar.specs.Reading.{Reading, claim, level, Answer, gives, stops}
-use Rattle.grammar.specs.Letters.{Class, refers, keeps, contains, codes, refuses}
+use Rattle.grammar.specs.Letters.{Class, refers, keeps, contains, codes, refuses, letterOf, flagOf}
 use Rattle.grammar.specs.Room.{run}
 use Rattle.grammar.specs.Steps.{Front, known, opens, opened, reference, front}
 use Rattle.grammar.specs.Fields.{parts, codeNumbers}
@@ -48,25 +48,29 @@ inner s depth at letter flag (refuses number) = opened letter flag (fieldsOf s (
 abbrev pub CodeAt : (at allowance : ℕ) → Head → Kids → Type 0
 CodeAt at allowance h kids = childrenOf kids ≡ parts → (h .place ≡ at) × (h .size ≡ codeNumbers) × (2 ≤ allowance)
 
-pub record Spans (s : List ℕ) (allowance flag at : ℕ) (h : Head) (kids : Kids) : Type 0 where
+pub record Spans (s : List ℕ) (allowance letter flag at : ℕ) (h : Head) (kids : Kids) : Type 0 where
   pub past : at ≤ h .place
   pub within : h .place + h .size ≤ length s
+  pub lettered : h .letter ≡ letter
   pub flagged : h .flag ≡ flag
   pub code : CodeAt at allowance h kids
 
-abbrev pub NodeAhead : List ℕ → (allowance flag at : ℕ) → Opened → Type 0
-NodeAhead s allowance flag at (answer.Known v a) = ⊥
-NodeAhead s allowance flag at (answer.Node h kids) = Spans s allowance flag at h kids
-NodeAhead s allowance flag at (answer.Refused n p) = Unit
+abbrev pub NodeAhead : List ℕ → (allowance letter flag at : ℕ) → Opened → Type 0
+NodeAhead s allowance letter flag at (answer.Known v a) = ⊥
+NodeAhead s allowance letter flag at (answer.Node h kids) = Spans s allowance letter flag at h kids
+NodeAhead s allowance letter flag at (answer.Refused n p) = Unit
 
 pub record Opens (s : List ℕ) (allowance letter flag class at : ℕ) (r : Opened) : Type 0 where
-  pub ahead : NodeAhead s allowance flag at r
+  pub ahead : NodeAhead s allowance letter flag at r
   pub exact : (room : Room) (depth : ℕ) → frontOf r ≡ run (rooms room (depth + allowance)) (inner s depth at letter flag (classAt class))
 
--- What a caller of `front` goes on with: the head lies in the input, and there is room for the node and for its slot.
+-- What a caller of `front` goes on with: the head lies in the input, its letter and its flag are those of the header byte, and there is
+-- room for the node and for its slot.
 pub record HeadIn (s : List ℕ) (room : Room) (allowance : ℕ) (w : Walk) (h : Head) (kids : Kids) : Type 0 where
   pub past : w .at + 1 ≤ h .place
   pub within : h .place + h .size ≤ length s
+  pub lettered : h .letter ≡ letterOf (getD s (w .at) 0)
+  pub flagged : h .flag ≡ flagOf (getD s (w .at) 0)
   pub flag : h .flag ≤ 1
   pub slot : w .slots + h .flag ≤ room .slots
   pub node : w .nodes < room .nodes

@@ -10,7 +10,9 @@ ghost use Rattle.grammar.specs.Letters.{isBytes, isTuple, isString};
 ghost use Rattle.grammar.specs.Fields.{parts, codeNumbers};
 ghost use Rattle.grammar.specs.State.{entryWidth};
 ghost use Rattle.grammar.specs.Steps.{rules, whatever, codeParts, sizeOf};
+ghost use Rattle.wtf8.specs.Leads.{leadTable};
 ghost use Rattle.fields.specs.Classes.{codeClass, keptClasses};
+ghost use Rattle.fields.specs.Headers.{tablesLent};
 ghost use Rattle.fields.specs.Behind.{childrenOf};
 ghost use Rattle.readsteps.specs.Opening.{References, Opens, Fronts};
 ghost use Rattle.readsteps.specs.Linking.{Attaches, ItemNext, PairNext, PartNext, Nexts, belowOf, ruleOf, ruleNumber, stringsIn, suitsIn, firstLined, faultIn};
@@ -101,14 +103,22 @@ fn levels(class: u32) -> u32
 }
 
 // The fields of a node whose slot and record are claimed. A code's body is tested for its level before any field.
-fn open_node(s: &[u8], allowance: u32, letter: u32, flag: u32, class: u32, at: u32) -> Opened
-    requires { ⌜ (0 < allowance) × (class < keptClasses) × (at ≤ length (now s)) × (length (now s) ≤ mostBytes) ⌝ }
+fn open_node(
+    s: &[u8],
+    allowance: u32,
+    letter: u32,
+    flag: u32,
+    class: u32,
+    at: u32,
+    leads: &[u8; 256],
+) -> Opened
+    requires { ⌜ (0 < allowance) × (class < keptClasses) × (at ≤ length (now s)) × (length (now s) ≤ mostBytes) × (now leads ≡ leadTable) ⌝ }
     ensures { λ r. ⌜ Opens (now (s .entry)) allowance letter flag class at r ⌝ }
 {
     if allowance < levels(class) {
         return Opened::Refused(refusals::TOO_DEEP, at);
     }
-    let behind = fields::read_fields(s, class, at);
+    let behind = fields::read_fields(s, class, at, leads);
     match behind {
         fields::Behind::Refused(number, place) => Opened::Refused(number, place),
         fields::Behind::Span(place, size, kids) => Opened::Node(
@@ -132,8 +142,15 @@ pub fn byte_at(s: &[u8], at: u32) -> u32
 
 // All that comes before a value's children, in 01's order: allowance, header, reference, slot, letter, node, fields. It only reads:
 // what it claims is claimed by going on.
-pub fn front(s: &[u8], slots: &[u32], room: Room, allowance: u32, w: Walk) -> Opened
-    requires { ⌜ (w .at ≤ length (now s)) × (length (now s) ≤ mostBytes) × (w .slots ≤ room .slots) × (room .slots ≤ mostRecords) ⌝ }
+pub fn front(
+    s: &[u8],
+    slots: &[u32],
+    room: Room,
+    allowance: u32,
+    w: Walk,
+    tables: &[[u8; 256]; 2],
+) -> Opened
+    requires { ⌜ (w .at ≤ length (now s)) × (length (now s) ≤ mostBytes) × (w .slots ≤ room .slots) × (room .slots ≤ mostRecords) × (now tables ≡ tablesLent) ⌝ }
     ensures { λ r. ⌜ Fronts (now (s .entry)) (now (slots .entry)) room allowance w r ⌝ }
 {
     let at = w.at;
@@ -146,7 +163,7 @@ pub fn front(s: &[u8], slots: &[u32], room: Room, allowance: u32, w: Walk) -> Op
     let byte = byte_at(s, at);
     let letter = byte % 128;
     let flag = byte / 128;
-    let class = fields::class_of(letter);
+    let class = fields::class_at(&tables[0], byte);
     if class == fields::REFERENCE_CLASS {
         return resolve_ref(s, slots, at + 1);
     }
@@ -159,7 +176,7 @@ pub fn front(s: &[u8], slots: &[u32], room: Room, allowance: u32, w: Walk) -> Op
     if room.nodes <= w.nodes {
         return Opened::Refused(refusals::NO_NODE, at);
     }
-    open_node(s, allowance, letter, flag, class, at + 1)
+    open_node(s, allowance, letter, flag, class, at + 1, &tables[1])
 }
 
 // The node of one part of a code: this child, where so many came before it.

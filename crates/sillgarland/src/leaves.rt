@@ -42,7 +42,8 @@ pub extern "C" fn sill_locate_node(
     records: &mut [u32],
 ) -> SillLocated
     ensures { λ r. ⌜ (r ≡ locatedStruct (answer (locatedAt (now (input .entry)) (now (nodes .entry)) used node (firstLine «first_line») count (length (now (records .entry)) / 4))))
-        × (now (records .exit) ≡ recordsOf (length (now (records .entry))) (locatedAt (now (input .entry)) (now (nodes .entry)) used node (firstLine «first_line») count (length (now (records .entry)) / 4))) ⌝ }
+        × (now (records .exit) ≡ recordsOf (length (now (records .entry)))
+        (locatedAt (now (input .entry)) (now (nodes .entry)) used node (firstLine «first_line») count (length (now (records .entry)) / 4))) ⌝ }
 {
     let answer = locate::locate_node(input, nodes, used, node, first_line, count, records);
     crate::locations::located_numbers(answer)

@@ -42,7 +42,8 @@ pub extern "C" fn sill_locations(
 ) -> SillLocated
     ensures { λ r. ⌜ (r ≡ locatedStruct (answer (located (now (table .entry)) (firstLine «first_line») count (min (length (now (flat .entry)) / 4) (length (now (out .entry)))))))
         × (now (flat .exit) ≡ recordsOf (length (now (flat .entry))) (located (now (table .entry)) (firstLine «first_line») count (min (length (now (flat .entry)) / 4) (length (now (out .entry))))))
-        × (now (out .exit) ≡ locationsOf (length (now (out .entry))) (located (now (table .entry)) (firstLine «first_line») count (min (length (now (flat .entry)) / 4) (length (now (out .entry)))))) ⌝ }
+        × (now (out .exit) ≡ locationsOf (length (now (out .entry)))
+        (located (now (table .entry)) (firstLine «first_line») count (min (length (now (flat .entry)) / 4) (length (now (out .entry)))))) ⌝ }
 {
     let answer = linetable::linetable_to_locations(table, first_line, count, flat, out);
     located_numbers(answer)

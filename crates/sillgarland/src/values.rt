@@ -77,7 +77,8 @@ pub extern "C" fn sill_write(
     nesting: u32,
     out: &mut [u8],
 ) -> SillWritten
-    ensures { λ r. ⌜ WroteAs (written (tablesOf (now (input .entry)) (now (nodes .entry)) (now (entries .entry)) «used_nodes» «used_entries») root nesting (length (now (out .entry)))) (length (now (out .entry))) r (now (out .exit)) ⌝ }
+    ensures { λ r. ⌜ WroteAs (written (tablesOf (now (input .entry)) (now (nodes .entry)) (now (entries .entry)) «used_nodes» «used_entries») root nesting (length (now (out .entry))))
+        (length (now (out .entry))) r (now (out .exit)) ⌝ }
 {
     let answer = writer::serialize_value(
         input,

@@ -34,7 +34,7 @@ fn read_again(s: &[u8], node: stores::Node, class: u32) -> bool
     requires { ⌜ (class < formClasses) × (node .place ≤ length (now s)) × (length (now s) ≤ mostBytes) ⌝ }
     ensures { λ r. ⌜ r ≡ Record.ruled (now (s .entry)) (nodeOf node) (classAt class) ⌝ }
 {
-    match fields::read_fields(s, class, node.place) {
+    match fields::read_form(s, class, node.place) {
         fields::Behind::Refused(_, _) => false,
         fields::Behind::Span(_, size, kids) => {
             if node.size != size {

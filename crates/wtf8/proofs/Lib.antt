@@ -5,3 +5,6 @@ pub mod Going
 pub mod Lengths
 pub mod Exactly
 pub mod Determined
+pub mod Tested
+pub mod Table
+pub mod Resting

@@ -16,7 +16,7 @@ use Rattle.wtf8.specs.Ascii.{UpTo}
 use Rattle.wtf8.specs.Sequence.{Taken, Reached, within}
 
 -- one byte more
-turn : (s : List ℕ) (i : ℕ) (e : Expected) → i < length s → allows (drop i s) e ≡ allows (drop (suc i) s) (after e (getD s i 0))
+pub turn : (s : List ℕ) (i : ℕ) (e : Expected) → i < length s → allows (drop i s) e ≡ allows (drop (suc i) s) (after e (getD s i 0))
 unfolding allows
 turn s i e h = rw (drop-cons s i 0)
 

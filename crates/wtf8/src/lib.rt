@@ -1,11 +1,15 @@
 // Whether bytes are UTF-8 with surrogate code points allowed: what the bytes of every string have to be.
-// ASCII is settled by whole blocks; only other bytes are gone through sequence by sequence, by their leads.
+// ASCII is settled by whole blocks; only other bytes are gone through: by the table of first bytes where it is lent, as the reader
+// does, and else sequence by sequence, by comparisons of the first byte.
 ghost use mathlib.Core.Path.{_≡_};
 ghost use Prim.Native.Nat.{ℕ, _*_, _≤_, _<_};
 ghost use lib.ListN.{length, getD};
 ghost use Rattle.wtf8.specs.Ascii.{Greatest, Tells};
 ghost use Rattle.wtf8.specs.Forms.{wellFormed, afterLead, point, trail};
+ghost use Rattle.wtf8.specs.Leads.{leadTable, rowTable, turned};
 ghost use Rattle.wtf8.specs.Sequence.{Taken, Reached, lowAfter, highAfter, within};
+
+pub mod first_bytes;
 
 // Whether the bytes are the encodings, one after another, of code points up to 10FFFF.
 pub fn is_wtf8(bytes: &[u8]) -> bool
@@ -18,6 +22,76 @@ pub fn is_wtf8(bytes: &[u8]) -> bool
         return sequences(bytes, false);
     }
     sequences(bytes, true)
+}
+
+// The same by the table of first bytes. It is lent, since a table that a function makes is made again in each call.
+pub fn is_wtf8_by_table(bytes: &[u8], leads: &[u8; 256]) -> bool
+    requires { ⌜ now leads ≡ leadTable ⌝ }
+    ensures { λ r. ⌜ r ≡ wellFormed (now (bytes .entry)) ⌝ }
+{
+    if is_ascii(bytes) {
+        return true;
+    }
+    let rows = ROWS;
+    comes_to_rest(bytes, leads, &rows)
+}
+
+// The row of each group: at the place of each stage, in bits, the place of the stage that follows.
+const ROWS: [u64; 11] = [
+    0xAAAAAAAAAA80,
+    0xA8CAAA30602A,
+    0xAAA32A30602A,
+    0xAAA30630602A,
+    0xAAAAAAAAAAAA,
+    0xAAAAAAAAAA86,
+    0xAAAAAAAAAA98,
+    0xAAAAAAAAAA8C,
+    0xAAAAAAAAAA9E,
+    0xAAAAAAAAAA92,
+    0xAAAAAAAAAAA4,
+];
+
+// Whether a new code point may begin after the last byte. Two bytes a turn: that is faster, and keeps rows and loop out of the reader's
+// frame.
+fn comes_to_rest(bytes: &[u8], leads: &[u8; 256], rows: &[u64; 11]) -> bool
+    requires { ⌜ (now leads ≡ leadTable) × (now rows ≡ rowTable) ⌝ }
+    ensures { λ r. ⌜ r ≡ wellFormed (now (bytes .entry)) ⌝ }
+{
+    let mut at = 0;
+    let mut state = 0u64;
+    while 2 <= bytes.len() - at {
+        let half = turn(leads, rows, state, bytes[at]);
+        state = turn(leads, rows, half, bytes[at + 1]);
+        at += 2;
+    }
+    if at < bytes.len() {
+        let last = turn(leads, rows, state, bytes[at]);
+        return last % 64 == 0;
+    }
+    state % 64 == 0
+}
+
+// The state after one more byte.
+fn turn(leads: &[u8; 256], rows: &[u64; 11], state: u64, byte: u8) -> u64
+    requires { ⌜ (now leads ≡ leadTable) × (now rows ≡ rowTable) ⌝ }
+    ensures { λ r. ⌜ r ≡ turned state byte ⌝ }
+{
+    let group = group_of(leads, byte);
+    rows[group] >> (state % 64)
+}
+
+// The group of a byte.
+fn group_of(leads: &[u8; 256], byte: u8) -> usize
+    requires { ⌜ now leads ≡ leadTable ⌝ }
+    ensures { λ r. ⌜ (r ≡ getD leadTable byte 0) × (r < 11) ⌝ }
+{
+    index(leads[byte as usize])
+}
+
+fn index(byte: u8) -> usize
+    ensures { λ r. ⌜ r ≡ byte ⌝ }
+{
+    byte as usize
 }
 
 // Whether all bytes are below 128. Up to 32 of them are looked at as two blocks of one size, which may overlap.

@@ -3,6 +3,8 @@
 #[cfg(carried)]
 mod exceptions;
 #[cfg(carried)]
+mod floor;
+#[cfg(carried)]
 mod linetable;
 #[cfg(carried)]
 mod python;

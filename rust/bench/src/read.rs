@@ -1,6 +1,8 @@
 //! Reading values: the port into stores just large enough, which it clears itself, beside the Rust's reader with three
 //! bags (the crate's own BasicBag, one that builds a tree, one that keeps nothing) and CPython's marshal.loads. What the
-//! Rust and CPython make is thrown away within the time.
+//! Rust and CPython make is thrown away within the time. Rows of plain values have a floor beside them: the same records
+//! without any check.
+use crate::floor;
 use crate::python::Python;
 use crate::timing::{Way, side_by_side, timed};
 use bags::{NothingBag, TreeBag};
@@ -88,7 +90,7 @@ const PLAIN: u8 = 30;
 pub struct Stores {
     pub nodes: Vec<u32>,
     pub entries: Vec<u32>,
-    slots: Vec<u32>,
+    pub slots: Vec<u32>,
 }
 
 impl Stores {
@@ -119,6 +121,11 @@ fn compare(title: &str, inputs: &[Vec<u8>]) {
     let mut stores: Vec<_> = inputs.iter().map(|input| Stores::just_enough(input)).collect();
     let nodes: usize = stores.iter().map(|stores| stores.nodes.len() / 5).sum();
     let mut python = Python::loading(inputs);
+    let mut floors: Vec<_> = if inputs.iter().all(|input| floor::is_flat(input)) {
+        inputs.iter().map(|input| on_the_floor(input)).collect()
+    } else {
+        Vec::new()
+    };
     let port = || {
         for (input, stores) in inputs.iter().zip(&mut stores) {
             black_box(stores.read(black_box(input)));
@@ -132,10 +139,28 @@ fn compare(title: &str, inputs: &[Vec<u8>]) {
     ways.push(Way { name: "the Rust, a tree", work: timed(|| assert!(by_the_rust(inputs, TreeBag::default()))) });
     ways.push(Way { name: "the Rust, nothing", work: timed(|| assert!(by_the_rust(inputs, NothingBag))) });
     ways.push(Way { name: "the port", work: timed(port) });
+    if !floors.is_empty() {
+        let fill = || {
+            for (input, stores) in inputs.iter().zip(&mut floors) {
+                floor::fill(black_box(input), stores);
+                black_box(&stores.nodes);
+            }
+        };
+        ways.push(Way { name: "the floor", work: timed(fill) });
+    }
     if let Some(python) = &mut python {
         ways.push(Way { name: "CPython's loads", work: Box::new(|| python.do_all()) });
     }
     side_by_side(&format!("{title}: {bytes} bytes, {nodes} nodes"), (nodes, "a node"), ways);
+}
+
+/// Stores as the floor fills them, which are those that the port fills.
+fn on_the_floor(input: &[u8]) -> Stores {
+    let port = Stores::just_enough(input);
+    let mut stores = Stores::just_enough(input);
+    floor::fill(input, &mut stores);
+    assert!(stores.nodes == port.nodes && stores.entries == port.entries && stores.slots == port.slots, "the floor differs");
+    stores
 }
 
 /// Reads every input, each to its end; false if one is refused.

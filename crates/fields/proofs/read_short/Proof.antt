@@ -33,8 +33,8 @@ enum-known-number c = search needs
 enum-told : tie.Need-enum-told
 enum-told c = search needs
 
-add-t15 : tie.Need-add-t15
-add-t15 c = search needs
+add-t16 : tie.Need-add-t16
+add-t16 c = search needs
 
 returns-2 : tie.Need-returns-2
 returns-2 c =
@@ -58,6 +58,6 @@ read-short-spec =
     read-wtf8-requires
     enum-known-number
     enum-told
-    add-t15
+    add-t16
     returns-2
     returns-3)

@@ -28,7 +28,7 @@ add-read-wtf8 c =
 read-wtf8-requires : tie.Need-read-wtf8-requires
 read-wtf8-requires c κs =
     let fine = passed (c .before .before .before .read-len .ensures) (c .before .enum-told .given .1) in
-    omega (arith, fine .within)
+    (omega (arith, fine .within), search needs, search needs)
 
 enum-known-number-2 : tie.Need-enum-known-number-2
 enum-known-number-2 c = search needs
@@ -36,8 +36,8 @@ enum-known-number-2 c = search needs
 enum-told-2 : tie.Need-enum-told-2
 enum-told-2 c = search needs
 
-add-t14 : tie.Need-add-t14
-add-t14 c =
+add-t15 : tie.Need-add-t15
+add-t15 c =
     let fine = passed (c .before .before .before .before .before .before .read-len .ensures) (c .before .before .before .before .enum-told .given .1) in
     omega (arith, fine .within)
 
@@ -70,7 +70,7 @@ read-text-spec =
     read-wtf8-requires
     enum-known-number-2
     enum-told-2
-    add-t14
+    add-t15
     returns
     returns-2
     returns-3)

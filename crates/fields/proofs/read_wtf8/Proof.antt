@@ -12,31 +12,31 @@ add-if1 c = search needs
 returns : tie.Need-returns
 returns c = record { within = tt; exact = λ rest. rw (lt-leb _ _ (c .if1 .taken)) }
 
-add-is-wtf8 : tie.Need-add-is-wtf8
-add-is-wtf8 c = search needs
+add-is-wtf8-by-table : tie.Need-add-is-wtf8-by-table
+add-is-wtf8-by-table c = search needs
 
-sub-is-wtf8 : tie.Need-sub-is-wtf8
-sub-is-wtf8 c = search needs
+sub-is-wtf8-by-table : tie.Need-sub-is-wtf8-by-table
+sub-is-wtf8-by-table c = search needs
 
-part-is-wtf8-start : tie.Need-part-is-wtf8-start
-part-is-wtf8-start c = search needs
+part-is-wtf8-by-table-start : tie.Need-part-is-wtf8-by-table-start
+part-is-wtf8-by-table-start c = search needs
 
-part-is-wtf8-end : tie.Need-part-is-wtf8-end
-part-is-wtf8-end c = search needs
+part-is-wtf8-by-table-end : tie.Need-part-is-wtf8-by-table-end
+part-is-wtf8-by-table-end c = search needs
 
-is-wtf8-requires : tie.Need-is-wtf8-requires
-is-wtf8-requires c κs = search needs
+is-wtf8-by-table-requires : tie.Need-is-wtf8-by-table-requires
+is-wtf8-by-table-requires c κs = search needs
 
 returns-2 : tie.Need-returns-2
 returns-2 c =
     let a = c .before .before .before .before .before .args in
-    string-bad (a .s .now) (a .at) (a .size) (c .before .before .before .if1 .left) (c .before .is-wtf8 .ensures)
+    string-bad (a .s .now) (a .at) (a .size) (c .before .before .before .if1 .left) (c .before .is-wtf8-by-table .ensures)
     (not-true _ (c .if2 .taken))
 
 returns-3 : tie.Need-returns-3
 returns-3 c =
     let a = c .before .before .before .before .before .args in
-    string-in (a .s .now) (a .at) (a .size) (c .before .before .before .if1 .left) (c .before .is-wtf8 .ensures)
+    string-in (a .s .now) (a .at) (a .size) (c .before .before .before .if1 .left) (c .before .is-wtf8-by-table .ensures)
     (not-false _ (c .if2 .left))
 
 pub read-wtf8-spec : {M : Type 1} → statement M
@@ -45,10 +45,10 @@ read-wtf8-spec =
     (tie.spec
     add-if1
     returns
-    add-is-wtf8
-    sub-is-wtf8
-    part-is-wtf8-start
-    part-is-wtf8-end
-    is-wtf8-requires
+    add-is-wtf8-by-table
+    sub-is-wtf8-by-table
+    part-is-wtf8-by-table-start
+    part-is-wtf8-by-table-end
+    is-wtf8-by-table-requires
     returns-2
     returns-3)

@@ -31,7 +31,10 @@ same-length-3 c = search needs
 
 returns : tie.Need-returns
 returns c =
-    whole-long (c .before .before .before .before .before .before .before .before .before .before .before .before .before .before .before .before .before .args .input .now) (length (c .before .before .before .before .before .before .before .before .before .before .before .before .before .before .before .before .before .args .nodes .now)) (length (c .before .before .before .before .before .before .before .before .before .before .before .before .before .before .before .before .before .args .entries .now)) (length (c .before .before .before .before .before .before .before .before .before .before .before .before .before .before .before .before .before .args .slots .now)) (c .before .before .before .before .before .before .before .before .before .before .before .before .before .before .before .before .before .args .nesting) (c .if1 .taken) (c .before .before .before .before .before .before .before .before .before .before .before .clear-words .ensures) (c .before .before .before .before .before .before .before .clear-words2 .ensures) (c .before .before .before .clear-words3 .ensures)
+    let at-clear-words2 = c .before .before .before .before .before .before .before in
+    let at-clear-words = at-clear-words2 .before .before .before .before in
+    let at-args = at-clear-words .before .before .before .before .before .before in
+    whole-long (at-args .args .input .now) (length (at-args .args .nodes .now)) (length (at-args .args .entries .now)) (length (at-args .args .slots .now)) (at-args .args .nesting) (c .if1 .taken) (at-clear-words .clear-words .ensures) (at-clear-words2 .clear-words2 .ensures) (c .before .before .before .clear-words3 .ensures)
 
 node-capacity-requires : tie.Need-node-capacity-requires
 node-capacity-requires c κs = search needs
@@ -45,8 +48,8 @@ at-most-requires c κs = search needs
 at-most-requires-2 : tie.Need-at-most-requires-2
 at-most-requires-2 c κs = search needs
 
-value-requires : tie.Need-value-requires
-value-requires c κs = search needs
+by-tables-requires : tie.Need-by-tables-requires
+by-tables-requires c κs = search needs
 
 enum-known-r : tie.Need-enum-known-r
 enum-known-r c = search needs
@@ -74,23 +77,54 @@ same-length-6 c = search needs
 
 returns-2 : tie.Need-returns-2
 returns-2 c =
-    whole-read (c .before .before .before .before .before .before .before .before .before .before .before .before .before .before .before .before .before .before .before .before .before .before .before .before .before .before .before .before .before .before .before .before .before .before .args .input .now) (length (c .before .before .before .before .before .before .before .before .before .before .before .before .before .before .before .before .before .before .before .before .before .before .before .before .before .before .before .before .before .before .before .before .before .before .args .nodes .now)) (length (c .before .before .before .before .before .before .before .before .before .before .before .before .before .before .before .before .before .before .before .before .before .before .before .before .before .before .before .before .before .before .before .before .before .before .args .entries .now)) (length (c .before .before .before .before .before .before .before .before .before .before .before .before .before .before .before .before .before .before .before .before .before .before .before .before .before .before .before .before .before .before .before .before .before .before .args .slots .now)) (c .before .before .before .before .before .before .before .before .before .before .before .before .before .before .before .before .before .before .before .before .before .before .before .before .before .before .before .before .before .before .before .before .before .before .args .nesting) (c .before .before .before .before .before .before .before .before .before .before .before .before .before .before .before .before .before .if1 .left) (c .before .before .before .before .before .before .before .before .before .before .before .before .before .before .before .before .before .before .before .before .before .before .before .before .before .before .before .before .clear-words .ensures) (c .before .before .before .before .before .before .before .before .before .before .before .before .before .before .before .before .before .before .before .before .before .before .before .before .clear-words2 .ensures) (c .before .before .before .before .before .before .before .before .before .before .before .before .before .before .before .before .before .before .before .before .clear-words3 .ensures) (c .before .before .before .before .before .before .before .before .before .before .before .before .before .before .before .before .node-capacity .ensures) (c .before .before .before .before .before .before .before .before .before .before .before .before .before .before .before .entry-capacity .ensures) (c .before .before .before .before .before .before .before .before .before .before .before .before .before .before .at-most .ensures) (c .before .before .before .before .before .before .before .before .before .before .before .before .before .at-most2 .ensures) (c .before .before .before .before .before .before .before .before .before .value .ensures) (c .before .r .given .1) (c .before .before .before .before .before .before .before .before .before .value .kept .1 .0) (c .before .before .before .before .before .before .before .before .before .value .kept .1 .1 .0) (c .before .before .before .before .before .before .before .before .before .value .kept .1 .1 .1 .0)
+    let at-by-tables = c .before .before .before .before .before .before .before .before .before in
+    let at-at-most2 = at-by-tables .before .before .before .before in
+    let at-at-most = at-at-most2 .before in
+    let at-entry-capacity = at-at-most .before in
+    let at-node-capacity = at-entry-capacity .before in
+    let at-if1 = at-node-capacity .before in
+    let at-clear-words3 = at-if1 .before .before .before in
+    let at-clear-words2 = at-clear-words3 .before .before .before .before in
+    let at-clear-words = at-clear-words2 .before .before .before .before in
+    let at-args = at-clear-words .before .before .before .before .before .before in
+    whole-read (at-args .args .input .now) (length (at-args .args .nodes .now)) (length (at-args .args .entries .now)) (length (at-args .args .slots .now)) (at-args .args .nesting) (at-if1 .if1 .left) (at-clear-words .clear-words .ensures) (at-clear-words2 .clear-words2 .ensures) (at-clear-words3 .clear-words3 .ensures) (at-node-capacity .node-capacity .ensures) (at-entry-capacity .entry-capacity .ensures) (at-at-most .at-most .ensures) (at-at-most2 .at-most2 .ensures) (at-by-tables .by-tables .ensures) (c .before .r .given .1) (at-by-tables .by-tables .kept .1 .0) (at-by-tables .by-tables .kept .1 .1 .0) (at-by-tables .by-tables .kept .1 .1 .1 .0)
 
 same-length-7 : tie.Need-same-length-7
 same-length-7 c =
-    c .before .before .before .before .before .before .before .before .before .before .clear-words4 .kept .0 ∙ c .before .before .before .before .before .before .before .before .before .before .before .before .before .before .before .before .before .before .before .before .before .value .kept .1 .0 ∙ c .before .before .before .before .before .before .before .before .before .before .before .before .before .before .before .before .before .before .before .before .before .before .before .before .before .before .before .before .before .before .before .before .before .before .before .before .before .before .before .before .clear-words .kept .0
+    let at-clear-words4 = c .before .before .before .before .before .before .before .before .before .before in
+    let at-by-tables = at-clear-words4 .before .before .before .before .before .before .before .before .before .before .before in
+    let at-clear-words = at-by-tables .before .before .before .before .before .before .before .before .before .before .before .before .before .before .before .before .before .before .before in
+    at-clear-words4 .clear-words4 .kept .0 ∙ at-by-tables .by-tables .kept .1 .0 ∙ at-clear-words .clear-words .kept .0
 
 same-length-8 : tie.Need-same-length-8
 same-length-8 c =
-    c .before .before .before .before .before .before .clear-words5 .kept .0 ∙ c .before .before .before .before .before .before .before .before .before .before .before .before .before .before .before .before .before .before .before .before .before .value .kept .1 .1 .0 ∙ c .before .before .before .before .before .before .before .before .before .before .before .before .before .before .before .before .before .before .before .before .before .before .before .before .before .before .before .before .before .before .before .before .before .before .before .before .clear-words2 .kept .0
+    let at-clear-words5 = c .before .before .before .before .before .before in
+    let at-by-tables = at-clear-words5 .before .before .before .before .before .before .before .before .before .before .before .before .before .before .before in
+    let at-clear-words2 = at-by-tables .before .before .before .before .before .before .before .before .before .before .before .before .before .before .before in
+    at-clear-words5 .clear-words5 .kept .0 ∙ at-by-tables .by-tables .kept .1 .1 .0 ∙ at-clear-words2 .clear-words2 .kept .0
 
 same-length-9 : tie.Need-same-length-9
 same-length-9 c =
-    c .before .before .clear-words6 .kept .0 ∙ c .before .before .before .before .before .before .before .before .before .before .before .before .before .before .before .before .before .before .before .before .before .value .kept .1 .1 .1 .0 ∙ c .before .before .before .before .before .before .before .before .before .before .before .before .before .before .before .before .before .before .before .before .before .before .before .before .before .before .before .before .before .before .before .before .clear-words3 .kept .0
+    let at-by-tables = c .before .before .before .before .before .before .before .before .before .before .before .before .before .before .before .before .before .before .before .before .before in
+    let at-clear-words3 = at-by-tables .before .before .before .before .before .before .before .before .before .before .before in
+    c .before .before .clear-words6 .kept .0 ∙ at-by-tables .by-tables .kept .1 .1 .1 .0 ∙ at-clear-words3 .clear-words3 .kept .0
 
 returns-3 : tie.Need-returns-3
 returns-3 c =
-    whole-refused (c .before .before .before .before .before .before .before .before .before .before .before .before .before .before .before .before .before .before .before .before .before .before .before .before .before .before .before .before .before .before .before .before .before .before .before .before .before .before .before .before .before .before .before .before .before .before .args .input .now) (length (c .before .before .before .before .before .before .before .before .before .before .before .before .before .before .before .before .before .before .before .before .before .before .before .before .before .before .before .before .before .before .before .before .before .before .before .before .before .before .before .before .before .before .before .before .before .before .args .nodes .now)) (length (c .before .before .before .before .before .before .before .before .before .before .before .before .before .before .before .before .before .before .before .before .before .before .before .before .before .before .before .before .before .before .before .before .before .before .before .before .before .before .before .before .before .before .before .before .before .before .args .entries .now)) (length (c .before .before .before .before .before .before .before .before .before .before .before .before .before .before .before .before .before .before .before .before .before .before .before .before .before .before .before .before .before .before .before .before .before .before .before .before .before .before .before .before .before .before .before .before .before .before .args .slots .now)) (c .before .before .before .before .before .before .before .before .before .before .before .before .before .before .before .before .before .before .before .before .before .before .before .before .before .before .before .before .before .before .before .before .before .before .before .before .before .before .before .before .before .before .before .before .before .before .args .nesting) (c .before .before .before .before .before .before .before .before .before .before .before .before .before .before .before .before .before .before .before .before .before .before .before .before .before .before .before .before .before .if1 .left) (c .before .before .before .before .before .before .before .before .before .before .before .before .before .before .before .before .before .before .before .before .before .before .before .before .before .before .before .before .before .before .before .before .before .before .before .before .before .before .before .before .clear-words .ensures) (c .before .before .before .before .before .before .before .before .before .before .before .before .before .before .before .before .before .before .before .before .before .before .before .before .before .before .before .before .before .before .before .before .before .before .before .before .clear-words2 .ensures) (c .before .before .before .before .before .before .before .before .before .before .before .before .before .before .before .before .before .before .before .before .before .before .before .before .before .before .before .before .before .before .before .before .clear-words3 .ensures) (c .before .before .before .before .before .before .before .before .before .before .before .before .before .before .before .before .before .before .before .before .before .before .before .before .before .before .before .before .node-capacity .ensures) (c .before .before .before .before .before .before .before .before .before .before .before .before .before .before .before .before .before .before .before .before .before .before .before .before .before .before .before .entry-capacity .ensures) (c .before .before .before .before .before .before .before .before .before .before .before .before .before .before .before .before .before .before .before .before .before .before .before .before .before .before .at-most .ensures) (c .before .before .before .before .before .before .before .before .before .before .before .before .before .before .before .before .before .before .before .before .before .before .before .before .before .at-most2 .ensures) (c .before .before .before .before .before .before .before .before .before .before .before .before .before .before .before .before .before .before .before .before .before .value .ensures) (c .before .before .before .before .before .before .before .before .before .before .before .before .before .r2 .given .1) (c .before .before .before .before .before .before .before .before .before .before .clear-words4 .ensures ∙ ap zeros (c .before .before .before .before .before .before .before .before .before .before .before .before .before .before .before .before .before .before .before .before .before .value .kept .1 .0 ∙ c .before .before .before .before .before .before .before .before .before .before .before .before .before .before .before .before .before .before .before .before .before .before .before .before .before .before .before .before .before .before .before .before .before .before .before .before .before .before .before .before .clear-words .kept .0)) (c .before .before .before .before .before .before .clear-words5 .ensures ∙ ap zeros (c .before .before .before .before .before .before .before .before .before .before .before .before .before .before .before .before .before .before .before .before .before .value .kept .1 .1 .0 ∙ c .before .before .before .before .before .before .before .before .before .before .before .before .before .before .before .before .before .before .before .before .before .before .before .before .before .before .before .before .before .before .before .before .before .before .before .before .clear-words2 .kept .0)) (c .before .before .clear-words6 .ensures ∙ ap zeros (c .before .before .before .before .before .before .before .before .before .before .before .before .before .before .before .before .before .before .before .before .before .value .kept .1 .1 .1 .0 ∙ c .before .before .before .before .before .before .before .before .before .before .before .before .before .before .before .before .before .before .before .before .before .before .before .before .before .before .before .before .before .before .before .before .clear-words3 .kept .0))
+    let at-clear-words5 = c .before .before .before .before .before .before in
+    let at-clear-words4 = at-clear-words5 .before .before .before .before in
+    let at-r2 = at-clear-words4 .before .before .before in
+    let at-by-tables = at-r2 .before .before .before .before .before .before .before .before in
+    let at-at-most2 = at-by-tables .before .before .before .before in
+    let at-at-most = at-at-most2 .before in
+    let at-entry-capacity = at-at-most .before in
+    let at-node-capacity = at-entry-capacity .before in
+    let at-if1 = at-node-capacity .before in
+    let at-clear-words3 = at-if1 .before .before .before in
+    let at-clear-words2 = at-clear-words3 .before .before .before .before in
+    let at-clear-words = at-clear-words2 .before .before .before .before in
+    let at-args = at-clear-words .before .before .before .before .before .before in
+    whole-refused (at-args .args .input .now) (length (at-args .args .nodes .now)) (length (at-args .args .entries .now)) (length (at-args .args .slots .now)) (at-args .args .nesting) (at-if1 .if1 .left) (at-clear-words .clear-words .ensures) (at-clear-words2 .clear-words2 .ensures) (at-clear-words3 .clear-words3 .ensures) (at-node-capacity .node-capacity .ensures) (at-entry-capacity .entry-capacity .ensures) (at-at-most .at-most .ensures) (at-at-most2 .at-most2 .ensures) (at-by-tables .by-tables .ensures) (at-r2 .r2 .given .1) (at-clear-words4 .clear-words4 .ensures ∙ ap zeros (at-by-tables .by-tables .kept .1 .0 ∙ at-clear-words .clear-words .kept .0)) (at-clear-words5 .clear-words5 .ensures ∙ ap zeros (at-by-tables .by-tables .kept .1 .1 .0 ∙ at-clear-words2 .clear-words2 .kept .0)) (c .before .before .clear-words6 .ensures ∙ ap zeros (at-by-tables .by-tables .kept .1 .1 .1 .0 ∙ at-clear-words3 .clear-words3 .kept .0))
 
 pub deserialize-value-spec : {M : Type 1} → statement M
 deserialize-value-spec =
@@ -108,7 +142,7 @@ deserialize-value-spec =
     entry-capacity-requires
     at-most-requires
     at-most-requires-2
-    value-requires
+    by-tables-requires
     enum-known-r
     enum-known-r-2
     clear-words-requires-4

@@ -1,5 +1,9 @@
 -- `front` is the steps' own front where it takes a value; a law for a reference and one for a leaf.
 -- Assumes nothing.
+use mathlib.Core.Path.{ap}
+use mathlib.Core.List.{List, []}
+use Prim.Native.Nat.{ℕ}
+use lib.ListN.{getD}
 use Rattle.readleaves.proofs.Fronts.{front-refers, front-leaf}
 use borrow.Author.Needs.{needs}
 use Rattle.readleaves.proofs.front.Statement.{statement}
@@ -17,8 +21,13 @@ returns-2 c = search needs
 byte-at-requires : tie.Need-byte-at-requires
 byte-at-requires c κs = search needs
 
-class-of-requires : tie.Need-class-of-requires
-class-of-requires c κs = search needs
+index-1-class-at : tie.Need-index-1-class-at
+index-1-class-at c = search needs
+
+class-at-requires : tie.Need-class-at-requires
+class-at-requires c κs =
+    let start = c .before .before .before .before .before .before in
+    (search needs, ap (λ (t : List (List ℕ)). getD t 0 []) (start .pre .4))
 
 add-reference : tie.Need-add-reference
 add-reference c = search needs
@@ -41,8 +50,13 @@ returns-5 c = search needs
 add-head : tie.Need-add-head
 add-head c = search needs
 
+index-1-head : tie.Need-index-1-head
+index-1-head c = search needs
+
 head-requires : tie.Need-head-requires
-head-requires c κs = search needs
+head-requires c κs =
+    let start = c .before .before .before .before .before .before .before .before .before .before .before .before .before .before .before in
+    (search needs, search needs, ap (λ (t : List (List ℕ)). getD t 1 []) (start .pre .4))
 
 returns-6 : tie.Need-returns-6
 returns-6 c = search (front-leaf, needs)
@@ -55,7 +69,8 @@ front-spec =
     cast-if2
     returns-2
     byte-at-requires
-    class-of-requires
+    index-1-class-at
+    class-at-requires
     add-reference
     reference-requires
     returns-3
@@ -63,5 +78,6 @@ front-spec =
     returns-4
     returns-5
     add-head
+    index-1-head
     head-requires
     returns-6)

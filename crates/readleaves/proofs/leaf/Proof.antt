@@ -18,20 +18,24 @@ enum-known-o c = search needs
 enum-known-o-2 : tie.Need-enum-known-o-2
 enum-known-o-2 c = search needs
 
-add-t18 : tie.Need-add-t18
-add-t18 c = omega (arith, c .before .before .before .before .before .before .before .before .before .pre, (leaf-head (c .before .before .before .before .front .ensures) (c .before .before .o2 .given .1)))
-
 add-t19 : tie.Need-add-t19
-add-t19 c = search needs
+add-t19 c = omega (arith, c .before .before .before .before .before .before .before .before .before .pre .0, (leaf-head (c .before .before .before .before .front .ensures) (c .before .before .o2 .given .1)))
 
 add-t20 : tie.Need-add-t20
-add-t20 c = omega (arith, c .before .before .before .before .before .before .before .before .before .before .before .pre, (leaf-head (c .before .before .before .before .before .before .front .ensures) (c .before .before .before .before .o2 .given .1)))
+add-t20 c = search needs
+
+add-t21 : tie.Need-add-t21
+add-t21 c = omega (arith, c .before .before .before .before .before .before .before .before .before .before .before .pre .0, (leaf-head (c .before .before .before .before .before .before .front .ensures) (c .before .before .before .before .o2 .given .1)))
 
 write-node-requires : tie.Need-write-node-requires
-write-node-requires c κs = omega (arith, c .before .before .before .before .before .before .before .before .before .before .before .before .pre, (leaf-head (c .before .before .before .before .before .before .before .front .ensures) (c .before .before .before .before .before .o2 .given .1)))
+write-node-requires c κs = omega (arith, c .before .before .before .before .before .before .before .before .before .before .before .before .pre .0, (leaf-head (c .before .before .before .before .before .before .before .front .ensures) (c .before .before .before .before .before .o2 .given .1)))
 
 fill-slot-requires : tie.Need-fill-slot-requires
-fill-slot-requires c κs = (omega (arith, c .before .before .before .before .before .before .before .before .before .before .before .before .before .before .before .before .pre, (leaf-head (c .before .before .before .before .before .before .before .before .before .before .before .front .ensures) (c .before .before .before .before .before .before .before .before .before .o2 .given .1))), omega (arith, c .before .before .before .before .before .before .before .before .before .before .before .before .before .before .before .before .pre, (leaf-head (c .before .before .before .before .before .before .before .before .before .before .before .front .ensures) (c .before .before .before .before .before .before .before .before .before .o2 .given .1))))
+fill-slot-requires c κs =
+    let at-o2 = c .before .before .before .before .before .before .before .before .before in
+    let at-front = at-o2 .before .before in
+    let at-pre = at-front .before .before .before .before .before in
+    (omega (arith, at-pre .pre .0, (leaf-head (at-front .front .ensures) (at-o2 .o2 .given .1))), omega (arith, at-pre .pre .0, (leaf-head (at-front .front .ensures) (at-o2 .o2 .given .1))))
 
 same-length : tie.Need-same-length
 same-length c = search needs
@@ -62,9 +66,9 @@ leaf-spec =
     enum-told
     enum-known-o
     enum-known-o-2
-    add-t18
     add-t19
     add-t20
+    add-t21
     write-node-requires
     fill-slot-requires
     same-length

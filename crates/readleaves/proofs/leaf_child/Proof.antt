@@ -27,10 +27,18 @@ same-length-3 : tie.Need-same-length-3
 same-length-3 c = search needs
 
 returns : tie.Need-returns
-returns c = tries-unfit (c .before .before .before .before .before .before .before .before .before .before .before .before .before .before .before .before .before .before .before .pre .0) (c .before .before .before .before .before .before .before .before .before .before .before .before .before .before .before .before .before .before .before .pre .1) (c .before .before .before .before .before .before .before .before .before .before .before .leaf .ensures) (c .before .before .before .before .before .t .given .1) (c .before .suits .ensures) (c .if1 .taken)
+returns c =
+    let at-t = c .before .before .before .before .before in
+    let at-leaf = at-t .before .before .before .before .before .before in
+    let at-pre = at-leaf .before .before .before .before .before .before .before .before in
+    tries-unfit (at-pre .pre .0) (at-pre .pre .1) (at-leaf .leaf .ensures) (at-t .t .given .1) (c .before .suits .ensures) (c .if1 .taken)
 
 attach-requires : tie.Need-attach-requires
-attach-requires c κs = leaf-attach-asks (c .before .before .before .before .before .before .before .before .before .before .before .before .before .before .before .before .before .before .before .before .pre .0) (c .before .before .before .before .before .before .before .before .before .before .before .before .before .before .before .before .before .before .before .before .pre .1) (c .before .before .before .before .before .before .before .before .before .before .before .before .leaf .ensures) (c .before .before .before .before .before .before .t .given .1)
+attach-requires c κs =
+    let at-t = c .before .before .before .before .before .before in
+    let at-leaf = at-t .before .before .before .before .before .before in
+    let at-pre = at-leaf .before .before .before .before .before .before .before .before in
+    leaf-attach-asks (at-pre .pre .0) (at-pre .pre .1) (at-leaf .leaf .ensures) (at-t .t .given .1)
 
 enum-known-k : tie.Need-enum-known-k
 enum-known-k c = search needs
@@ -57,7 +65,14 @@ same-length-8 : tie.Need-same-length-8
 same-length-8 c = search needs
 
 returns-3 : tie.Need-returns-3
-returns-3 c = tries-cut (c .before .before .before .before .before .before .before .before .before .before .before .before .before .before .before .before .before .before .before .before .before .before .before .before .before .before .pre .0) (c .before .before .before .before .before .before .before .before .before .before .before .before .before .before .before .before .before .before .before .before .before .before .before .before .before .before .pre .1) (c .before .before .before .before .before .before .before .before .before .before .before .before .before .before .before .before .before .before .leaf .ensures) (c .before .before .before .before .before .before .before .before .before .before .before .before .t .given .1) (c .before .before .before .before .before .before .before .before .suits .ensures) (c .before .before .before .before .before .before .before .if1 .left) (c .before .before .before .before .before .attach .ensures) (c .before .k .given .1)
+returns-3 c =
+    let at-attach = c .before .before .before .before .before in
+    let at-if1 = at-attach .before .before in
+    let at-suits = at-if1 .before in
+    let at-t = at-suits .before .before .before .before in
+    let at-leaf = at-t .before .before .before .before .before .before in
+    let at-pre = at-leaf .before .before .before .before .before .before .before .before in
+    tries-cut (at-pre .pre .0) (at-pre .pre .1) (at-leaf .leaf .ensures) (at-t .t .given .1) (at-suits .suits .ensures) (at-if1 .if1 .left) (at-attach .attach .ensures) (c .before .k .given .1)
 
 same-length-9 : tie.Need-same-length-9
 same-length-9 c = search needs
@@ -69,7 +84,14 @@ same-length-11 : tie.Need-same-length-11
 same-length-11 c = search needs
 
 returns-4 : tie.Need-returns-4
-returns-4 c = tries-line (c .before .before .before .before .before .before .before .before .before .before .before .before .before .before .before .before .before .before .before .before .before .before .before .before .before .before .pre .0) (c .before .before .before .before .before .before .before .before .before .before .before .before .before .before .before .before .before .before .before .before .before .before .before .before .before .before .pre .1) (c .before .before .before .before .before .before .before .before .before .before .before .before .before .before .before .before .before .before .leaf .ensures) (c .before .before .before .before .before .before .before .before .before .before .before .before .t .given .1) (c .before .before .before .before .before .before .before .before .suits .ensures) (c .before .before .before .before .before .before .before .if1 .left) (c .before .before .before .before .before .attach .ensures) (c .before .k2 .given .1)
+returns-4 c =
+    let at-attach = c .before .before .before .before .before in
+    let at-if1 = at-attach .before .before in
+    let at-suits = at-if1 .before in
+    let at-t = at-suits .before .before .before .before in
+    let at-leaf = at-t .before .before .before .before .before .before in
+    let at-pre = at-leaf .before .before .before .before .before .before .before .before in
+    tries-line (at-pre .pre .0) (at-pre .pre .1) (at-leaf .leaf .ensures) (at-t .t .given .1) (at-suits .suits .ensures) (at-if1 .if1 .left) (at-attach .attach .ensures) (c .before .k2 .given .1)
 
 pub leaf-child-spec : {M : Type 1} → statement M
 leaf-child-spec =

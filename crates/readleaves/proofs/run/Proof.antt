@@ -9,11 +9,11 @@ use Rattle.readleaves.proofs.run.Statement.{statement}
 use Rattle.readleaves.proofs.run.Tie as tie
 
 abbrev Inv-loop : tie.InvT-loop
-Inv-loop s nodes₀ entries₀ slots₀ room allowance kids header l₀ nodes entries slots l =
+Inv-loop s nodes₀ entries₀ slots₀ room allowance kids header tables l₀ nodes entries slots l =
     Running kids header s room allowance l₀ nodes₀ entries₀ slots₀ nodes entries slots l
 
 abbrev μ-loop : tie.MeasureT-loop
-μ-loop s nodes₀ entries₀ slots₀ room allowance kids header l₀ nodes entries slots l = length s - l .walk .at
+μ-loop s nodes₀ entries₀ slots₀ room allowance kids header tables l₀ nodes entries slots l = length s - l .walk .at
 
 loop-holds : tie.Need-loop-holds Inv-loop μ-loop
 loop-holds c = search (running-start, needs)
@@ -55,7 +55,12 @@ enum-known-n-3 : tie.Need-enum-known-n-3 Inv-loop μ-loop
 enum-known-n-3 c = search needs
 
 leaf-child-requires : tie.Need-leaf-child-requires Inv-loop μ-loop
-leaf-child-requires c κs = (stands-safe (c .before .before .before .before .before .before .before .before .before .before .before .before .before .pre .0) (run-stands (c .before .before .before .before .before .before .before .before .loop .inv) (c .before .before .before .before .before .before .next-child .ensures) (c .before .before .before .before .n3 .given .1)), run-stands (c .before .before .before .before .before .before .before .before .loop .inv) (c .before .before .before .before .before .before .next-child .ensures) (c .before .before .before .before .n3 .given .1) .lineIn)
+leaf-child-requires c κs =
+    let at-n3 = c .before .before .before .before in
+    let at-next-child = at-n3 .before .before in
+    let at-loop = at-next-child .before .before in
+    let at-pre = at-loop .before .before .before .before .before in
+    (stands-safe (at-pre .pre .0) (run-stands (at-loop .loop .inv) (at-next-child .next-child .ensures) (at-n3 .n3 .given .1)), run-stands (at-loop .loop .inv) (at-next-child .next-child .ensures) (at-n3 .n3 .given .1) .lineIn, at-pre .pre .3)
 
 enum-told : tie.Need-enum-told Inv-loop μ-loop
 enum-told c = search needs
@@ -70,7 +75,12 @@ same-length-9 : tie.Need-same-length-9 Inv-loop μ-loop
 same-length-9 c = search needs
 
 returns-3 : tie.Need-returns-3 Inv-loop μ-loop
-returns-3 c = run-left (c .before .before .before .before .before .before .before .before .before .before .before .before .before .before .before .before .before .loop .inv) (c .before .before .before .before .before .before .before .before .before .before .before .before .before .before .before .next-child .ensures) (c .before .before .before .before .before .before .before .before .before .before .before .before .before .n3 .given .1) (c .before .before .before .before .before .before .before .before .leaf-child .ensures) (c .enum-told .given .1)
+returns-3 c =
+    let at-leaf-child = c .before .before .before .before .before .before .before .before in
+    let at-n3 = at-leaf-child .before .before .before .before .before in
+    let at-next-child = at-n3 .before .before in
+    let at-loop = at-next-child .before .before in
+    run-left (at-loop .loop .inv) (at-next-child .next-child .ensures) (at-n3 .n3 .given .1) (at-leaf-child .leaf-child .ensures) (c .enum-told .given .1)
 
 enum-known-t : tie.Need-enum-known-t Inv-loop μ-loop
 enum-known-t c = search needs
@@ -85,16 +95,31 @@ same-length-12 : tie.Need-same-length-12 Inv-loop μ-loop
 same-length-12 c = search needs
 
 returns-4 : tie.Need-returns-4 Inv-loop μ-loop
-returns-4 c = run-cut (c .before .before .before .before .before .before .before .before .before .before .before .before .before .before .before .before .before .before .loop .inv) (c .before .before .before .before .before .before .before .before .before .before .before .before .before .before .before .before .next-child .ensures) (c .before .before .before .before .before .before .before .before .before .before .before .before .before .before .n3 .given .1) (c .before .before .before .before .before .before .before .before .before .leaf-child .ensures) (c .before .t .given .1)
+returns-4 c =
+    let at-leaf-child = c .before .before .before .before .before .before .before .before .before in
+    let at-n3 = at-leaf-child .before .before .before .before .before in
+    let at-next-child = at-n3 .before .before in
+    let at-loop = at-next-child .before .before in
+    run-cut (at-loop .loop .inv) (at-next-child .next-child .ensures) (at-n3 .n3 .given .1) (at-leaf-child .leaf-child .ensures) (c .before .t .given .1)
 
 enum-known-t-2 : tie.Need-enum-known-t-2 Inv-loop μ-loop
 enum-known-t-2 c = search needs
 
 loop-less : tie.Need-loop-less Inv-loop μ-loop
-loop-less c = run-less (c .before .before .before .before .before .before .before .before .before .before .before .before .before .before .before .before .before .before .loop .inv) (c .before .before .before .before .before .before .before .before .before .before .before .before .before .before .before .before .next-child .ensures) (c .before .before .before .before .before .before .before .before .before .before .before .before .before .before .n3 .given .1) (c .before .before .before .before .before .before .before .before .before .leaf-child .ensures) (c .before .t2 .given .1)
+loop-less c =
+    let at-leaf-child = c .before .before .before .before .before .before .before .before .before in
+    let at-n3 = at-leaf-child .before .before .before .before .before in
+    let at-next-child = at-n3 .before .before in
+    let at-loop = at-next-child .before .before in
+    run-less (at-loop .loop .inv) (at-next-child .next-child .ensures) (at-n3 .n3 .given .1) (at-leaf-child .leaf-child .ensures) (c .before .t2 .given .1)
 
 loop-again : tie.Need-loop-again Inv-loop μ-loop
-loop-again c = run-next (c .before .before .before .before .before .before .before .before .before .before .before .before .before .before .before .before .before .before .loop .inv) (c .before .before .before .before .before .before .before .before .before .before .before .before .before .before .before .before .next-child .ensures) (c .before .before .before .before .before .before .before .before .before .before .before .before .before .before .n3 .given .1) (c .before .before .before .before .before .before .before .before .before .leaf-child .ensures) (c .before .t2 .given .1) (c .before .before .before .before .before .before .before .before .before .leaf-child .kept .1 .0) (c .before .before .before .before .before .before .before .before .before .leaf-child .kept .1 .1 .0) (c .before .before .before .before .before .before .before .before .before .leaf-child .kept .1 .1 .1 .0)
+loop-again c =
+    let at-leaf-child = c .before .before .before .before .before .before .before .before .before in
+    let at-n3 = at-leaf-child .before .before .before .before .before in
+    let at-next-child = at-n3 .before .before in
+    let at-loop = at-next-child .before .before in
+    run-next (at-loop .loop .inv) (at-next-child .next-child .ensures) (at-n3 .n3 .given .1) (at-leaf-child .leaf-child .ensures) (c .before .t2 .given .1) (at-leaf-child .leaf-child .kept .1 .0) (at-leaf-child .leaf-child .kept .1 .1 .0) (at-leaf-child .leaf-child .kept .1 .1 .1 .0)
 
 pub run-spec : {M : Type 1} → statement M
 run-spec =

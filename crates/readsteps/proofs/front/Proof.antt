@@ -1,5 +1,9 @@
 -- `front` is the definition's front at every depth; a law of Fronts for each way out.
 -- Assumes nothing.
+use mathlib.Core.Path.{ap}
+use mathlib.Core.List.{List, []}
+use Prim.Native.Nat.{ℕ}
+use lib.ListN.{getD}
 use Rattle.readsteps.proofs.Fronts.{front-deep, front-end, front-known, front-no-slot, front-refused, front-no-node, front-opened}
 use borrow.Author.Needs.{needs}
 use Rattle.readsteps.proofs.front.Statement.{statement}
@@ -17,8 +21,13 @@ returns-2 c = search (front-end, needs)
 byte-at-requires : tie.Need-byte-at-requires
 byte-at-requires c κs = search needs
 
-class-of-requires : tie.Need-class-of-requires
-class-of-requires c κs = search needs
+index-1-class-at : tie.Need-index-1-class-at
+index-1-class-at c = search needs
+
+class-at-requires : tie.Need-class-at-requires
+class-at-requires c κs =
+    let start = c .before .before .before .before .before .before in
+    (search needs, ap (λ (t : List (List ℕ)). getD t 0 []) (start .pre .4))
 
 add-resolve-ref : tie.Need-add-resolve-ref
 add-resolve-ref c = search needs
@@ -44,8 +53,14 @@ returns-6 c = search (front-no-node, needs)
 add-open-node : tie.Need-add-open-node
 add-open-node c = search needs
 
+index-1-open-node : tie.Need-index-1-open-node
+index-1-open-node c = search needs
+
 open-node-requires : tie.Need-open-node-requires
-open-node-requires c κs = search needs
+open-node-requires c κs =
+    let node = c .before .before .before .before .before .before .before .before in
+    let start = node .before .before .before .before .before .before .before .before in
+    (search needs, search needs, search needs, search needs, ap (λ (t : List (List ℕ)). getD t 1 []) (start .pre .4))
 
 returns-7 : tie.Need-returns-7
 returns-7 c = search (front-opened, needs)
@@ -58,7 +73,8 @@ front-spec =
     cast-if2
     returns-2
     byte-at-requires
-    class-of-requires
+    index-1-class-at
+    class-at-requires
     add-resolve-ref
     resolve-ref-requires
     returns-3
@@ -67,5 +83,6 @@ front-spec =
     returns-5
     returns-6
     add-open-node
+    index-1-open-node
     open-node-requires
     returns-7)

@@ -26,7 +26,11 @@ is-string-requires : tie.Need-is-string-requires Inv-loop μ-loop
 is-string-requires c κs = search needs
 
 returns : tie.Need-returns Inv-loop μ-loop
-returns c = sym (c .before .before .before .before .before .loop .inv ∙ strings-cut (c .before .before .before .before .before .before .before .before .args .nodes .now) (c .before .before .before .before .before .before .before .before .args .entries .now) (c .before .before .before .before .before .loop .left) (c .before .before .before .before .before .loop .e) (c .before .before .before .before .loop-test .taken) (c .before .before .before .child-of .ensures) (c .before .before .letter-of .ensures) (c .before .is-string .ensures) (c .if1 .taken))
+returns c =
+    let at-loop-test = c .before .before .before .before in
+    let at-loop = at-loop-test .before in
+    let at-args = at-loop .before .before .before in
+    sym (at-loop .loop .inv ∙ strings-cut (at-args .args .nodes .now) (at-args .args .entries .now) (at-loop .loop .left) (at-loop .loop .e) (at-loop-test .loop-test .taken) (c .before .before .before .child-of .ensures) (c .before .before .letter-of .ensures) (c .before .is-string .ensures) (c .if1 .taken))
 
 next-of-requires : tie.Need-next-of-requires Inv-loop μ-loop
 next-of-requires c κs = search needs
@@ -38,7 +42,12 @@ loop-less : tie.Need-loop-less Inv-loop μ-loop
 loop-less c = search needs
 
 loop-again : tie.Need-loop-again Inv-loop μ-loop
-loop-again c = c .before .before .before .before .before .before .loop .inv ∙ strings-more (c .before .before .before .before .before .before .before .before .before .args .nodes .now) (c .before .before .before .before .before .before .before .before .before .args .entries .now) (c .before .before .before .before .before .before .loop .left) (c .before .before .before .before .before .before .loop .e) (c .before .before .before .before .before .loop-test .taken) (c .before .before .before .before .child-of .ensures) (c .before .before .before .letter-of .ensures) (c .before .before .is-string .ensures) (c .before .if1 .left) (c .next-of .ensures)
+loop-again c =
+    let at-child-of = c .before .before .before .before in
+    let at-loop-test = at-child-of .before in
+    let at-loop = at-loop-test .before in
+    let at-args = at-loop .before .before .before in
+    at-loop .loop .inv ∙ strings-more (at-args .args .nodes .now) (at-args .args .entries .now) (at-loop .loop .left) (at-loop .loop .e) (at-loop-test .loop-test .taken) (at-child-of .child-of .ensures) (c .before .before .before .letter-of .ensures) (c .before .before .is-string .ensures) (c .before .if1 .left) (c .next-of .ensures)
 
 returns-2 : tie.Need-returns-2 Inv-loop μ-loop
 returns-2 c = sym (c .before .loop .inv ∙ strings-all (c .before .before .before .before .args .nodes .now) (c .before .before .before .before .args .entries .now) (c .before .loop .left) (c .before .loop .e) (c .loop-test .left))

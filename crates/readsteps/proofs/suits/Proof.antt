@@ -38,7 +38,11 @@ strings-requires : tie.Need-strings-requires
 strings-requires c κs = search needs
 
 returns-5 : tie.Need-returns-5
-returns-5 c = rw (c .before .before .before .before .before .if4 .taken, ← c .before .before .before .before .before .before .before .before .letter-of .ensures, ← c .before .before .before .before .is-tuple2 .ensures, not-false (c .before .before .before .before .is-tuple2 .result) (c .before .before .before .if5 .left), ← c .before .before .count-of .ensures, ← c .before .first-of .ensures) (c .strings .ensures)
+returns-5 c =
+    let at-is-tuple2 = c .before .before .before .before in
+    let at-if4 = at-is-tuple2 .before in
+    let at-letter-of = at-if4 .before .before .before in
+    rw (at-if4 .if4 .taken, ← at-letter-of .letter-of .ensures, ← at-is-tuple2 .is-tuple2 .ensures, not-false (at-is-tuple2 .is-tuple2 .result) (c .before .before .before .if5 .left), ← c .before .before .count-of .ensures, ← c .before .first-of .ensures) (c .strings .ensures)
 
 is-string-requires : tie.Need-is-string-requires
 is-string-requires c κs = search needs
