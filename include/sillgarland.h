@@ -1,6 +1,8 @@
-/* sillgarland.h: the proved port of rustpython-compiler-core's marshal and varint code, as a static library.
+/* sillgarland.h: reads, writes, locates and repairs marshalled Python values, as proved functions in a static or a shared
+ * library.
  *
- * Version 0.1.0. Link libsillgarland.a, which tools/staticlib leaves below target/native.
+ * Link libsillgarland.a or libsillgarland.so: `make install` puts them in place, and `pkg-config --cflags --libs sillgarland`
+ * (or sillgarland-static) says how. The one function that they may need from elsewhere is memset.
  *
  * What holds for every function here:
  * - It answers for any bytes and any numbers. It never fails, allocates, prints or keeps anything: it is reentrant, and may
@@ -10,8 +12,8 @@
  *   and sill_location_t, 8 for uint64_t).
  * - A store lent for writing (a pointer without const) overlaps no other argument. The function may read and write all of it.
  * - refusal is 0 where the call was accepted; then place is 0, and what was written is followed by zeros to the store's end.
- *   Otherwise refusal is the number, and place the place, that document 01 gives; every other field is 0, and so is every
- *   element of every store lent for writing.
+ *   Otherwise refusal is one of the numbers below, and place says where, as told beside the field; every other field is 0,
+ *   and so is every element of every store lent for writing.
  * - A truth is 0 or 1. A field named pad is 0.
  * - The functions below need less than 1 KiB of stack; of sill_read and sill_write see there.
  */
@@ -25,36 +27,83 @@
 extern "C" {
 #endif
 
-/* ---- Refusals: the numbers of document 01's table, and from 19 on document 02's, by name. */
+/* ---- The version of this header, which is that of the libraries installed with it. */
 
-enum {
-    SILL_EOF_OBJECT = 1,
-    SILL_DATA_TOO_SHORT = 2,
-    SILL_UNKNOWN_TYPE = 3,
-    SILL_NULL_OBJECT = 4,
-    SILL_INVALID_REF = 5,
-    SILL_BAD_SIZE = 6,
-    SILL_BAD_TYPE = 7,
-    SILL_INVALID_BYTECODE = 8,
-    SILL_INVALID_UTF8 = 9,
-    SILL_TOO_DEEP = 10,
-    SILL_NO_NODE = 11,
-    SILL_NO_ENTRY = 12,
-    SILL_NO_SLOT = 13,
-    SILL_INPUT_TOO_LONG = 14,
-    SILL_NOT_CARRIED = 15,
-    SILL_BAD_TABLE = 16,
-    SILL_NO_ROOM = 17,
-    SILL_NUMBER_RANGE = 18,
-    SILL_NO_MARKER = 19,
-    SILL_NO_SUCH_START = 20,
-    SILL_ALREADY_ENDED = 21,
-    SILL_REPEATED_TAG = 22,
-    SILL_NO_SUCH_FIELD = 23,
-    SILL_NOT_JOINED = 24,
-    SILL_TRAILING_BYTES = 25,
-    SILL_VALUE_TOO_LONG = 26,
-};
+#define SILL_VERSION "0.1.0"
+#define SILL_VERSION_MAJOR 0
+#define SILL_VERSION_MINOR 1
+#define SILL_VERSION_PATCH 0
+
+/* ---- Limits: how long an input, a line table or an exception table may be, how many nodes, entries or slots count in one
+ * reading, and how deep values nest. SILL_NOTHING stands for "no entry", "no position" and -1 in stores of numbers. */
+
+#define SILL_MOST_BYTES 16777216
+#define SILL_MOST_RECORDS 1048576
+#define SILL_MOST_NESTING 2000
+#define SILL_NOTHING 4294967295
+
+/* ---- Refusals, by number; docs/REFUSALS.md says of each when it is met and what its place is. */
+
+#define SILL_ACCEPTED 0
+#define SILL_EOF_OBJECT 1
+#define SILL_DATA_TOO_SHORT 2
+#define SILL_UNKNOWN_TYPE 3
+#define SILL_NULL_OBJECT 4
+#define SILL_INVALID_REF 5
+#define SILL_BAD_SIZE 6
+#define SILL_BAD_TYPE 7
+#define SILL_INVALID_BYTECODE 8
+#define SILL_INVALID_UTF8 9
+#define SILL_TOO_DEEP 10
+#define SILL_NO_NODE 11
+#define SILL_NO_ENTRY 12
+#define SILL_NO_SLOT 13
+#define SILL_INPUT_TOO_LONG 14
+#define SILL_NOT_CARRIED 15
+#define SILL_BAD_TABLE 16
+#define SILL_NO_ROOM 17
+#define SILL_NUMBER_RANGE 18
+#define SILL_NO_MARKER 19
+#define SILL_NO_SUCH_START 20
+#define SILL_ALREADY_ENDED 21
+#define SILL_REPEATED_TAG 22
+#define SILL_NO_SUCH_FIELD 23
+#define SILL_NOT_JOINED 24
+#define SILL_TRAILING_BYTES 25
+#define SILL_VALUE_TOO_LONG 26
+#define SILL_LAST_REFUSAL 26
+
+/* Their names: SILL_EACH_REFUSAL(X) is X(number, name) for each, in order of the numbers. So a table of names is
+ *     #define NAMED(number, name) name,
+ *     static const char *const names[] = {"accepted", SILL_EACH_REFUSAL(NAMED)};
+ */
+#define SILL_EACH_REFUSAL(X) \
+    X(SILL_EOF_OBJECT, "EofObject") \
+    X(SILL_DATA_TOO_SHORT, "DataTooShort") \
+    X(SILL_UNKNOWN_TYPE, "UnknownType") \
+    X(SILL_NULL_OBJECT, "NullObject") \
+    X(SILL_INVALID_REF, "InvalidRef") \
+    X(SILL_BAD_SIZE, "BadSize") \
+    X(SILL_BAD_TYPE, "BadType") \
+    X(SILL_INVALID_BYTECODE, "InvalidBytecode") \
+    X(SILL_INVALID_UTF8, "InvalidUtf8") \
+    X(SILL_TOO_DEEP, "TooDeep") \
+    X(SILL_NO_NODE, "NoNode") \
+    X(SILL_NO_ENTRY, "NoEntry") \
+    X(SILL_NO_SLOT, "NoSlot") \
+    X(SILL_INPUT_TOO_LONG, "InputTooLong") \
+    X(SILL_NOT_CARRIED, "NotCarried") \
+    X(SILL_BAD_TABLE, "BadTable") \
+    X(SILL_NO_ROOM, "NoRoom") \
+    X(SILL_NUMBER_RANGE, "NumberRange") \
+    X(SILL_NO_MARKER, "NoMarker") \
+    X(SILL_NO_SUCH_START, "NoSuchStart") \
+    X(SILL_ALREADY_ENDED, "AlreadyEnded") \
+    X(SILL_REPEATED_TAG, "RepeatedTag") \
+    X(SILL_NO_SUCH_FIELD, "NoSuchField") \
+    X(SILL_NOT_JOINED, "NotJoined") \
+    X(SILL_TRAILING_BYTES, "TrailingBytes") \
+    X(SILL_VALUE_TOO_LONG, "ValueTooLong")
 
 /* ---- Varints: six bits a byte, 0x40 meaning more. */
 
@@ -74,15 +123,17 @@ typedef struct {
     uint64_t next;  /* the position after the number */
 } sill_found_t;
 
-/* Little-endian, as in line tables. */
+/* A number little-endian, as in line tables, in the shortest form. Needs up to 6 bytes of out. */
 sill_written_t sill_write_varint(uint8_t *out, size_t out_len, uint32_t value);
 sill_written_t sill_write_signed_varint(uint8_t *out, size_t out_len, int32_t value);
 
-/* Big-endian, as in exception tables; with_start puts 0x80 on the first byte. */
+/* A number big-endian, as in exception tables, in the shortest form; with_start puts 0x80 on the first byte. Needs up to 6
+ * bytes of out. */
 sill_written_t sill_write_varint_be(uint8_t *out, size_t out_len, uint32_t value);
 sill_written_t sill_write_varint_with_start(uint8_t *out, size_t out_len, uint32_t value);
 
-/* Big-endian reading at any position, also beyond the end; with_start asks for 0x80 on the first byte. */
+/* The number that starts at a position, big-endian. Needs nothing of the bytes nor of the position, which may lie beyond the
+ * end; with_start asks for 0x80 on the first byte. */
 sill_found_t sill_read_varint(const uint8_t *data, size_t data_len, size_t at);
 sill_found_t sill_read_varint_with_start(const uint8_t *data, size_t data_len, size_t at);
 
@@ -98,12 +149,13 @@ typedef struct {
     uint32_t count; /* how many entries */
 } sill_exceptions_t;
 
-/* All entries of a table, in order. The capacity is entries_len / 5. 0x80 on a later number is not looked at. */
+/* All entries of a table, in order. The capacity is entries_len / 5: five numbers for every four bytes of the table are
+ * always enough. 0x80 on a later number is not looked at. */
 sill_exceptions_t sill_read_exceptions(const uint8_t *table, size_t table_len, uint32_t *entries, size_t entries_len);
 
 /* All whole groups of five numbers, in order and in the shortest form; a remainder is not looked at. Entry by entry: 18 at 0
  * where the depth is 2^31 or more or the last number is above 1; then 17 at out_len, which counts as at most
- * 4,294,967,295. What is written reads as the same entries. */
+ * 4,294,967,295. Needs up to 24 bytes an entry. What is written reads as the same entries. */
 sill_written_t sill_write_exceptions(const uint32_t *entries, size_t entries_len, uint8_t *out, size_t out_len);
 
 /* ---- Nightly totals. They are SILL_COUNTERS numbers: inputs, accepted, refused, then the count of each refusal 1 to 26. A counter
@@ -118,16 +170,16 @@ typedef struct {
     uint32_t place;
 } sill_totalled_t;
 
-/* before with every answer counted: 0 is accepted, any other the refusal of that number. */
+/* before with every answer counted: 0 is accepted, any other the refusal of that number. Needs SILL_COUNTERS numbers of after. */
 sill_totalled_t sill_totals(const uint64_t *before, size_t before_len, const uint32_t *answers, size_t answers_len,
                             uint64_t *after, size_t after_len);
 
-/* Counter by counter. */
+/* Both totals together, counter by counter. Needs SILL_COUNTERS numbers of sum. */
 sill_totalled_t sill_add_totals(const uint64_t *a, size_t a_len, const uint64_t *b, size_t b_len, uint64_t *sum,
                                 size_t sum_len);
 
 /* The lines "inputs 3", "accepted 2", "refused 1", then "refusal N COUNT" for N from 1 to 26, zero lines included, each ended by a
-   newline. 17: no room, place is out_len. */
+   newline. 17: no room, place is out_len. Needs up to 910 bytes of out. */
 sill_written_t sill_print_totals(const uint64_t *totals, size_t totals_len, uint8_t *out, size_t out_len);
 
 /* ---- Line tables: where each instruction of a code object comes from. */
@@ -149,12 +201,12 @@ typedef struct {
     uint32_t end_column;
 } sill_location_t;
 
-/* Four numbers an instruction, in the order of sill_location_t. The capacity is records_len / 4. */
+/* Four numbers an instruction, in the order of sill_location_t. Needs 4 * count numbers: the capacity is records_len / 4. */
 sill_located_t sill_locate(const uint8_t *table, size_t table_len, int32_t first_line, uint32_t count,
                            uint32_t *records, size_t records_len);
 
-/* One struct an instruction in out, and the same as numbers in flat. The capacity is the smaller of flat_len / 4 and
- * out_len. */
+/* One struct an instruction in out, and the same as numbers in flat. Needs 4 * count numbers of flat and count structs of
+ * out: the capacity is the smaller of flat_len / 4 and out_len. */
 sill_located_t sill_locations(const uint8_t *table, size_t table_len, int32_t first_line, uint32_t count,
                               uint32_t *flat, size_t flat_len, sill_location_t *out, size_t out_len);
 
@@ -169,8 +221,8 @@ typedef struct {
 
 /* Where each instruction's place comes from, for the places that sill_locate shows. A byte an instruction, 0 where it is left
  * over, else the sum of: 1 from an entry; 2 the entry has a line (any code but 15); 4 it has a column and 8 an end column;
- * 16 it has a line, and line and end line are above 0 as stored; 32 a byte of the entry is missing. The capacity is
- * sources_len. With 1 and 2 and without 16 a line or end line of 1 was not stored so. */
+ * 16 it has a line, and line and end line are above 0 as stored; 32 a byte of the entry is missing. Needs count bytes: the
+ * capacity is sources_len. With 1 and 2 and without 16 a line or end line of 1 was not stored so. */
 sill_sourced_t sill_sources(const uint8_t *table, size_t table_len, int32_t first_line, uint32_t count, uint8_t *sources,
                             size_t sources_len);
 
@@ -213,7 +265,8 @@ typedef struct {
 } sill_salvaged_t;
 
 /* Makes a whole table for count instructions: complete entries are kept up to the first stop, cut or refused one, the entry
- * that runs past the count is shortened, and entries without a place cover what is left. A whole table comes back as it is.
+ * that runs past the count is shortened, and entries without a place cover what is left. Needs up to table_len and a byte for
+ * each eight instructions, rounded up, of out. A whole table comes back as it is.
  * Instructions under kept entries have the locations that sill_locate gives them in the original. */
 sill_salvaged_t sill_salvage(const uint8_t *table, size_t table_len, int32_t first_line, uint32_t count, uint8_t *out,
                              size_t out_len);
@@ -236,7 +289,8 @@ typedef struct {
 } sill_line_t;
 
 /* Puts table b behind table a, where a is whole for count_a instructions from first_a, b is whole for count_b from first_b, and a
- * leaves the line first_b. The locations are a's and then b's. The empty table over no instructions leaves its first line. */
+ * leaves the line first_b. Needs a_len + b_len bytes of out. The locations are a's and then b's. The empty table over no
+ * instructions leaves its first line. */
 sill_joined_t sill_join(const uint8_t *a, size_t a_len, int32_t first_a, uint32_t count_a, const uint8_t *b, size_t b_len,
                         int32_t first_b, uint32_t count_b, uint8_t *out, size_t out_len);
 
@@ -246,7 +300,8 @@ sill_line_t sill_line_after(const uint8_t *table, size_t table_len, int32_t firs
 /* ---- Local names by their kinds: Local 0x20, Cell 0x40, Free 0x80. */
 
 typedef struct {
-    uint32_t refusal; /* 14: too many kinds; 8: names and kinds differ in number; 18: the argument sum; all three at 0;
+    uint32_t refusal; /* 14: too many kinds; 8: names and kinds differ in number; 18: the arguments, as counted below, are 2^32 or
+                         more; all three at 0;
                          17: an output is shorter than the names, place is its length */
     uint32_t place;
     uint32_t locals; /* how many positions of each kind */
@@ -255,8 +310,11 @@ typedef struct {
     uint32_t present; /* whether the cell-to-argument list is there; where not, its store is all zero */
 } sill_split_t;
 
-/* Each output must hold as many numbers as there are names. 4,294,967,295 stands for none (in the map) and for -1 (in
- * cell_args). */
+/* kinds is a code object's byte for each of its local names, args, kwonly and flags its numbers of these names. locals, cells
+ * and frees get the positions of the names of each kind, in order; map a number for each name: its rank among the cells, or
+ * the number of cells and its rank among the frees (Free wins over Cell), or SILL_NOTHING; cell_args a number for each cell:
+ * the position of the argument that it is, or SILL_NOTHING; it is absent where all are. An argument is at a position below
+ * args + kwonly, and one more each for the flags 4 and 8. Each output needs as many numbers as there are names. */
 sill_split_t sill_split(const uint8_t *kinds, size_t kinds_len, uint32_t names, uint32_t args, uint32_t kwonly,
                         uint32_t flags, uint32_t *locals, size_t locals_len, uint32_t *cells, size_t cells_len,
                         uint32_t *frees, size_t frees_len, uint32_t *map, size_t map_len, uint32_t *cell_args,
@@ -265,7 +323,16 @@ sill_split_t sill_split(const uint8_t *kinds, size_t kinds_len, uint32_t names, 
 /* ---- Values: reading one from the start of the input, writing one, and what its leaves are. */
 
 typedef struct {
-    uint32_t refusal; /* 1 to 15 and 18, with the place that document 01's table gives */
+    uint32_t refusal; /* 14: the input is too long, at 0. Else the first of these in reading order, place is a byte of the input:
+                         1 it ends where a value is due, its length; 2 it ends inside a field, the field's start; 3 an
+                         unknown letter, 4 a null that ends no dict, 15 a float in decimal digits, each at the header; 5 a
+                         reference to no complete value, 6 a negative length, each at that field; 7 a code object's part of
+                         another type than is due, at the part's header; 8 a digit of a long of 2^15 or more or a last one
+                         that is 0, at the digit; or a code object with other than a kind a local name or an odd number of
+                         code bytes, at its header; 9 text that is not UTF-8, surrogates allowed, at its first byte; 10
+                         nested too deep, at the header or body; 11, 12, 13: the nodes, entries or slots are full, at the
+                         header that asks for one more; 18: a code object's argument counts add up to 2^32 or more, at its
+                         header */
     uint32_t place;
     uint32_t consumed; /* how many bytes the value took; what follows them is not looked at */
     uint32_t nodes;    /* how many of each record were used */
@@ -282,21 +349,22 @@ typedef struct {
     uint64_t second; /* two floats: the second's bits; else 0 */
 } sill_leaf_t;
 
-/* The input has at most 16,777,216 bytes (14). nodes holds five numbers a node: letter, place, size, first entry, count;
- * entries two an entry: node, next entry; slots one a slot: 0 while open, else node + 1. No entry is 4,294,967,295. Each
- * capacity counts as at most 1,048,576 records, nesting as at most 2,000. The root is node 0. A nesting of 2,000 needs
- * less than 1 MiB of stack. */
+/* Reads the value at the input's start. The input has at most SILL_MOST_BYTES (14). nodes holds five numbers a node: letter,
+ * place, size, first entry, count; entries two an entry: node, next entry; slots one a slot: 0 while open, else node + 1. No
+ * entry is SILL_NOTHING. Each capacity counts as at most SILL_MOST_RECORDS records, nesting as at most SILL_MOST_NESTING. A
+ * record of each kind for every byte of the input is always enough; fewer do for most inputs, and 11, 12 and 13 ask for
+ * more. The root is node 0. A nesting of 2,000 needs less than 1 MiB of stack. */
 sill_read_t sill_read(const uint8_t *input, size_t input_len, uint32_t *nodes, size_t nodes_len, uint32_t *entries,
                       size_t entries_len, uint32_t *slots, size_t slots_len, uint32_t nesting);
 
-/* Writes the value of node root in its canonical form, bytes and then zeros: 14 at 0; 10 and 16 at the node's number; 17 at
- * out_len. Any stores may be lent, of which so many nodes and entries count as used; nesting, and the stack that it
- * needs, as in sill_read. */
+/* Writes the value of node root in its canonical form, bytes and then zeros. Sharing is written out, so no length of out is
+ * always enough; 17 asks for more. 14 at 0; 10 and 16 at the node's number; 17 at out_len. Any stores may be lent, of which so
+ * many nodes and entries count as used; nesting, and the stack that it needs, as in sill_read. */
 sill_written_t sill_write(const uint8_t *input, size_t input_len, const uint32_t *nodes, size_t nodes_len,
                           const uint32_t *entries, size_t entries_len, uint32_t used_nodes, uint32_t used_entries,
                           uint32_t root, uint32_t nesting, uint8_t *out, size_t out_len);
 
-/* Any node store may be asked, of which so many nodes count as used. */
+/* What a node holds that has no children. Any node store may be asked, of which so many nodes count as used. */
 sill_leaf_t sill_leaf(const uint8_t *input, size_t input_len, const uint32_t *nodes, size_t nodes_len, uint32_t used,
                       uint32_t node);
 

@@ -1,5 +1,7 @@
-//! Links the proved static library of target/native. Where there is none yet, `tools/staticlib` proves the port and builds it,
-//! which takes a while; so this says on the terminal what is going on.
+//! Links the proved library. `SILL_LIB_DIR` names the folder that has it, `libsillgarland.a` or else `libsillgarland.so`, as `make
+//! install` leaves them. Without it, it is the archive of target/native; where there is none yet, `tools/staticlib` proves the port
+//! and builds it, which takes a while; so this says on the terminal what is going on.
+use std::ffi::OsString;
 use std::fs::OpenOptions;
 use std::io::{self, Write};
 use std::path::Path;
@@ -9,6 +11,30 @@ use std::time::{Duration, Instant};
 const PACE: Duration = Duration::from_secs(30);
 
 fn main() {
+    println!("cargo::rerun-if-env-changed=SILL_LIB_DIR");
+    match std::env::var_os("SILL_LIB_DIR") {
+        Some(folder) => link_installed(folder),
+        None => link_built(),
+    }
+}
+
+/// From a folder that has the archive, or else the shared library alone.
+fn link_installed(folder: OsString) {
+    let folder = Path::new(&folder);
+    let kinds = [("libsillgarland.a", "static"), ("libsillgarland.so", "dylib")];
+    match kinds.iter().find(|(file, _)| folder.join(file).is_file()) {
+        Some((file, kind)) => {
+            println!("cargo::rerun-if-changed={}", folder.join(file).display());
+            link(folder, kind);
+        }
+        None => complain(&format!(
+            "SILL_LIB_DIR is {}, and neither libsillgarland.a nor libsillgarland.so is there",
+            folder.display()
+        )),
+    }
+}
+
+fn link_built() {
     let root = Path::new(env!("CARGO_MANIFEST_DIR")).join("../..");
     let native = root.join("target/native");
     let archive = native.join("libsillgarland.a");
@@ -16,8 +42,12 @@ fn main() {
     if !archive.is_file() {
         make_archive(&root);
     }
-    println!("cargo::rustc-link-search=native={}", native.display());
-    println!("cargo::rustc-link-lib=static=sillgarland");
+    link(&native, "static");
+}
+
+fn link(folder: &Path, kind: &str) {
+    println!("cargo::rustc-link-search=native={}", folder.display());
+    println!("cargo::rustc-link-lib={kind}=sillgarland");
 }
 
 fn make_archive(root: &Path) {

@@ -1,5 +1,5 @@
-//! The refusal numbers and limits stand once in crates/refusals, once in the list of the Rust declarations and, as far as they
-//! are refusals, once in the C header: here they are held to one another, the port's and the header's by their text.
+//! The refusal numbers and limits stand once in crates/refusals, once in the list of the Rust declarations and once in the C
+//! header, which has the refusals' names too: here they are held to one another, the port's and the header's by their text.
 use crate::tally::Tally;
 use sillgarland_sys::refusals::{self, TABLE};
 use std::collections::BTreeMap;
@@ -12,7 +12,8 @@ type Constants = BTreeMap<String, String>;
 pub fn hold() -> bool {
     let mut tally = Tally::new("numbers");
     compare(&mut tally, "constants of the port alike", &lines_of(PORT, "pub const ", ": u32 = ", ";"), &of_the_port());
-    compare(&mut tally, "names of the header alike", &lines_of(HEADER, "SILL_", " = ", ","), &of_the_table());
+    compare(&mut tally, "numbers of the header alike", &defined_in_the_header(), &of_the_header());
+    compare(&mut tally, "names of the header alike", &named_in_the_header(), &names_of_the_table());
     tally.finish()
 }
 
@@ -41,6 +42,34 @@ fn of_the_port() -> Constants {
         ("NOTHING", refusals::NOTHING.to_string()),
     ];
     of_the_table().into_iter().chain(others.map(|(name, value)| (name.into(), value))).collect()
+}
+
+/// The same as the header has it, with what is the header's alone: the number of counters, and the last refusal by number.
+fn of_the_header() -> Constants {
+    let mut header = of_the_port();
+    header.remove("LAST_NUMBER");
+    header.insert("LAST_REFUSAL".into(), refusals::LAST_NUMBER.to_string());
+    header.insert("COUNTERS".into(), sillgarland_sys::COUNTERS.to_string());
+    header
+}
+
+/// What the header defines under these names. Its others are neither refusals nor limits of the port; of these
+/// tools/install-test looks at the version.
+fn defined_in_the_header() -> Constants {
+    let mut defined = lines_of(HEADER, "#define SILL_", " ", "");
+    defined.retain(|name, _| of_the_header().contains_key(name));
+    defined
+}
+
+/// The name that the header gives each refusal: `X(SILL_EOF_OBJECT, "EofObject") \`.
+fn named_in_the_header() -> Constants {
+    let text = std::fs::read_to_string(HEADER).unwrap_or_default();
+    let rows = text.lines().filter_map(|line| line.trim().strip_prefix("X(SILL_")?.split_once(", \""));
+    rows.filter_map(|(constant, rest)| Some((constant.into(), rest.split_once('"')?.0.into()))).collect()
+}
+
+fn names_of_the_table() -> Constants {
+    TABLE.iter().map(|(constant, name, _)| (constant.to_string(), name.to_string())).collect()
 }
 
 /// Every line of a file that gives a name its value.

@@ -29,20 +29,30 @@
 //! A line table that is cut is not an error: it is an answer that cannot be overlooked. [`Code::lines`] gives [`Lines`],
 //! whose locations are reached only by saying which of the two it is, and each location says whether an entry of the
 //! table placed it.
+//!
+//! Values back to back are an iterator ([`values`]); [`Value::walk`] meets everything in a value once, however it is shared;
+//! [`OwnedValue`] outlives its input; a [`Block`] is a line table without a code object. docs/RUST.md begins with a cut table.
 #![warn(missing_docs)]
 
 mod code;
+mod equal;
 mod golden;
 mod handlers;
 mod join;
 mod lines;
+mod owned;
 mod reader;
 mod refusal;
 mod salvage;
 mod same;
+mod split;
 mod starts;
+mod tables;
 mod totals;
 mod value;
+mod values;
+mod varint;
+mod walk;
 mod write;
 
 pub use code::{Code, NUMBERS, PARTS};
@@ -50,13 +60,18 @@ pub use golden::Golden;
 pub use handlers::{Handler, exception_table, handlers};
 pub use join::{Block, Joined, LineAfter, join, line_after};
 pub use lines::{Counts, Lines, Located, Location, Locations, Records, Source};
+pub use owned::OwnedValue;
 pub use reader::Reader;
 pub use refusal::{Place, Refusal, Refused};
 pub use salvage::{Salvaged, salvage};
 pub use same::{Difference, Path, Step, What, first_difference};
+pub use split::{Split, split};
 pub use starts::Starts;
 pub use totals::{NotTotals, Totals};
 pub use value::{Children, Content, Text, Value, Wide};
+pub use values::{ValueAt, Values, values};
+pub use varint::{read_varint, read_varint_with_start, signed_varint, varint, varint_be, varint_with_start};
+pub use walk::Walk;
 
 /// The longest input that is read, in bytes.
 pub const MOST_BYTES: usize = sillgarland_sys::refusals::MOST_BYTES as usize;

@@ -1,16 +1,16 @@
 //! Where the instructions of a code object come from. The answer says whether the line table was whole, and there is no way
 //! to the locations around it.
-use crate::{Code, Golden, Place, Refusal, Refused};
+use crate::{Block, Code, Golden, Place, Refusal, Refused};
 
 /// The store that locations are read into, kept from one code object to the next.
 #[derive(Debug, Default)]
 pub struct Records {
-    shown: Vec<[u32; 4]>,
-    sources: Vec<u8>,
+    pub(crate) shown: Vec<[u32; 4]>,
+    pub(crate) sources: Vec<u8>,
 }
 
 impl Records {
-    fn lend(&mut self, instructions: usize) {
+    pub(crate) fn lend(&mut self, instructions: usize) {
         self.shown.clear();
         self.shown.resize(instructions, [0; 4]);
         self.sources.clear();
@@ -54,6 +54,11 @@ pub enum Lines<'r> {
 }
 
 impl<'r> Lines<'r> {
+    pub(crate) fn of(records: &'r Records, counts: Counts, whole: bool) -> Self {
+        let locations = Locations { records: &records.shown, sources: &records.sources, counts };
+        if whole { Lines::Whole(locations) } else { Lines::NotWhole(locations) }
+    }
+
     /// The locations of a whole table, else nothing.
     pub fn whole(self) -> Option<Locations<'r>> {
         match self {
@@ -236,7 +241,7 @@ pub struct Location {
 }
 
 impl Location {
-    fn of(record: &[u32; 4]) -> Self {
+    pub(crate) fn of(record: &[u32; 4]) -> Self {
         let [line, column, end_line, end_column] = *record;
         Self { line, column, end_line, end_column }
     }
@@ -253,22 +258,21 @@ impl Code<'_> {
             Refusal::NoRoom => Place::Room(answer.place),
             _ => Place::Byte(self.line_table().place() + answer.place as usize),
         })?;
-        let counts = self.sources(self.line_table().bytes(), &mut records.sources);
-        let Records { shown, sources } = records;
-        let locations = Locations { records: shown, sources, counts };
-        Ok(if answer.whole == 1 { Lines::Whole(locations) } else { Lines::NotWhole(locations) })
+        let counts = counted(self.block(), &mut records.sources);
+        Ok(Lines::of(records, counts, answer.whole == 1))
     }
 
     /// What the entries before a refused one place: the locations of the instructions up to there, and none where the
     /// refusal is not at an entry of this line table. Each of them is from an entry.
     pub fn lines_before<'r>(&self, refused: &Refused, records: &'r mut Records) -> Option<Locations<'r>> {
         let Place::Byte(at) = refused.place else { return None };
-        let before = self.line_table().bytes().get(..at.checked_sub(self.line_table().place())?)?;
+        let table = self.line_table().bytes().get(..at.checked_sub(self.line_table().place())?)?;
+        let before = Block { table, ..self.block() };
         records.lend(self.instructions());
-        if !self.locate_bytes(before, self.first_line(), records.shown.as_flattened_mut()) {
+        if located(before, records.shown.as_flattened_mut()).refusal != 0 {
             return None;
         }
-        let counts = self.sources(before, &mut records.sources);
+        let counts = counted(before, &mut records.sources);
         let (records, sources) = (&records.shown[..counts.from_entries], &records.sources[..counts.from_entries]);
         Some(Locations { records, sources, counts })
     }
@@ -280,53 +284,17 @@ impl Code<'_> {
     /// greater, and so above 1.
     pub fn stored_lines(&self, records: &mut Records) -> Option<Vec<(i64, i64)>> {
         let placed = self.lines(records).ok()?.whole_or_not().from_entries();
-        let (table, first) = (self.line_table().bytes(), i64::from(self.first_line()));
+        let first = i64::from(self.first_line());
         let raised = (0..=32).map(|power| (1_i64 << power).min(i64::from(i32::MAX) - first));
         raised.filter_map(|raise| Some((raise, i32::try_from(first + raise).ok()?))).find_map(|(raise, first)| {
             records.lend(self.instructions());
-            let located = self.locate_bytes(table, first, records.shown.as_flattened_mut());
+            let raised = Block { first_line: first, ..self.block() };
+            let located = located(raised, records.shown.as_flattened_mut()).refusal == 0;
             let shown = records.shown[..placed].iter().map(|[line, _, end_line, _]| [*line, *end_line]);
             let above = shown.clone().flatten().all(|line| line > 1);
             let lowered = |[line, end]: [u32; 2]| (i64::from(line) - raise, i64::from(end) - raise);
             (located && above).then(|| shown.map(lowered).collect())
         })
-    }
-
-    /// Locates the instructions by a table and a first line; whether that is accepted.
-    fn locate_bytes(&self, table: &[u8], first_line: i32, records: &mut [u32]) -> bool {
-        // SAFETY: two slices of their own, each handed on by its pointer and its length.
-        let answer = unsafe {
-            sillgarland_sys::sill_locate(
-                table.as_ptr(),
-                table.len(),
-                first_line,
-                self.instructions() as u32,
-                records.as_mut_ptr(),
-                records.len(),
-            )
-        };
-        answer.refusal == 0
-    }
-
-    /// A byte an instruction, as [`Source`] holds it, and the counts.
-    fn sources(&self, table: &[u8], sources: &mut [u8]) -> Counts {
-        // SAFETY: two slices of their own, each handed on by its pointer and its length.
-        let answer = unsafe {
-            sillgarland_sys::sill_sources(
-                table.as_ptr(),
-                table.len(),
-                self.first_line(),
-                self.instructions() as u32,
-                sources.as_mut_ptr(),
-                sources.len(),
-            )
-        };
-        Counts {
-            from_entries: answer.from_entries as usize,
-            with_line: answer.with_line as usize,
-            with_columns: answer.with_columns as usize,
-            sure: answer.sure as usize,
-        }
     }
 
     fn locate(&self, records: &mut [u32]) -> sillgarland_sys::Located {
@@ -347,6 +315,44 @@ impl Code<'_> {
                 records.len(),
             )
         }
+    }
+}
+
+/// Four numbers an instruction of a bare table.
+pub(crate) fn located(block: Block, records: &mut [u32]) -> sillgarland_sys::Located {
+    let Block { table, first_line, count } = block;
+    // SAFETY: two slices of their own, each handed on by its pointer and its length.
+    unsafe {
+        sillgarland_sys::sill_locate(
+            table.as_ptr(),
+            table.len(),
+            first_line,
+            count,
+            records.as_mut_ptr(),
+            records.len(),
+        )
+    }
+}
+
+/// A byte an instruction, as [`Source`] holds it, and the counts, of a table that is not refused.
+pub(crate) fn counted(block: Block, sources: &mut [u8]) -> Counts {
+    let Block { table, first_line, count } = block;
+    // SAFETY: two slices of their own, each handed on by its pointer and its length.
+    let answer = unsafe {
+        sillgarland_sys::sill_sources(
+            table.as_ptr(),
+            table.len(),
+            first_line,
+            count,
+            sources.as_mut_ptr(),
+            sources.len(),
+        )
+    };
+    Counts {
+        from_entries: answer.from_entries as usize,
+        with_line: answer.with_line as usize,
+        with_columns: answer.with_columns as usize,
+        sure: answer.sure as usize,
     }
 }
 

@@ -114,8 +114,8 @@ impl fmt::Display for Place {
     }
 }
 
-/// A refusal and its place.
-#[derive(Clone, Copy, Debug, PartialEq, Eq, Hash)]
+/// A refusal and its place. Shown, also by a `main` that ends with it, it is a sentence.
+#[derive(Clone, Copy, PartialEq, Eq, Hash)]
 pub struct Refused {
     /// Which.
     pub refusal: Refusal,
@@ -146,6 +146,13 @@ impl fmt::Display for Refused {
     fn fmt(&self, f: &mut fmt::Formatter) -> fmt::Result {
         let before = if matches!(self.place, Place::Room(_)) { "with" } else { "at" };
         write!(f, "{} {before} {}: {}", self.refusal, self.place, self.refusal.meaning())
+    }
+}
+
+/// The sentence too: a `main` that ends with an error shows it in this form.
+impl fmt::Debug for Refused {
+    fn fmt(&self, f: &mut fmt::Formatter) -> fmt::Result {
+        write!(f, "{self}")
     }
 }
 

@@ -92,8 +92,15 @@ impl fmt::Display for Totals {
 }
 
 /// What is no printed totals.
-#[derive(Clone, Copy, Debug, PartialEq, Eq)]
+#[derive(Clone, Copy, PartialEq, Eq)]
 pub struct NotTotals;
+
+/// The sentence too: a `main` that ends with an error shows it in this form.
+impl fmt::Debug for NotTotals {
+    fn fmt(&self, f: &mut fmt::Formatter) -> fmt::Result {
+        write!(f, "{self}")
+    }
+}
 
 impl fmt::Display for NotTotals {
     fn fmt(&self, f: &mut fmt::Formatter) -> fmt::Result {

@@ -1,0 +1,117 @@
+"""One value as the library read it: the input's bytes and the records that were used. Everything else is a view of these."""
+
+import ctypes
+import threading
+from ctypes import c_uint32
+from typing import Any, List, Optional, Tuple, Union
+
+from . import _library as lib
+from ._refused import Refused, refusal_of
+
+Buffer = Union[bytes, bytearray, memoryview]
+
+NODE = 5  # numbers a node: letter, place, size, first entry, count
+ENTRY = 2  # numbers an entry: node, next entry
+_NUMBER = 4  # bytes a number
+_GROWTH = 4
+
+
+class _Stores(threading.local):
+    """The stores that a thread reads into; what was used is copied out of them."""
+
+    room = 0
+
+    def lend(self, room: int) -> None:
+        if self.room < room:
+            self.nodes = (c_uint32 * (NODE * room))()
+            self.entries = (c_uint32 * (ENTRY * room))()
+            self.slots = (c_uint32 * room)()
+            self.room = room
+
+
+_stores = _Stores()
+
+
+def address_of(data: bytes) -> int:
+    """Where the bytes stand; they must outlive its use."""
+    return ctypes.cast(ctypes.c_char_p(data), ctypes.c_void_p).value or 0
+
+
+class Reading:
+    """A value's input, where it starts in it, how many bytes it takes, and its records."""
+
+    __slots__ = ("data", "start", "consumed", "nodes", "entries", "used_nodes", "used_entries", "_numbers")
+
+    def __init__(self, data: bytes, start: int, answer: Any) -> None:
+        self.data, self.start = data, start
+        self.consumed: int = answer.consumed
+        self.used_nodes: int = answer.nodes
+        self.used_entries: int = answer.entries
+        self.nodes = ctypes.string_at(_stores.nodes, NODE * _NUMBER * answer.nodes)
+        self.entries = ctypes.string_at(_stores.entries, ENTRY * _NUMBER * answer.entries)
+        self._numbers: Optional[Tuple[memoryview, memoryview]] = None
+
+    @property
+    def numbers(self) -> Tuple[memoryview, memoryview]:
+        """The numbers of the nodes and of the entries."""
+        if self._numbers is None:
+            self._numbers = (memoryview(self.nodes).cast("I"), memoryview(self.entries).cast("I"))
+        return self._numbers
+
+    @property
+    def end(self) -> int:
+        return self.start + self.consumed
+
+    def input(self) -> Tuple[int, int]:
+        """The value's bytes as a pointer and a length."""
+        return address_of(self.data) + self.start, self.consumed
+
+    def children(self, node: int) -> List[int]:
+        """The numbers of a node's children."""
+        nodes, entries = self.numbers
+        entry, count = nodes[NODE * node + 3], nodes[NODE * node + 4]
+        found = []
+        for _ in range(count):
+            found.append(entries[ENTRY * entry])
+            entry = entries[ENTRY * entry + 1]
+        return found
+
+
+def read_one(data: bytes, start: int, room: int, nesting: int = lib.MOST_NESTING) -> Union[Reading, Refused]:
+    """The value at a byte, or why there is none; at first with so much room."""
+    left = len(data) - start
+    enough = min(lib.MOST_RECORDS, left)
+    room = min(room, enough)
+    at = address_of(data) + start
+    while True:
+        _stores.lend(room)
+        answer = lib.sill_read(
+            at, left, _stores.nodes, NODE * room, _stores.entries, ENTRY * room, _stores.slots, room, nesting
+        )
+        if not answer.refusal:
+            return Reading(data, start, answer)
+        if answer.refusal not in (11, 12, 13) or room == enough:
+            refused = refusal_of(answer, start)
+            assert refused is not None
+            return refused
+        room = min(enough, _GROWTH * room)
+
+
+def read_values(data: bytes) -> Tuple[List[Reading], Optional[Refused]]:
+    """All values back to back, and why the bytes behind the last are none, if there are such."""
+    readings: List[Reading] = []
+    start, room = 0, len(data) // 8 + 16
+    while True:
+        reading = read_one(data, start, room)
+        if isinstance(reading, Refused):
+            return readings, reading
+        readings.append(reading)
+        start = reading.end
+        if start == len(data):
+            return readings, None
+        room = 2 * reading.used_nodes + 16
+
+
+def as_bytes(data: Buffer) -> bytes:
+    """The bytes themselves where they are such, else a copy."""
+    return data if isinstance(data, bytes) else bytes(data)
