@@ -10,9 +10,13 @@ pub fn say(message: impl Display) {
     let _ = writeln!(io::stderr(), "sill: {message}");
 }
 
-/// `sill: PATH: ERROR`, without the error's number.
+/// `sill: PATH: ERROR`.
 pub fn about(path: &Path, error: &io::Error) {
+    say(format_args!("{}: {}", text::path(path), in_words(error)));
+}
+
+/// An error without its number.
+pub fn in_words(error: &io::Error) -> String {
     let told = error.to_string();
-    let told = told.split(" (os error").next().unwrap_or(&told);
-    say(format_args!("{}: {told}", text::path(path)));
+    told.split(" (os error").next().unwrap_or(&told).to_string()
 }

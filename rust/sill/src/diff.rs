@@ -1,141 +1,136 @@
-//! `sill diff`: whether two files hold the same values, and where they first differ.
-use crate::by_bytes::{self, Told};
+//! `sill diff`: whether two files, or the files of two folders, hold the same values, and where they differ.
+mod places;
+mod rows;
+mod values;
+
+use crate::files::{self, Item, is_stdin};
+use crate::glob::Filter;
 use crate::options::Arguments;
-use crate::{Outcome, files, text};
-use sillgarland::{Content, Difference, Golden, NUMBERS, Reader, Refused, Value, What, first_difference};
+use crate::{Outcome, complaints, text};
+use std::collections::BTreeMap;
+use std::ffi::OsStr;
 use std::io::{self, Write};
-use std::path::Path;
+use std::os::unix::ffi::OsStrExt;
+use std::path::{Path, PathBuf};
+use values::{Compared, Side, compare};
+
+/// What is asked of every pair of files.
+#[derive(Clone, Copy)]
+struct Asked {
+    /// Every difference, not only the first.
+    all: bool,
+    pyc: bool,
+}
 
 pub fn run(arguments: &Arguments, out: &mut dyn Write) -> io::Result<Outcome> {
-    let [one, other] = [0, 1].map(|at| Path::new(&arguments.operands()[at]));
-    match (files::read(one), files::read(other)) {
-        (Some(left), Some(right)) => compare([Side::new(one, &left), Side::new(other, &right)], out),
-        _ => Ok(Outcome::Trouble),
-    }
-}
-
-/// A file, and how far it has been compared.
-struct Side<'a> {
-    path: &'a Path,
-    input: &'a [u8],
-    at: usize,
-}
-
-impl<'a> Side<'a> {
-    fn new(path: &'a Path, input: &'a [u8]) -> Self {
-        Self { path, input, at: 0 }
-    }
-
-    /// An empty file has a first value to be asked for too: the answer is a refusal.
-    fn has_more(&self) -> bool {
-        self.at < self.input.len() || self.at == 0
-    }
-
-    fn read<'r>(&'r self, reader: &'r mut Reader) -> Result<Golden<'r>, (&'a Path, Refused)> {
-        reader.read(&self.input[self.at..]).map_err(|refused| (self.path, refused.after(self.at)))
-    }
-}
-
-fn compare(mut sides: [Side; 2], out: &mut dyn Write) -> io::Result<Outcome> {
-    let mut readers = [Reader::new(), Reader::new()];
-    let mut values = 0;
-    let mut all_by_bytes = true;
-    while sides.iter().all(Side::has_more) {
-        values += 1;
-        let [one, other] = &mut readers;
-        let (left, right) = match (sides[0].read(one), sides[1].read(other)) {
-            (Ok(left), Ok(right)) => (left, right),
-            (left, right) => {
-                for (path, refused) in [left.err(), right.err()].into_iter().flatten() {
-                    writeln!(out, "refused  {}: {refused}", text::path(path))?;
-                }
-                return Ok(Outcome::Bad);
-            }
-        };
-        match judge(left, right, values, &sides, out)? {
-            Judged::SameBytes => {}
-            Judged::SameParts => all_by_bytes = false,
-            Judged::Different => return Ok(Outcome::Bad),
+    let [one, other] = [0, 1].map(|at| PathBuf::from(&arguments.operands()[at]));
+    let asked = Asked { all: arguments.has("all"), pyc: arguments.has("pyc") };
+    let below = |folder: &Path, file: &Path| folder.join(file.file_name().unwrap_or(OsStr::new("")));
+    match (one.is_dir(), other.is_dir()) {
+        (true, true) => folders([&one, &other], &Filter::of(arguments), asked, out),
+        (true, false) => pair([&below(&one, &other), &other], asked, out),
+        (false, true) => pair([&one, &below(&other, &one)], asked, out),
+        (false, false) if is_stdin(&one) && is_stdin(&other) => {
+            complaints::say("diff: standard input is read only once");
+            Ok(Outcome::Trouble)
         }
-        let consumed = [left.consumed(), right.consumed()];
-        sides.iter_mut().zip(consumed).for_each(|(side, consumed)| side.at += consumed);
+        (false, false) => pair([&one, &other], asked, out),
     }
-    tell_end(&sides, values, all_by_bytes, out)
 }
 
-/// By what two values were found the same, or that they are not.
-enum Judged {
-    SameBytes,
-    SameParts,
-    Different,
-}
-
-/// The written bytes decide. The comparison part by part only says where two values differ; where the bytes say nothing it
-/// decides, and that is told.
-fn judge(left: Golden, right: Golden, values: usize, sides: &[Side; 2], out: &mut dyn Write) -> io::Result<Judged> {
-    let told = by_bytes::tell(left, right);
-    match &told {
-        Told::Same => return Ok(Judged::SameBytes),
-        Told::Different { .. } => {}
-        Told::Nothing(why) => {
-            writeln!(out, "value {values} is compared part by part, not by its written bytes: {why}")?
-        }
-    }
-    match (first_difference(left.root(), right.root()), told) {
-        (Some(difference), _) => tell(&difference, values, sides, out)?,
-        (None, Told::Different { from }) => writeln!(out, "different in value {values}: written, from byte {from} on")?,
-        (None, _) => return Ok(Judged::SameParts),
-    }
-    Ok(Judged::Different)
-}
-
-fn tell_end(sides: &[Side; 2], values: usize, all_by_bytes: bool, out: &mut dyn Write) -> io::Result<Outcome> {
-    let [one, other] = sides.each_ref().map(|side| text::path(side.path));
-    let longer = sides.iter().find(|side| side.has_more());
-    match longer {
-        None => {
-            let how = if all_by_bytes { ", written as the same bytes" } else { "" };
+/// Two files, or a value of each.
+fn pair(paths: [&Path; 2], asked: Asked, out: &mut dyn Write) -> io::Result<Outcome> {
+    let [one, other] = paths.map(text::path);
+    Ok(match compared(paths, asked, out)? {
+        Compared::Same { values, by_bytes } => {
+            let how = if by_bytes { ", written as the same bytes" } else { "" };
             writeln!(out, "the same: {one} and {other}, {}{how}", text::count(values, "value"))?;
-            Ok(Outcome::Good)
+            Outcome::Good
         }
-        Some(side) => {
-            let longer = text::path(side.path);
-            writeln!(out, "different: alike up to value {values}, and {longer} goes on at byte {}", side.at)?;
-            Ok(Outcome::Bad)
-        }
+        Compared::Different => Outcome::Bad,
+        Compared::Trouble => Outcome::Trouble,
+    })
+}
+
+fn compared(paths: [&Path; 2], asked: Asked, out: &mut dyn Write) -> io::Result<Compared> {
+    let [one, other] = paths.map(|path| {
+        let (file, value) = file_and_value(path);
+        files::read(&file).map(|input| Side::new(path, input, value, asked.pyc))
+    });
+    match (one, other) {
+        (Some(one), Some(other)) => compare(&mut [one, other], asked, out),
+        _ => Ok(Compared::Trouble),
     }
 }
 
-fn tell(difference: &Difference, values: usize, sides: &[Side; 2], out: &mut dyn Write) -> io::Result<()> {
-    writeln!(out, "different in value {values}, at {}", difference.path)?;
-    for (side, value) in sides.iter().zip([difference.left, difference.right]) {
-        let place = side.at + value.place();
-        writeln!(out, "  {} at byte {place}: {}", text::path(side.path), shown(value, difference.what))?;
-    }
-    match first_different_byte(difference.left, difference.right) {
-        Some(at) => writeln!(out, "  their contents differ from their byte {at} on"),
-        None => Ok(()),
+/// `FILE#2` is the second value of FILE, unless there is a file of that very name.
+fn file_and_value(path: &Path) -> (PathBuf, Option<usize>) {
+    let bytes = path.as_os_str().as_bytes();
+    let hash = bytes.iter().rposition(|byte| *byte == b'#').filter(|_| !path.exists());
+    let value = hash.and_then(|hash| std::str::from_utf8(&bytes[hash + 1..]).ok()?.parse().ok());
+    match (hash, value.filter(|value| *value > 0)) {
+        (Some(hash), Some(value)) => (PathBuf::from(OsStr::from_bytes(&bytes[..hash])), Some(value)),
+        _ => (path.to_path_buf(), None),
     }
 }
 
-/// The side of a difference that a value is.
-fn shown(value: Value, what: What) -> String {
-    match (what, value.as_code()) {
-        (What::Number(name), Some(code)) => {
-            let at = NUMBERS.iter().position(|number| *number == name);
-            let number = at.map_or(i64::from(code.first_line()), |at| i64::from(code.numbers()[at]));
-            format!("code object {}, {name} {number}", text::name(code.qualified_name()))
+/// Files by their paths below a folder; what cannot be read is told, and counted.
+fn below(folder: &Path, filter: &Filter, troubles: &mut usize) -> BTreeMap<PathBuf, PathBuf> {
+    let mut files = BTreeMap::new();
+    for Item { path, trouble } in files::find(&[folder.as_os_str().to_os_string()], filter) {
+        match trouble {
+            Some(error) => {
+                complaints::about(&path, &error);
+                *troubles += 1;
+            }
+            None => {
+                files.insert(path.strip_prefix(folder).unwrap_or(&path).to_path_buf(), path);
+            }
         }
-        _ => text::holds(value),
     }
+    files
 }
 
-/// Of two texts, or two lots of bytes: a long one is not shown whole, so this says where to look.
-fn first_different_byte(left: Value, right: Value) -> Option<usize> {
-    let (left, right) = match (left.content(), right.content()) {
-        (Content::Bytes(left), Content::Bytes(right)) => (left, right),
-        (Content::Text(left), Content::Text(right)) => (left.bytes(), right.bytes()),
-        _ => return None,
-    };
-    Some(by_bytes::alike(left, right))
+fn folders(folders: [&Path; 2], filter: &Filter, asked: Asked, out: &mut dyn Write) -> io::Result<Outcome> {
+    let (mut same, mut different, mut troubles) = (0, 0, 0);
+    let [one, mut other] = folders.map(|folder| below(folder, filter, &mut troubles));
+    let mut alone = Vec::new();
+    for (name, left) in one {
+        let Some(right) = other.remove(&name) else {
+            alone.push(left);
+            continue;
+        };
+        match compared([&left, &right], asked, out)? {
+            Compared::Same { .. } => same += 1,
+            Compared::Different => different += 1,
+            Compared::Trouble => troubles += 1,
+        }
+    }
+    alone.extend(other.into_values());
+    for path in &alone {
+        writeln!(out, "only on one side: {}", text::path(path))?;
+    }
+    let trouble = if troubles > 0 { format!("; {}", text::count(troubles, "trouble")) } else { String::new() };
+    let pairs = text::count(same + different, "pair");
+    writeln!(out, "{pairs}: {same} the same, {different} different, {} on one side only{trouble}", alone.len())?;
+    Ok(match (troubles, different + alone.len()) {
+        (0, 0) => Outcome::Good,
+        (0, _) => Outcome::Bad,
+        _ => Outcome::Trouble,
+    })
+}
+
+#[cfg(test)]
+mod tests {
+    use super::*;
+
+    #[test]
+    fn a_value_of_a_file() {
+        let named = |path: &str| file_and_value(Path::new(path));
+        assert_eq!(named("a.golden#2"), (PathBuf::from("a.golden"), Some(2)));
+        assert_eq!(named("a#b#10"), (PathBuf::from("a#b"), Some(10)));
+        for whole in ["a.golden", "a#0", "a#", "a#x", "a#-1"] {
+            assert_eq!(named(whole), (PathBuf::from(whole), None));
+        }
+    }
 }

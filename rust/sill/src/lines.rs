@@ -1,107 +1,89 @@
 //! `sill lines`: where each instruction of each code object comes from, and which handler guards it.
+mod json;
+mod table;
+
+use crate::files::{self, Item};
+use crate::glob::Filter;
 use crate::options::Arguments;
-use crate::terminal::{Colour, Colours};
-use crate::{Outcome, files, text};
-use sillgarland::{Code, Handler, Lines, Located, Location, Locations, Reader, Records};
+use crate::terminal::Colours;
+use crate::{Outcome, complaints, looks, words};
+use sillgarland::{Code, Lines, Located, Reader, Records, Refused};
 use std::io::{self, Write};
 use std::path::Path;
 
 pub fn run(arguments: &Arguments, out: &mut dyn Write) -> io::Result<Outcome> {
-    let path = Path::new(&arguments.operands()[0]);
-    let Some(input) = files::read(path) else { return Ok(Outcome::Trouble) };
-    let (mut records, mut outcome) = (Records::default(), Outcome::Good);
-    let ended = files::for_each_value(&mut Reader::new(), &input, |start, golden| {
-        for code in golden.code_objects() {
-            outcome = outcome.max(show_code(out, start, &code, &mut records)?);
+    let items = files::find(arguments.operands(), &Filter::of(arguments));
+    let asked = Asked {
+        json: arguments.has("json"),
+        not_whole: arguments.has("not-whole"),
+        pyc: arguments.has("pyc"),
+        headed: items.len() > 1,
+        colours: Colours::of(arguments),
+    };
+    let (mut outcome, mut buffer) = (Outcome::Good, Vec::new());
+    for Item { path, trouble } in items {
+        match trouble.map_or_else(|| files::read_into(&path, &mut buffer), Err) {
+            Ok(()) => outcome = outcome.max(show_file(&asked, &path, &buffer, out)?),
+            Err(error) => {
+                complaints::about(&path, &error);
+                outcome = Outcome::Trouble;
+            }
         }
-        Ok::<(), io::Error>(())
-    })?;
-    if let Some(refused) = ended.refused {
-        writeln!(out, "refused: {refused}")?;
-        outcome = outcome.max(Outcome::Bad);
     }
     Ok(outcome)
 }
 
-fn show_code(out: &mut dyn Write, start: usize, code: &Code, records: &mut Records) -> io::Result<Outcome> {
-    write!(
-        out,
-        "code object {} at byte {}, file {}, first line {}: ",
-        text::name(code.qualified_name()),
-        start + code.value().place(),
-        text::name(code.file()),
-        code.first_line()
-    )?;
-    let (locations, outcome) = match code.lines(records) {
-        Err(refused) => {
-            writeln!(out, "line table refused: {}", refused.after(start))?;
-            (None, Outcome::Bad)
-        }
-        Ok(Lines::Whole(locations)) => {
-            writeln!(out, "{}, the line table is whole", text::count(locations.len(), "instruction"))?;
-            (Some(locations), Outcome::Good)
-        }
-        Ok(Lines::NotWhole(locations)) => {
-            let all = text::count(locations.len(), "instruction");
-            writeln!(out, "{all}, NOT WHOLE: the line table places {} of them", locations.from_entries())?;
-            (Some(locations), Outcome::Bad)
-        }
-    };
-    if let Some(locations) = locations {
-        show_locations(out, code, locations)?;
-    }
-    Ok(outcome.max(show_handlers(out, start, code, locations)?))
+/// What is asked of every file.
+struct Asked {
+    json: bool,
+    /// Only code objects whose line table is not whole, or refused.
+    not_whole: bool,
+    pyc: bool,
+    /// Whether a file's path stands before what is shown of it.
+    headed: bool,
+    colours: Colours,
 }
 
-fn show_handlers(out: &mut dyn Write, start: usize, code: &Code, locations: Option<Locations>) -> io::Result<Outcome> {
-    match code.handlers() {
-        Err(refused) => {
-            writeln!(out, "exception table refused: {}", refused.after(start))?;
-            Ok(Outcome::Bad)
-        }
-        Ok(handlers) => {
-            for handler in handlers {
-                let rows = locations.map_or(String::new(), |locations| rows(&handler, locations));
-                writeln!(out, "{}{rows}", text::handler(&handler))?;
+/// A code object of a file, and what its line table gives.
+struct Shown<'a> {
+    path: &'a Path,
+    /// Where the value that it stands in begins.
+    start: usize,
+    code: &'a Code<'a>,
+    lines: Result<Lines<'a>, Refused>,
+}
+
+fn show_file(asked: &Asked, path: &Path, input: &[u8], out: &mut dyn Write) -> io::Result<Outcome> {
+    let (mut records, mut outcome, mut unheaded) = (Records::default(), Outcome::Good, asked.headed && !asked.json);
+    let from = looks::skipped(input, asked.pyc);
+    let ended = files::for_each_value_from(from, &mut Reader::new(), input, |start, golden| {
+        for code in golden.code_objects() {
+            let shown = Shown { path, start, code: &code, lines: code.lines(&mut records) };
+            let whole = shown.lines.as_ref().is_ok_and(|lines| lines.whole().is_some());
+            if !whole || code.handlers().is_err() {
+                outcome = Outcome::Bad;
             }
-            Ok(Outcome::Good)
-        }
-    }
-}
-
-/// The rows that the guarded instructions come from, as far as they are sure.
-fn rows(handler: &Handler, locations: Locations) -> String {
-    let guarded = handler.guarded(locations.len());
-    let sure = || {
-        let guarded = locations.iter().skip(guarded.start).take(guarded.len());
-        guarded.filter(|located| located.source().is_sure()).map(Located::location)
-    };
-    match (sure().map(|at| at.line).min(), sure().map(|at| at.end_line).max()) {
-        (Some(first), Some(last)) if first == last => format!(", row {first}"),
-        (Some(first), Some(last)) => format!(", rows {first} to {last}"),
-        _ => ", no row known".to_string(),
-    }
-}
-
-fn show_locations(out: &mut dyn Write, code: &Code, locations: Locations) -> io::Result<()> {
-    let colours = Colours::of_stdout();
-    let units = code.code().as_chunks().0;
-    let below = locations.iter().any(|located| why_not_sure(located) == Some(Why::BelowOne));
-    let stored = if below { code.stored_lines(&mut Records::default()) } else { None };
-    for (at, (located, [opcode, argument])) in locations.iter().zip(units).enumerate() {
-        let Location { line, column, end_line, end_column } = located.location();
-        let place = format!("{line}:{column} to {end_line}:{end_column}");
-        write!(out, "{at:>8}  {opcode:02x} {argument:02x}  ")?;
-        match why_not_sure(located) {
-            None => writeln!(out, "{place}")?,
-            Some(why) => {
-                let stored = stored.as_ref().and_then(|stored| stored.get(at));
-                let mark = colours.paint(Colour::Yellow, &format!("! {}", why.told(stored)));
-                writeln!(out, "-  {mark}; document 01 shows {place}")?
+            if !whole || !asked.not_whole {
+                head(&mut unheaded, path, out)?;
+                if asked.json { json::show(&shown, out)? } else { table::show(&shown, asked.colours, out)? }
             }
         }
+        Ok::<(), io::Error>(())
+    })?;
+    if let Some(refused) = ended.refused {
+        outcome = Outcome::Bad;
+        head(&mut unheaded, path, out)?;
+        match asked.json {
+            true => writeln!(out, "{}", crate::json::of_file(crate::json::path(path), &refused, input).end())?,
+            false => writeln!(out, "refused: {}", words::of_file(&refused, input))?,
+        }
     }
-    Ok(())
+    Ok(outcome)
+}
+
+/// A file's path, once, before what is shown of it.
+fn head(unheaded: &mut bool, path: &Path, out: &mut dyn Write) -> io::Result<()> {
+    if std::mem::take(unheaded) { writeln!(out, "{}:", crate::text::path(path)) } else { Ok(()) }
 }
 
 /// Why the row that is shown is not one that an entry gave.
@@ -135,4 +117,10 @@ impl Why {
             (Why::BelowOne, None) => "line below 1 shown as 1".to_string(),
         }
     }
+}
+
+/// Lines as they are stored, where one of them is shown as 1.
+fn stored(code: &Code, locations: sillgarland::Locations) -> Option<Vec<(i64, i64)>> {
+    let below = locations.iter().any(|located| why_not_sure(located) == Some(Why::BelowOne));
+    if below { code.stored_lines(&mut Records::default()) } else { None }
 }

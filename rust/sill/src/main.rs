@@ -5,8 +5,11 @@ mod check;
 mod complaints;
 mod diff;
 mod files;
+mod glob;
 mod help;
+mod json;
 mod lines;
+mod looks;
 mod options;
 mod repair;
 mod row;
@@ -14,6 +17,7 @@ mod show;
 mod terminal;
 mod text;
 mod totals;
+mod words;
 mod write;
 
 use help::Page;
@@ -41,7 +45,7 @@ impl From<Outcome> for ExitCode {
 
 type Command = fn(&Arguments, &mut dyn Write) -> io::Result<Outcome>;
 
-const COMMANDS: [(&Page, Command); 8] = [
+const COMMANDS: &[(&Page, Command)] = &[
     (&help::CHECK, check::run),
     (&help::SHOW, show::run),
     (&help::LINES, lines::run),
@@ -50,6 +54,8 @@ const COMMANDS: [(&Page, Command); 8] = [
     (&help::REPAIR, repair::run),
     (&help::DIFF, diff::run),
     (&help::TOTALS, totals::run),
+    (&help::MANUAL, manual),
+    (&help::COMPLETIONS, completions),
 ];
 
 fn main() -> ExitCode {
@@ -76,13 +82,26 @@ fn run(words: &[OsString], out: &mut dyn Write) -> io::Result<Outcome> {
     if let Some((page, command)) = COMMANDS.iter().find(|(page, _)| page.name == name) {
         return run_command(page, *command, rest, out);
     }
-    match &*name {
-        "-h" | "--help" | "help" => writeln!(out, "{}", help::overview())?,
-        "-V" | "--version" => writeln!(out, "sill {}", env!("CARGO_PKG_VERSION"))?,
-        "manual" => write!(out, "{}", help::manual())?,
-        _ => return Ok(called_wrongly(&format!("there is no command '{name}'"), "sill --help")),
+    match (&*name, rest) {
+        ("help", [page]) if page != "--help" => return show_page(&page.to_string_lossy(), out),
+        ("-h" | "--help" | "help", _) => writeln!(out, "{}", help::overview())?,
+        ("-V" | "--version", _) => writeln!(out, "sill {}", env!("CARGO_PKG_VERSION"))?,
+        _ => return Ok(no_command(&name)),
     }
     Ok(Outcome::Good)
+}
+
+/// `sill help check`.
+fn show_page(name: &str, out: &mut dyn Write) -> io::Result<Outcome> {
+    match Page::named(name) {
+        Some(page) => writeln!(out, "{}", page.plain()).map(|()| Outcome::Good),
+        None => Ok(no_command(name)),
+    }
+}
+
+fn no_command(name: &str) -> Outcome {
+    let names = COMMANDS.iter().map(|(page, _)| page.name.to_string()).chain(["help".to_string()]);
+    called_wrongly(&format!("there is no command '{name}'{}", options::did_you_mean(name, names)), "sill --help")
 }
 
 fn run_command(page: &Page, command: Command, words: &[OsString], out: &mut dyn Write) -> io::Result<Outcome> {
@@ -100,7 +119,35 @@ fn run_command(page: &Page, command: Command, words: &[OsString], out: &mut dyn 
     }
 }
 
+fn manual(arguments: &Arguments, out: &mut dyn Write) -> io::Result<Outcome> {
+    let text = if arguments.has("man") { help::man() } else { help::manual() };
+    write!(out, "{text}").map(|()| Outcome::Good)
+}
+
+fn completions(arguments: &Arguments, out: &mut dyn Write) -> io::Result<Outcome> {
+    let shell = arguments.operands()[0].to_string_lossy();
+    match help::completions(&shell) {
+        Some(text) => write!(out, "{text}").map(|()| Outcome::Good),
+        None => {
+            let complaint = format!("there are completions for bash, zsh and fish, and none for '{shell}'");
+            Ok(called_wrongly(&complaint, "sill completions --help"))
+        }
+    }
+}
+
 fn called_wrongly(complaint: &str, help: &str) -> Outcome {
-    complaints::say(format_args!("{complaint}; {help} says how to call it"));
+    let mark = if complaint.ends_with('?') { "" } else { ";" };
+    complaints::say(format_args!("{complaint}{mark} {help} says how to call it"));
     Outcome::Trouble
+}
+
+#[cfg(test)]
+mod tests {
+    use super::*;
+
+    #[test]
+    fn every_page_has_its_command() {
+        let commands: Vec<&str> = COMMANDS.iter().map(|(page, _)| page.name).collect();
+        assert_eq!(commands, help::PAGES.iter().map(|page| page.name).collect::<Vec<_>>());
+    }
 }

@@ -21,50 +21,115 @@ impl Arguments {
         self.given.iter().rfind(|(name, _)| *name == long)?.1.as_deref()
     }
 
+    /// The words after an option that may be given more than once.
+    pub fn words_of(&self, long: &'static str) -> impl Iterator<Item = &OsStr> {
+        self.given.iter().filter(move |(name, _)| *name == long).filter_map(|(_, word)| word.as_deref())
+    }
+
     /// All that is no option.
     pub fn operands(&self) -> &[OsString] {
         &self.operands
     }
 }
 
-/// Options may stand anywhere; after `--` nothing is an option. A word may follow its option, or stand after `=`.
+/// Options may stand anywhere; after `--` nothing is an option. A word may follow its option, stand after `=`, or right behind
+/// the letter of a short one; letters of options without a word may stand together.
 pub fn parse(words: &[OsString], page: &Page) -> Result<Arguments, String> {
     let mut arguments = Arguments::default();
     let mut words = words.iter();
     while let Some(word) = words.next() {
+        let bytes = word.as_bytes();
         if word == "--" {
             arguments.operands.extend(words.by_ref().cloned());
-        } else if word.len() < 2 || !word.as_bytes().starts_with(b"-") {
+        } else if bytes.len() < 2 || bytes[0] != b'-' {
             arguments.operands.push(word.clone());
+        } else if bytes[1] == b'-' {
+            arguments.given.push(long(page, word, || words.next().cloned())?);
         } else {
-            let (name, joined) = split(word);
-            let known = page.option(&name).ok_or_else(|| format!("unknown option '{name}'"))?;
-            let following = word_for(known, joined, || words.next().cloned())?;
-            arguments.given.push((known.long, following));
+            short(page, &bytes[1..], &mut arguments.given, || words.next().cloned())?;
         }
     }
     Ok(arguments)
 }
 
-/// An option's name, and the word after its `=`.
-fn split(word: &OsStr) -> (String, Option<&OsStr>) {
+type Given = (&'static str, Option<OsString>);
+
+/// `--name`, `--name WORD` or `--name=WORD`.
+fn long(page: &Page, word: &OsStr, next: impl FnOnce() -> Option<OsString>) -> Result<Given, String> {
     let mut halves = word.as_bytes().splitn(2, |byte| *byte == b'=').map(OsStr::from_bytes);
     let name = halves.next().map_or(String::new(), |name| name.to_string_lossy().into_owned());
-    (name, halves.next())
+    let known = page.option(&name).ok_or_else(|| unknown(page, &name))?;
+    match (known.word, halves.next()) {
+        (None, None) => Ok((known.long, None)),
+        (None, Some(_)) => Err(format!("--{} takes no word", known.long)),
+        (Some(_), joined) => with_word(known, joined.map(OsString::from).or_else(next)),
+    }
 }
 
-fn word_for(
-    known: &Known,
-    joined: Option<&OsStr>,
+/// `-q`, `-q0`, `-d2`, `-d 2` or `-d=2`, without the dash.
+fn short(
+    page: &Page,
+    letters: &[u8],
+    given: &mut Vec<Given>,
     next: impl FnOnce() -> Option<OsString>,
-) -> Result<Option<OsString>, String> {
-    let long = known.long;
-    match (known.word, joined) {
-        (None, None) => Ok(None),
-        (None, Some(_)) => Err(format!("--{long} takes no word")),
-        (Some(_), Some(word)) => Ok(Some(OsString::from(word))),
-        (Some(word), None) => next().map(Some).ok_or_else(|| format!("--{long} wants {word} after it")),
+) -> Result<(), String> {
+    for (at, letter) in letters.iter().enumerate() {
+        let name = format!("-{}", *letter as char);
+        let known = page.option(&name).ok_or_else(|| unknown(page, &name))?;
+        if known.word.is_some() {
+            let behind = &letters[at + 1..];
+            let joined = behind.strip_prefix(b"=").unwrap_or(behind);
+            let joined = (!behind.is_empty()).then(|| OsStr::from_bytes(joined).to_os_string());
+            given.push(with_word(known, joined.or_else(next))?);
+            return Ok(());
+        }
+        given.push((known.long, None));
     }
+    Ok(())
+}
+
+fn with_word(known: &'static Known, word: Option<OsString>) -> Result<Given, String> {
+    let wanted = known.word.unwrap_or_default();
+    let word = word.ok_or_else(|| format!("--{} wants {wanted} after it", known.long))?;
+    let choices = known.choices();
+    if choices.is_empty() || choices.iter().any(|choice| *choice == word) {
+        return Ok((known.long, Some(word)));
+    }
+    let word = word.to_string_lossy();
+    let told = format!("--{} wants one of {}, and not '{word}'", known.long, choices.join(", "));
+    Err(told + &did_you_mean(&word, choices.into_iter().map(String::from)))
+}
+
+fn unknown(page: &Page, name: &str) -> String {
+    let names = page.options.iter().map(|known| format!("--{}", known.long));
+    format!("unknown option '{name}'{}", did_you_mean(name, names))
+}
+
+/// `; did you mean check?`, where one of the names is near.
+pub fn did_you_mean(word: &str, names: impl Iterator<Item = String>) -> String {
+    let word: Vec<char> = word.chars().take(MOST_LETTERS).collect();
+    let near = names.map(|name| (distance(&word, &name), name)).min();
+    let most = if word.iter().filter(|letter| **letter != '-').count() < 5 { 1 } else { 2 };
+    near.filter(|(far, _)| *far <= most).map_or(String::new(), |(_, name)| format!("; did you mean {name}?"))
+}
+
+const MOST_LETTERS: usize = 64;
+
+/// How many letters must be put in, taken out, changed or swapped with the next to make one word of another.
+fn distance(word: &[char], name: &str) -> usize {
+    let name: Vec<char> = name.chars().collect();
+    let mut rows: Vec<Vec<usize>> = vec![(0..=name.len()).collect()];
+    for at in 1..=word.len() {
+        let mut row = vec![at];
+        for to in 1..=name.len() {
+            let changed = rows[at - 1][to - 1] + usize::from(word[at - 1] != name[to - 1]);
+            let swapped = at > 1 && to > 1 && word[at - 1] == name[to - 2] && word[at - 2] == name[to - 1];
+            let swapped = if swapped { rows[at - 2][to - 2] + 1 } else { usize::MAX };
+            row.push(changed.min(swapped).min(row[to - 1] + 1).min(rows[at - 1][to] + 1));
+        }
+        rows.push(row);
+    }
+    rows[word.len()][name.len()]
 }
 
 #[cfg(test)]
@@ -82,7 +147,16 @@ mod tests {
         assert!(arguments.has("json"));
         assert_eq!(arguments.word_of("depth"), Some(OsStr::new("3")));
         assert_eq!(arguments.operands(), ["file"]);
-        assert_eq!(parsed(&["--depth=4"], &SHOW).unwrap().word_of("depth"), Some(OsStr::new("4")));
+    }
+
+    #[test]
+    fn a_word_in_each_of_its_places() {
+        for words in [&["--depth=4"][..], &["-d4"], &["-d", "4"], &["-d=4"], &["--depth", "4"]] {
+            assert_eq!(parsed(words, &SHOW).unwrap().word_of("depth"), Some(OsStr::new("4")), "{words:?}");
+        }
+        let arguments = parsed(&["-q0lrefused", "--list=accepted", "a"], &CHECK).unwrap();
+        assert!(arguments.has("quiet") && arguments.has("null"));
+        assert_eq!(arguments.words_of("list").collect::<Vec<_>>(), ["refused", "accepted"]);
     }
 
     #[test]
@@ -94,8 +168,19 @@ mod tests {
 
     #[test]
     fn what_is_wrong_is_said() {
+        assert_eq!(parsed(&["--dept"], &SHOW).unwrap_err(), "unknown option '--dept'; did you mean --depth?");
         assert_eq!(parsed(&["--deep"], &SHOW).unwrap_err(), "unknown option '--deep'");
+        assert_eq!(parsed(&["-x"], &SHOW).unwrap_err(), "unknown option '-x'");
         assert_eq!(parsed(&["--depth"], &SHOW).unwrap_err(), "--depth wants N after it");
         assert_eq!(parsed(&["--json=yes"], &SHOW).unwrap_err(), "--json takes no word");
+        let told = "--color wants one of auto, always, never, and not 'allways'; did you mean always?";
+        assert_eq!(parsed(&["--color=allways"], &CHECK).unwrap_err(), told);
+    }
+
+    #[test]
+    fn near_words() {
+        let far = |word: &str, name| distance(&word.chars().collect::<Vec<_>>(), name);
+        assert_eq!((far("chek", "check"), far("cehck", "check"), far("", "row")), (1, 1, 3));
+        assert_eq!((far("lines", "lines"), far("show", "row")), (0, 2));
     }
 }

@@ -1,7 +1,8 @@
 //! `sill repair`: line tables that are not whole are salvaged where they stand, and every other byte of the file stays.
 use crate::options::Arguments;
-use crate::write::{may_be_replaced, put_in_place};
-use crate::{Outcome, complaints, files, text};
+use crate::words::{self, Within};
+use crate::write::{beside_output, may_be_replaced, put};
+use crate::{Outcome, complaints, files, json, text};
 use sillgarland::{Code, Golden, Lines, Reader, Records, Salvaged, Value};
 use std::collections::{BTreeMap, HashSet};
 use std::io::{self, Write};
@@ -23,19 +24,19 @@ pub fn run(arguments: &Arguments, out: &mut dyn Write) -> io::Result<Outcome> {
     let report = match repaired(&input) {
         Ok(report) => report,
         Err(reason) => {
-            writeln!(out, "refused  {}: {reason}; nothing is written", text::path(path))?;
-            return Ok(Outcome::Bad);
+            let told = format!("refused  {}: {reason}; nothing is written", text::path(path));
+            return beside_output(target, out, &told).map(|()| Outcome::Bad);
         }
     };
-    if let Some(error) = (!dry).then(|| put_in_place(target, &report.bytes)).and_then(Result::err) {
+    if let Some(error) = (!dry).then(|| put(target, &report.bytes, out)).and_then(Result::err) {
         complaints::about(target, &error);
         return Ok(Outcome::Trouble);
     }
     let written = (!dry).then_some(target);
-    if arguments.has("json") {
-        report.as_json(out, written)?
-    } else {
-        report.as_text(out, written, input.len())?
+    let told = if arguments.has("json") { report.as_json(written) } else { report.as_text(written, input.len()) };
+    match written {
+        Some(target) => beside_output(target, out, &told)?,
+        None => writeln!(out, "{told}")?,
     }
     Ok(if report.told.values().any(|told| told.left.is_some()) { Outcome::Bad } else { Outcome::Good })
 }
@@ -77,7 +78,7 @@ fn repaired(input: &[u8]) -> Result<Report, String> {
         Ok::<(), String>(())
     })?;
     if let Some(refused) = ended.refused {
-        return Err(refused.to_string());
+        return Err(words::told(&refused, Within::Value(input), 0));
     }
     let bytes = changed(input, &changes);
     read_back(input, &bytes, &mut told)?;
@@ -166,8 +167,9 @@ fn read_back(input: &[u8], bytes: &[u8], told: &mut ByNumber) -> Result<(), Stri
     let (mut before, mut after, mut records) = (Reader::new(), Reader::new(), Records::default());
     let (mut from, mut to, mut objects) = (0, 0, 0);
     while from < input.len() {
-        let old = before.read(&input[from..]).map_err(|refused| refused.to_string())?;
-        let new = after.read(&bytes[to..]).map_err(|refused| format!("would not read back: {}", refused.after(to)))?;
+        let old = files::read_value(&mut before, input, from).map_err(|refused| refused.to_string())?;
+        let new =
+            files::read_value(&mut after, bytes, to).map_err(|refused| format!("would not read back: {refused}"))?;
         if !same_but_for(old, new, &input[from..], &bytes[to..], |at| {
             told.get(&(objects + at)).is_some_and(|told| told.left.is_none())
         }) {
@@ -217,26 +219,24 @@ fn hold_lines(code: &Code, told: Option<&mut Told>, records: &mut Records) -> Re
 }
 
 impl Report {
-    fn as_text(&self, out: &mut dyn Write, target: Option<&Path>, was: usize) -> io::Result<()> {
-        for told in self.told.values() {
-            writeln!(out, "{}", told.as_text())?;
-        }
+    fn as_text(&self, target: Option<&Path>, was: usize) -> String {
+        let told: String = self.told.values().map(|told| told.as_text() + "\n").collect();
         let left = self.told.values().filter(|told| told.left.is_some()).count();
         let mended = text::count(self.told.len() - left, "code object");
         let totals = format!("{mended} mended, {left} left as they are");
         match target {
             Some(target) => {
                 let bytes = text::count(self.bytes.len(), "byte");
-                writeln!(out, "written  {}: {bytes} (was {was}): {totals}", text::path(target))
+                format!("{told}written  {}: {bytes} (was {was}): {totals}", text::path(target))
             }
-            None => writeln!(out, "dry run  {totals}; nothing is written"),
+            None => format!("{told}dry run  {totals}; nothing is written"),
         }
     }
 
-    fn as_json(&self, out: &mut dyn Write, target: Option<&Path>) -> io::Result<()> {
+    fn as_json(&self, target: Option<&Path>) -> String {
         let codes: Vec<String> = self.told.values().map(Told::as_json).collect();
         let written = target.map_or("null".to_string(), |_| self.bytes.len().to_string());
-        writeln!(out, "{{\"written\": {written}, \"code_objects\": [{}]}}", codes.join(", "))
+        format!("{{\"written\": {written}, \"code_objects\": [{}]}}", codes.join(", "))
     }
 }
 
@@ -262,10 +262,10 @@ impl Told {
 
     fn as_json(&self) -> String {
         let number = |number: Option<usize>| number.map_or("null".to_string(), |number| number.to_string());
-        let name = json_text(&self.name);
+        let name = json::string(&self.name);
         match &self.salvaged {
             None => {
-                let reason = json_text(self.left.as_deref().unwrap_or_default());
+                let reason = json::string(self.left.as_deref().unwrap_or_default());
                 format!("{{\"name\": {name}, \"mended\": false, \"reason\": {reason}}}")
             }
             Some(Salvaged { kept, dropped, shortened, covered, .. }) => format!(
@@ -276,16 +276,4 @@ impl Told {
             ),
         }
     }
-}
-
-fn json_text(text: &str) -> String {
-    let escaped: String = text
-        .chars()
-        .map(|letter| match letter {
-            '"' | '\\' => format!("\\{letter}"),
-            letter if letter < ' ' => format!("\\u{:04x}", letter as u32),
-            letter => letter.to_string(),
-        })
-        .collect();
-    format!("\"{escaped}\"")
 }

@@ -1,6 +1,7 @@
 //! `sill row`: which instructions of which code objects start a row, by an index of row starts.
 use crate::options::Arguments;
-use crate::{Outcome, complaints, files, text};
+use crate::words::{self, Within};
+use crate::{Outcome, complaints, files, looks, text};
 use sillgarland::{Code, Reader, Records, Refused, Starts};
 use std::io::{self, Write};
 use std::path::Path;
@@ -16,12 +17,14 @@ pub fn run(arguments: &Arguments, out: &mut dyn Write) -> io::Result<Outcome> {
     };
     let Some(input) = files::read(path) else { return Ok(Outcome::Trouble) };
     let (mut records, mut outcome, mut found) = (Records::default(), Outcome::Good, false);
-    let ended = files::for_each_value(&mut Reader::new(), &input, |start, golden| {
+    let from = looks::skipped(&input, arguments.has("pyc"));
+    let ended = files::for_each_value_from(from, &mut Reader::new(), &input, |start, golden| {
         for code in golden.code_objects() {
             match asked(&code, row, &mut records) {
                 Ok(told) => found |= told.show(out, start, &code)?,
                 Err(refused) => {
-                    writeln!(out, "{}: line table refused: {}", named(start, &code), refused.after(start))?;
+                    let told = words::told(&refused, Within::LineTable(code), start);
+                    writeln!(out, "{}: line table refused: {told}", named(start, &code))?;
                     outcome = Outcome::Bad;
                 }
             }
@@ -29,7 +32,7 @@ pub fn run(arguments: &Arguments, out: &mut dyn Write) -> io::Result<Outcome> {
         Ok::<(), io::Error>(())
     })?;
     if let Some(refused) = ended.refused {
-        writeln!(out, "refused: {refused}")?;
+        writeln!(out, "refused: {}", words::of_file(&refused, &input))?;
         outcome = Outcome::Bad;
     }
     if !found {

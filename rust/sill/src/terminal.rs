@@ -1,8 +1,9 @@
 //! Colour and progress, where a person watches.
+use crate::options::Arguments;
 use std::io::{self, IsTerminal, Write};
 use std::time::{Duration, Instant};
 
-/// Colours for standard output: none unless it is a terminal, and none if NO_COLOR is set.
+/// Colours for standard output, as `--color` says; where it does not, none unless it is a terminal, and none if NO_COLOR is set.
 #[derive(Clone, Copy)]
 pub struct Colours(bool);
 
@@ -15,9 +16,13 @@ pub enum Colour {
 }
 
 impl Colours {
-    pub fn of_stdout() -> Self {
-        let unwanted = std::env::var_os("NO_COLOR").is_some_and(|value| !value.is_empty());
-        Self(io::stdout().is_terminal() && !unwanted)
+    pub fn of(arguments: &Arguments) -> Self {
+        let unwanted = || std::env::var_os("NO_COLOR").is_some_and(|value| !value.is_empty());
+        match arguments.word_of("color").and_then(|word| word.to_str()) {
+            Some("always") => Self(true),
+            Some("never") => Self(false),
+            _ => Self(io::stdout().is_terminal() && !unwanted()),
+        }
     }
 
     pub fn paint(self, colour: Colour, text: &str) -> String {

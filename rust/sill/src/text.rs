@@ -8,7 +8,7 @@ const MOST_BYTES_SHOWN: usize = 24;
 
 /// A path; what a terminal could take for a command is escaped.
 pub fn path(path: &Path) -> String {
-    path.to_string_lossy().chars().map(visible).collect()
+    shown(path.to_string_lossy().chars())
 }
 
 /// `1 file`, `2 files`.
@@ -18,7 +18,30 @@ pub fn count(number: usize, thing: &str) -> String {
 
 /// A name without quotes; a very long one is cut.
 pub fn name(text: Text) -> String {
-    shortened(text, false)
+    match text.as_str() {
+        Some(text) => short(text),
+        None => shortened(text, false),
+    }
+}
+
+/// The same of a name that is text.
+pub fn short(text: &str) -> String {
+    let is_plain = |byte: &u8| matches!(byte, b' '..=b'~');
+    if text.len() <= MOST_LETTERS && text.as_bytes().iter().all(is_plain) {
+        return text.to_string();
+    }
+    let rest = if text.chars().nth(MOST_LETTERS).is_some() { "…" } else { "" };
+    shown(text.chars().take(MOST_LETTERS)) + rest
+}
+
+fn shown(letters: impl Iterator<Item = char>) -> String {
+    letters.fold(String::new(), |mut shown, letter| {
+        match letter {
+            ' '..='~' => shown.push(letter),
+            _ => shown += &visible(letter),
+        }
+        shown
+    })
 }
 
 /// What a value holds, in one line; long texts and bytes are cut.

@@ -1,4 +1,5 @@
 //! `sill totals`: exact counts over many files, and sums of such counts.
+use crate::glob::Filter;
 use crate::options::Arguments;
 use crate::terminal::Progress;
 use crate::{Outcome, complaints, files};
@@ -9,7 +10,7 @@ use std::os::unix::ffi::OsStrExt;
 use std::path::Path;
 
 pub fn run(arguments: &Arguments, out: &mut dyn Write) -> io::Result<Outcome> {
-    let outcome = if arguments.has("add") { added(arguments.operands()) } else { counted(arguments.operands()) };
+    let outcome = if arguments.has("add") { added(arguments.operands()) } else { counted(arguments) };
     match outcome {
         Some((totals, outcome)) => write!(out, "{totals}").map(|()| outcome),
         None => Ok(Outcome::Trouble),
@@ -20,20 +21,20 @@ pub fn run(arguments: &Arguments, out: &mut dyn Write) -> io::Result<Outcome> {
 const AT_ONCE: usize = 4096;
 
 /// The totals of files; a file that cannot be read is told, and in no count.
-fn counted(operands: &[OsString]) -> Option<(Totals, Outcome)> {
-    let (paths, listed) = with_standard_input(operands);
-    let found = files::find(&paths);
-    let mut outcome = if found.trouble || !listed { Outcome::Trouble } else { Outcome::Good };
-    let mut progress = Progress::new(found.files.len());
+fn counted(arguments: &Arguments) -> Option<(Totals, Outcome)> {
+    let (paths, listed) = with_standard_input(arguments.operands());
+    let items = files::find(&paths, &Filter::of(arguments));
+    let mut outcome = if listed { Outcome::Good } else { Outcome::Trouble };
+    let mut progress = Progress::new(items.len());
     let (mut reader, mut buffer, mut outcomes) = (Reader::new(), Vec::new(), Vec::new());
     let mut totals = Totals::default();
-    for (at, path) in found.files.iter().enumerate() {
+    for (at, item) in items.into_iter().enumerate() {
         progress.show(at);
-        match files::read_into(path, &mut buffer) {
+        match item.trouble.map_or_else(|| files::read_into(&item.path, &mut buffer), Err) {
             Ok(()) => outcomes.push(first_refusal(&mut reader, &buffer)),
             Err(error) => {
                 progress.clear();
-                complaints::about(path, &error);
+                complaints::about(&item.path, &error);
                 outcome = Outcome::Trouble;
             }
         }

@@ -1,7 +1,8 @@
 //! `sill write`: the canonical form, read back and compared before it is put in place.
 use crate::options::Arguments;
+use crate::words::{self, Within};
 use crate::{Outcome, complaints, files, text};
-use sillgarland::{Golden, MOST_BYTES, Reader, first_difference};
+use sillgarland::{Golden, Reader, first_difference};
 use std::fs::{self, File};
 use std::io::{self, Write};
 use std::os::unix::fs::MetadataExt;
@@ -21,21 +22,37 @@ pub fn run(arguments: &Arguments, out: &mut dyn Write) -> io::Result<Outcome> {
     let written = match canonical(&input) {
         Ok(written) => written,
         Err(reason) => {
-            writeln!(out, "refused  {}: {reason}; nothing is written", text::path(path))?;
-            return Ok(Outcome::Bad);
+            let told = format!("refused  {}: {reason}; nothing is written", text::path(path));
+            return beside_output(target, out, &told).map(|()| Outcome::Bad);
         }
     };
-    if let Err(error) = put_in_place(target, &written) {
+    if let Err(error) = put(target, &written, out) {
         complaints::about(target, &error);
         return Ok(Outcome::Trouble);
     }
-    writeln!(out, "written  {}: {} (was {})", text::path(target), text::count(written.len(), "byte"), input.len())?;
-    Ok(Outcome::Good)
+    let bytes = text::count(written.len(), "byte");
+    let told = format!("written  {}: {bytes} (was {})", text::path(target), input.len());
+    beside_output(target, out, &told).map(|()| Outcome::Good)
+}
+
+/// Whether OUT is standard output.
+pub fn is_stdout(target: &Path) -> bool {
+    target.as_os_str() == "-"
+}
+
+/// What is told: on standard output, unless the bytes themselves go there.
+pub fn beside_output(target: &Path, out: &mut dyn Write, told: &str) -> io::Result<()> {
+    if is_stdout(target) { writeln!(io::stderr(), "{told}") } else { writeln!(out, "{told}") }
+}
+
+/// The bytes, where they are to stand.
+pub fn put(target: &Path, written: &[u8], out: &mut dyn Write) -> io::Result<()> {
+    if is_stdout(target) { out.write_all(written) } else { put_in_place(target, written) }
 }
 
 /// OUT may be a file, but not the one that is read, by whatever name; and no device or folder.
 pub fn may_be_replaced(path: &Path, target: &Path) -> io::Result<()> {
-    let Ok(there) = fs::metadata(target) else { return Ok(()) };
+    let Some(there) = fs::metadata(target).ok().filter(|_| !is_stdout(target)) else { return Ok(()) };
     if !there.is_file() {
         return Err(io::Error::other("is there, and is no file"));
     }
@@ -55,10 +72,7 @@ fn canonical(input: &[u8]) -> Result<Vec<u8>, String> {
         Ok::<(), String>(())
     })?;
     match ended.refused {
-        Some(refused) => Err(refused.to_string()),
-        None if written.len() > MOST_BYTES => {
-            Err(format!("the canonical form has {} bytes, too many to read", written.len()))
-        }
+        Some(refused) => Err(words::told(&refused, Within::Value(input), 0)),
         None => Ok(written),
     }
 }

@@ -117,12 +117,12 @@ impl<'a> Code<'a> {
     /// not) first, then names that are Cell alone and equal no Local name, then Free ones. Code out of this order may not
     /// read back once it is written.
     pub fn out_of_name_order(&self) -> Option<usize> {
-        let local: std::collections::HashSet<Text> = self
-            .local_names()
-            .zip(self.kinds())
-            .filter(|(_, kind)| **kind & LOCAL != 0)
-            .map(|(name, _)| name)
-            .collect();
+        let is_cell_alone = |kind: &u8| name_group(*kind) == Some(1);
+        let mut local = std::collections::HashSet::new(); // asked only of names that are Cell alone, which few code objects have
+        if self.kinds().iter().any(is_cell_alone) {
+            let kinds = self.local_names().zip(self.kinds());
+            local.extend(kinds.filter(|(_, kind)| **kind & LOCAL != 0).map(|(name, _)| name));
+        }
         let mut least = 0;
         self.local_names().zip(self.kinds()).position(|(name, kind)| {
             let group = name_group(*kind);

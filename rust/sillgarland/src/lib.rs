@@ -64,7 +64,7 @@ pub use owned::OwnedValue;
 pub use reader::Reader;
 pub use refusal::{Place, Refusal, Refused};
 pub use salvage::{Salvaged, salvage};
-pub use same::{Difference, Path, Step, What, first_difference};
+pub use same::{Difference, Path, Step, What, each_difference, first_difference};
 pub use split::{Split, split};
 pub use starts::Starts;
 pub use totals::{NotTotals, Totals};

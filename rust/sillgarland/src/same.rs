@@ -2,8 +2,10 @@
 //! sequence of children, code parts alike with first line 0 or less as 0. Interning, sharing and integer, string or tuple
 //! letter do not count."
 use crate::{Children, Code, Content, NUMBERS, PARTS, Value};
+use std::collections::HashSet;
 use std::fmt;
 use std::iter::Zip;
+use std::ops::ControlFlow;
 
 /// The first place at which two values differ.
 #[derive(Clone, Debug)]
@@ -92,18 +94,68 @@ impl fmt::Display for Path {
 /// ```
 pub fn first_difference<'a, 'b>(left: Value<'a>, right: Value<'b>) -> Option<Difference<'a, 'b>> {
     let mut alike = Alike::new(left.golden.used_nodes(), right.golden.used_nodes());
+    let mut first = None;
+    compare(
+        left,
+        right,
+        |one, other| alike.joined(one, other),
+        |difference| {
+            first = Some(difference);
+            ControlFlow::Break(())
+        },
+    );
+    first
+}
+
+/// Hands on every difference of two values, in the order of the first. Children of two values that differ in their number are
+/// compared as far as both have them; a pair of shared values is compared once. Where values are shared in hostile ways, this
+/// may take time in proportion to the product of the nodes of both.
+///
+/// ```
+/// use sillgarland::{Reader, each_difference};
+///
+/// let (mut left, mut right) = (Reader::new(), Reader::new());
+/// let (one, other) = (left.read(b")\x03TNF")?.root(), right.read(b")\x03NNN")?.root());
+/// let mut paths = Vec::new();
+/// each_difference(one, other, |difference| paths.push(difference.path.to_string()));
+/// assert_eq!(paths, ["[0]", "[2]"]);
+/// # Ok::<(), sillgarland::Refused>(())
+/// ```
+pub fn each_difference<'a, 'b>(left: Value<'a>, right: Value<'b>, mut act: impl FnMut(Difference<'a, 'b>)) {
+    let mut met = HashSet::new();
+    compare(
+        left,
+        right,
+        |one, other| met.insert((one, other)),
+        |difference| {
+            act(difference);
+            ControlFlow::Continue(())
+        },
+    );
+}
+
+/// Compares two values and, where a pair is new, their children; what differs is handed on.
+fn compare<'a, 'b>(
+    left: Value<'a>,
+    right: Value<'b>,
+    mut is_new: impl FnMut(u32, u32) -> bool,
+    mut act: impl FnMut(Difference<'a, 'b>) -> ControlFlow<()>,
+) {
     let mut open = Vec::new();
     let mut pair = Some((left, right));
     while let Some((left, right)) = pair {
-        if let Some(what) = difference_at(left, right) {
-            return Some(Difference { path: path_to(&open), left, right, what });
-        }
-        if alike.joined(left.node(), right.node()) {
-            open.push(Open { left, children: left.children().zip(right.children()), begun: 0 });
+        if is_new(left.node(), right.node()) {
+            for what in differences_at(left, right) {
+                if act(Difference { path: path_to(&open), left, right, what }).is_break() {
+                    return;
+                }
+            }
+            if same_kind(left, right) {
+                open.push(Open { left, children: left.children().zip(right.children()), begun: 0 });
+            }
         }
         pair = next_pair(&mut open);
     }
-    None
 }
 
 /// Two values whose children are being compared: all children before `begun`, and the last of them down to `open`'s next.
@@ -128,7 +180,19 @@ fn next_pair<'a, 'b>(open: &mut Vec<Open<'a, 'b>>) -> Option<(Value<'a>, Value<'
     }
 }
 
-/// In what two values differ themselves, their children aside.
+/// Whether their children mean the same: those of a set are no members of a list.
+fn same_kind(left: Value, right: Value) -> bool {
+    let kind = |value: Value| if value.letter() == ')' { '(' } else { value.letter() };
+    left.children().len() == 0 || kind(left) == kind(right)
+}
+
+/// In what two values differ themselves, their children aside: one thing, or several numbers of two code objects.
+fn differences_at(left: Value, right: Value) -> impl Iterator<Item = What> {
+    let codes = left.as_code().zip(right.as_code());
+    let numbers = codes.map(|(left, right)| numbers_that_differ(&left, &right)).into_iter().flatten();
+    numbers.map(What::Number).chain(if codes.is_some() { None } else { difference_at(left, right) })
+}
+
 fn difference_at(left: Value, right: Value) -> Option<What> {
     use Content::*;
     let same = match (left.content(), right.content()) {
@@ -142,7 +206,6 @@ fn difference_at(left: Value, right: Value) -> Option<What> {
         (Text(l), Text(r)) => l == r,
         (Tuple(l), Tuple(r)) | (List(l), List(r)) | (Set(l), Set(r)) => return difference_in_count(l, r),
         (FrozenSet(l), FrozenSet(r)) | (Slice(l), Slice(r)) | (Dict(l), Dict(r)) => return difference_in_count(l, r),
-        (Code(l), Code(r)) => return difference_in_numbers(&l, &r),
         _ => false,
     };
     if same { Option::None } else { Some(What::Content) }
@@ -152,10 +215,10 @@ fn difference_in_count(left: Children, right: Children) -> Option<What> {
     (left.len() != right.len()).then_some(What::Count)
 }
 
-fn difference_in_numbers(left: &Code, right: &Code) -> Option<What> {
+fn numbers_that_differ(left: &Code, right: &Code) -> impl Iterator<Item = &'static str> + use<> {
     let pairs = NUMBERS.into_iter().zip(left.numbers().into_iter().zip(right.numbers()));
     let first_lines = (left.first_line().max(0) as u32, right.first_line().max(0) as u32);
-    pairs.chain([("first line", first_lines)]).find(|(_, (l, r))| l != r).map(|(name, _)| What::Number(name))
+    pairs.chain([("first line", first_lines)]).filter(|(_, (l, r))| l != r).map(|(name, _)| name)
 }
 
 /// Which nodes of the two readings have been met as the same value: classes that are joined. A pair that is already in one
@@ -242,6 +305,28 @@ mod tests {
         let mut other = code(1, b"\xF8");
         other[17] ^= 1;
         assert_eq!(difference(&code(1, b"\xF8"), &other), at("the value itself", What::Number("flags")));
+    }
+
+    #[test]
+    fn every_difference_in_order() {
+        let all = |left: &[u8], right: &[u8]| {
+            let (mut one, mut other, mut met) = (Reader::new(), Reader::new(), Vec::new());
+            let roots = (one.read(left).unwrap().root(), other.read(right).unwrap().root());
+            each_difference(roots.0, roots.1, |difference| met.push((difference.path.to_string(), difference.what)));
+            met
+        };
+        let told = |path: &str, what| (path.to_string(), what);
+        assert_eq!(all(b"N", b"N"), []);
+        assert_eq!(all(b")\x02TT", b")\x03FTN"), [told("the value itself", What::Count), told("[0]", What::Content)]);
+        assert_eq!(all(b"[\x01\0\0\0N", b")\x01T"), [told("the value itself", What::Content)]);
+        let code = |stack: u8, line, table| {
+            let mut code = put_code(1, &["a"], &[0x20], line, table);
+            code[13] = stack;
+            code
+        };
+        let numbers = [What::Number("stack"), What::Number("first line")].map(|what| told("the value itself", what));
+        let table = told(".line_table", What::Content);
+        assert_eq!(all(&code(3, 1, b"\xF8"), &code(4, 2, b"\xF9")), [&numbers[..], &[table]].concat());
     }
 
     /// Tuples of two, each of them the same tuple twice: two to the thirtieth leaves in a few hundred bytes.

@@ -207,6 +207,9 @@ impl<'a> Text<'a> {
 /// The string itself; a surrogate shows as `\udc80`.
 impl fmt::Display for Text<'_> {
     fn fmt(&self, f: &mut fmt::Formatter) -> fmt::Result {
+        if let Some(text) = self.as_str() {
+            return f.write_str(text);
+        }
         self.code_points().try_for_each(|point| match char::from_u32(point) {
             Some(char) => write!(f, "{char}"),
             None => write!(f, "\\u{point:04x}"),

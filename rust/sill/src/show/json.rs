@@ -1,170 +1,141 @@
-//! The tree as JSON, nothing cut but by --depth.
-use super::walk::{Entered, Met, Parted, walk};
-use sillgarland::{Code, Content, Counts, Golden, Handler, NUMBERS, Place, Records, Refused, Text};
-use std::fmt::Write as _;
+//! The values as JSON, nothing cut but by --depth: nodes are one flat list, so that no parser meets deep nesting.
+use super::Input;
+use crate::json::{self, Object};
+use crate::words::{self, Within};
+use sillgarland::{Code, Content, Counts, Golden, Handler, NUMBERS, Records, Refused, Value};
 use std::io::{self, Write};
 
 /// Shows a file's values, and says whether reading was refused.
-pub fn show(input: &[u8], depth: usize, out: &mut dyn Write) -> io::Result<bool> {
+pub fn show(input: &Input, depth: usize, out: &mut dyn Write) -> io::Result<bool> {
     let mut before = "[\n";
-    let refused = super::each_value(input, |start, golden| {
+    let refused = input.each_value(|start, golden| {
         write!(out, "{before}")?;
         before = ",\n";
         show_value(start, golden, depth, out)
     })?;
     if let Some(refused) = refused {
-        write!(out, "{before}{{\"refused\":{}}}", refusal(&refused))?;
+        write!(out, "{before}{}", json::of_file(Object::new(), &refused, input.bytes).end())?;
     }
     writeln!(out, "\n]")?;
     Ok(refused.is_some())
 }
 
 fn show_value(start: usize, golden: Golden, depth: usize, out: &mut dyn Write) -> io::Result<()> {
-    write!(out, "{{\"from\":{start},\"to\":{},\"root\":", start + golden.consumed())?;
-    let mut first = true;
-    walk(golden, depth, |met| match met {
-        Met::Entered(entered) => {
-            let comma = if std::mem::replace(&mut first, true) { "" } else { "," };
-            write!(out, "{comma}{}", opening(&entered, start))
-        }
-        Met::Left { parted } => {
-            first = false;
-            write!(out, "{}", if parted == Parted::Whole { "]}" } else { "}" })
-        }
-    })?;
-    write!(out, "}}")
+    let size = golden.consumed();
+    write!(out, "{{\"from\":{start},\"to\":{},\"size\":{size},\"nodes\":[", start + size - 1)?;
+    let levels = levels(golden, depth);
+    let mut before = "\n";
+    for value in golden.values().filter(|value| levels[value.node() as usize] <= depth) {
+        let cut = levels[value.node() as usize] == depth;
+        write!(out, "{before}{}", node(value, cut, start))?;
+        before = ",\n";
+    }
+    write!(out, "\n]}}")
 }
 
-/// A node up to its children; the list of these stays open.
-fn opening(entered: &Entered, start: usize) -> String {
-    let Entered { value, step, parted, .. } = entered;
-    let place = start + value.place();
-    let mut shown = format!("{{\"letter\":{}", string(&value.letter().to_string()));
-    if let Some(step) = step {
-        let _ = write!(shown, ",\"step\":{}", string(&step.to_string()));
+/// How many values each node stands in, by the shortest way; more than the depth where it is not asked for.
+fn levels(golden: Golden, depth: usize) -> Vec<usize> {
+    let mut levels = vec![if depth == usize::MAX { 0 } else { usize::MAX }; golden.values().len()];
+    let mut level = if depth == usize::MAX { Vec::new() } else { vec![golden.root()] };
+    let mut down = 0;
+    while !level.is_empty() && down <= depth {
+        level.retain(|value| {
+            let known = &mut levels[value.node() as usize];
+            std::mem::replace(known, down.min(*known)) == usize::MAX
+        });
+        level = level.iter().flat_map(|value| value.children()).collect();
+        down += 1;
     }
-    if *parted == Parted::Again {
-        let _ = write!(shown, ",\"same_as\":{place}");
-        return shown;
-    }
-    let (kind, holds) = holds(value.content(), start);
-    let _ = write!(shown, ",\"place\":{place},\"size\":{},\"type\":\"{kind}\"{holds}", value.size());
-    match parted {
-        Parted::Leaf | Parted::Again => {}
-        Parted::Cut => shown += ",\"cut\":true",
-        Parted::Whole => shown += ",\"children\":[",
-    }
-    shown
+    levels
 }
 
-/// A value's type, and its fields with a comma before each.
-fn holds(content: Content, start: usize) -> (&'static str, String) {
-    match content {
-        Content::None => ("none", String::new()),
-        Content::Stop => ("stop", String::new()),
-        Content::Ellipsis => ("ellipsis", String::new()),
-        Content::Truth(truth) => ("truth", format!(",\"value\":{truth}")),
-        Content::Whole(number) => ("whole", format!(",\"value\":{number}")),
-        Content::Wide(number) => ("whole", format!(",\"value\":\"{number}\"")),
-        Content::Float(number) => ("float", float("", number)),
-        Content::Complex(real, imaginary) => ("complex", float("real_", real) + &float("imaginary_", imaginary)),
-        Content::Bytes(bytes) => ("bytes", format!(",\"value\":\"{}\"", hex(bytes))),
-        Content::Text(text) => ("text", text_fields(text)),
-        Content::Tuple(_) => ("tuple", String::new()),
-        Content::List(_) => ("list", String::new()),
-        Content::Set(_) => ("set", String::new()),
-        Content::FrozenSet(_) => ("frozenset", String::new()),
-        Content::Slice(_) => ("slice", String::new()),
-        Content::Dict(_) => ("dict", String::new()),
-        Content::Code(code) => ("code", numbers(&code) + &rows(&code, start) + &handlers(&code, start)),
+fn node(value: Value, cut: bool, start: usize) -> String {
+    let object = Object::new().with("node", value.node()).text("letter", &value.letter().to_string());
+    let object = object.with("place", start + value.place()).with("size", value.size());
+    let object = holds(value, object, start);
+    if !"()[<>:{c".contains(value.letter()) {
+        return object.end();
+    }
+    match cut && value.children().len() > 0 {
+        true => object.with("cut", true).end(),
+        false => object.with("children", json::list(value.children().map(Value::node))).end(),
     }
 }
 
-/// JSON cannot tell two surrogates from the one character they would make together: the bytes beside it can.
-fn text_fields(text: Text) -> String {
-    let bytes = if text.as_str().is_some() { String::new() } else { format!(",\"bytes\":\"{}\"", hex(text.bytes())) };
-    format!(",\"value\":{}{bytes}", quoted(text.code_points()))
+/// A value's type, and what it holds.
+fn holds(value: Value, object: Object, start: usize) -> Object {
+    let kind = |kind| object.text("type", kind);
+    match value.content() {
+        Content::None => kind("none"),
+        Content::Stop => kind("stop"),
+        Content::Ellipsis => kind("ellipsis"),
+        Content::Truth(truth) => kind("truth").with("value", truth),
+        Content::Whole(number) => kind("whole").with("value", number),
+        Content::Wide(number) => kind("whole").text("value", &number.to_string()),
+        Content::Float(number) => float(kind("float"), "", number),
+        Content::Complex(real, imaginary) => float(float(kind("complex"), "real_", real), "imaginary_", imaginary),
+        Content::Bytes(bytes) => kind("bytes").text("value", &json::hex(bytes)),
+        Content::Text(text) => json::text(kind("text"), "value", text),
+        Content::Tuple(_) => kind("tuple"),
+        Content::List(_) => kind("list"),
+        Content::Set(_) => kind("set"),
+        Content::FrozenSet(_) => kind("frozenset"),
+        Content::Slice(_) => kind("slice"),
+        Content::Dict(_) => kind("dict"),
+        Content::Code(code) => code_object(kind("code"), &code, start),
+    }
 }
 
-fn numbers(code: &Code) -> String {
+fn code_object(object: Object, code: &Code, start: usize) -> Object {
     let numbers = NUMBERS.iter().zip(code.numbers());
-    let shown: String = numbers.map(|(name, number)| format!(",\"{}\":{number}", name.replace('-', "_"))).collect();
-    format!("{shown},\"first_line\":{}", code.first_line())
+    let object = numbers.fold(object, |object, (name, number)| object.with(&name.replace('-', "_"), number));
+    handlers(rows(object.with("first_line", code.first_line()), code, start), code, start)
 }
 
 /// How many of its instructions have what from the line table, and the last row placed; or null and the refusal.
-fn rows(code: &Code, start: usize) -> String {
+fn rows(object: Object, code: &Code, start: usize) -> Object {
     let mut records = Records::default();
     let lines = match code.lines(&mut records) {
         Ok(lines) => lines,
-        Err(refused) => return format!(",\"lines\":null,\"lines_refused\":{}", refusal(&refused.after(start))),
+        Err(refused) => return damaged(object, "lines", &refused, Within::LineTable(*code), start),
     };
     let locations = lines.whole_or_not();
     let Counts { from_entries, with_line, with_columns, sure } = locations.counts();
-    let last_row = locations.last_row().map_or("null".to_string(), |row| row.to_string());
-    format!(
-        ",\"lines\":{{\"whole\":{},\"instructions\":{},\"from_entries\":{from_entries},\"with_line\":{with_line},\
-         \"with_columns\":{with_columns},\"sure\":{sure},\"last_row\":{last_row},\"without_line_at_the_end\":{}}}",
-        lines.whole().is_some(),
-        locations.len(),
-        locations.without_line_at_the_end(),
-    )
+    let lines = Object::new()
+        .with("whole", lines.whole().is_some())
+        .with("instructions", locations.len())
+        .with("from_entries", from_entries)
+        .with("with_line", with_line)
+        .with("with_columns", with_columns)
+        .with("sure", sure)
+        .or_null("last_row", locations.last_row())
+        .with("without_line_at_the_end", locations.without_line_at_the_end());
+    object.with("lines", lines.end())
 }
 
 /// The entries of the exception table, or null and the refusal.
-fn handlers(code: &Code, start: usize) -> String {
+fn handlers(object: Object, code: &Code, start: usize) -> Object {
     match code.handlers() {
-        Err(refused) => format!(",\"handlers\":null,\"handlers_refused\":{}", refusal(&refused.after(start))),
-        Ok(handlers) => {
-            let shown: Vec<String> = handlers.iter().map(handler).collect();
-            format!(",\"handlers\":[{}]", shown.join(","))
-        }
+        Err(refused) => damaged(object, "handlers", &refused, Within::ExceptionTable, start),
+        Ok(handlers) => object.with("handlers", json::list(handlers.iter().map(|entry| handler(entry).end()))),
     }
 }
 
-fn handler(handler: &Handler) -> String {
+/// A table that is null, and why.
+pub fn damaged(object: Object, name: &str, refused: &Refused, within: Within, start: usize) -> Object {
+    let why = json::refused(&refused.after(start), words::meaning(refused, within)).end();
+    object.with(name, "null").with(&format!("{name}_refused"), why)
+}
+
+pub fn handler(handler: &Handler) -> Object {
     let Handler { start, length, target, depth, lasti } = handler;
-    format!("{{\"start\":{start},\"length\":{length},\"target\":{target},\"depth\":{depth},\"lasti\":{lasti}}}")
+    let object = Object::new().with("start", start).with("length", length).with("target", target);
+    object.with("depth", depth).with("lasti", lasti)
 }
 
 /// JSON has no NaN and no infinity: these are null, and the bits say which.
-fn float(prefix: &str, number: f64) -> String {
-    let value = if number.is_finite() { format!("{number:?}") } else { "null".to_string() };
-    format!(",\"{prefix}value\":{value},\"{prefix}bits\":\"{:016x}\"", number.to_bits())
-}
-
-fn hex(bytes: &[u8]) -> String {
-    bytes.iter().fold(String::with_capacity(2 * bytes.len()), |mut shown, byte| {
-        let _ = write!(shown, "{byte:02x}");
-        shown
-    })
-}
-
-fn refusal(refused: &Refused) -> String {
-    let Refused { refusal, place } = refused;
-    let place = match place {
-        Place::Byte(at) => at.to_string(),
-        other => string(&other.to_string()),
-    };
-    let (number, meaning) = (refusal.number(), string(refusal.meaning()));
-    format!("{{\"number\":{number},\"name\":\"{refusal:?}\",\"place\":{place},\"meaning\":{meaning}}}")
-}
-
-fn string(text: &str) -> String {
-    quoted(text.chars().map(u32::from))
-}
-
-/// Surrogates are written as JSON escapes, which is how Python's json reads them back.
-fn quoted(points: impl Iterator<Item = u32>) -> String {
-    let mut shown = String::from("\"");
-    for point in points {
-        match char::from_u32(point) {
-            Some(letter @ ('"' | '\\')) => shown.extend(['\\', letter]),
-            Some(letter) if letter >= ' ' && letter != '\u{7F}' => shown.push(letter),
-            _ => {
-                let _ = write!(shown, "\\u{point:04x}");
-            }
-        }
-    }
-    shown + "\""
+fn float(object: Object, prefix: &str, number: f64) -> Object {
+    let value = number.is_finite().then(|| format!("{number:?}"));
+    let bits = format!("{:016x}", number.to_bits());
+    object.or_null(&format!("{prefix}value"), value).text(&format!("{prefix}bits"), &bits)
 }

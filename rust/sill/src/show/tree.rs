@@ -1,22 +1,21 @@
 //! The tree for people: place, letter, and what the value holds, indented.
-use super::walk::{Entered, Met, Parted, walk};
+use super::Input;
+use super::walk::{Entered, Parted, walk};
 use crate::text;
+use crate::words::{self, Within};
 use sillgarland::{NUMBERS, Value};
 use std::io::{self, Write};
 
 /// Shows a file's values, and says whether reading was refused.
-pub fn show(input: &[u8], depth: usize, out: &mut dyn Write) -> io::Result<bool> {
+pub fn show(input: &Input, depth: usize, out: &mut dyn Write) -> io::Result<bool> {
     let mut values = 0;
-    let refused = super::each_value(input, |start, golden| {
+    let refused = input.each_value(|start, golden| {
         values += 1;
         writeln!(out, "value {values}, bytes {start} to {}", start + golden.consumed() - 1)?;
-        walk(golden, depth, |met| match met {
-            Met::Entered(entered) => show_line(&entered, start, out),
-            Met::Left { .. } => Ok(()),
-        })
+        walk(golden, depth, |entered| show_line(&entered, start, out))
     })?;
     if let Some(refused) = refused {
-        writeln!(out, "refused: {refused}")?;
+        writeln!(out, "refused: {}", words::of_file(&refused, input.bytes))?;
     }
     Ok(refused.is_some())
 }
@@ -42,7 +41,7 @@ fn holds(value: Value, start: usize) -> String {
     let numbers: String =
         NUMBERS.iter().zip(code.numbers()).map(|(name, number)| format!(", {name} {number}")).collect();
     let handlers = match code.handlers() {
-        Err(refused) => format!("; exception table refused: {}", refused.after(start)),
+        Err(refused) => format!("; exception table refused: {}", words::told(&refused, Within::ExceptionTable, start)),
         Ok(handlers) => handlers.iter().map(|handler| format!("; {}", text::handler(handler))).collect(),
     };
     shown + &numbers + &handlers

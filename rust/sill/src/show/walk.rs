@@ -2,14 +2,7 @@
 use sillgarland::{Children, Golden, Step, Value};
 use std::io;
 
-/// What is met on the way.
-pub enum Met<'a> {
-    /// A value. What belongs to it follows, and then `Left`.
-    Entered(Entered<'a>),
-    /// The end of the value that was entered last and not yet left.
-    Left { parted: Parted },
-}
-
+/// A value that is met on the way.
 pub struct Entered<'a> {
     pub value: Value<'a>,
     /// How many values it stands in.
@@ -42,19 +35,21 @@ struct Open<'a> {
     begun: usize,
 }
 
-pub fn walk<'a>(golden: Golden<'a>, depth: usize, mut act: impl FnMut(Met<'a>) -> io::Result<()>) -> io::Result<()> {
+pub fn walk<'a>(
+    golden: Golden<'a>,
+    depth: usize,
+    mut act: impl FnMut(Entered<'a>) -> io::Result<()>,
+) -> io::Result<()> {
     let mut seen = vec![false; golden.values().len()];
     let mut open: Vec<Open> = Vec::new();
     let mut next = Some((golden.root(), None));
     while let Some((value, step)) = next {
         let parted = parted(value, open.len() >= depth, &mut seen);
-        act(Met::Entered(Entered { value, depth: open.len(), step, parted }))?;
+        act(Entered { value, depth: open.len(), step, parted })?;
         if parted == Parted::Whole {
             open.push(Open { value, children: value.children(), begun: 0 });
-        } else {
-            act(Met::Left { parted })?;
         }
-        next = next_child(&mut open, &mut act)?;
+        next = next_child(&mut open);
     }
     Ok(())
 }
@@ -71,18 +66,14 @@ fn parted(value: Value, deep_enough: bool, seen: &mut [bool]) -> Parted {
     if container { Parted::Whole } else { Parted::Leaf }
 }
 
-/// The next child of what is open; whatever has none left is left on the way.
-fn next_child<'a>(
-    open: &mut Vec<Open<'a>>,
-    act: &mut impl FnMut(Met<'a>) -> io::Result<()>,
-) -> io::Result<Option<(Value<'a>, Option<Step>)>> {
-    while let Some(innermost) = open.last_mut() {
+/// The next child of what is open; whatever has none left is closed on the way.
+fn next_child<'a>(open: &mut Vec<Open<'a>>) -> Option<(Value<'a>, Option<Step>)> {
+    loop {
+        let innermost = open.last_mut()?;
         if let Some(child) = innermost.children.next() {
             innermost.begun += 1;
-            return Ok(Some((child, Some(Step::to_child(innermost.value, innermost.begun - 1)))));
+            return Some((child, Some(Step::to_child(innermost.value, innermost.begun - 1))));
         }
         open.pop();
-        act(Met::Left { parted: Parted::Whole })?;
     }
-    Ok(None)
 }

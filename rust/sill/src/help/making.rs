@@ -1,0 +1,66 @@
+//! The pages of the commands that write.
+use super::{HELP, Known, Page};
+
+pub const WRITE: Page = Page {
+    name: "write",
+    operands: "FILE",
+    takes: 1..=1,
+    summary: "write the values of a file in their canonical form",
+    text: "\
+Integers in the fewest bytes, strings as u (in code objects z where ASCII and short), tuples as (, and neither references nor
+flags. What was written is read back and compared with FILE before OUT is put in place; where it is not the same value (local
+names out of order, or more than 16 MiB once sharing is written out), there is no OUT, and the reason is told. OUT is written
+under another name beside its place and then renamed, so it is there as a whole or not at all; an older OUT is replaced, but
+never FILE itself. FILE may be - for standard input, and OUT - for standard output: then what is told goes to standard error.",
+    options: &[Known { short: Some('o'), long: "output", word: Some("OUT"), text: "where to write; must be given" }, HELP],
+};
+
+pub const REPAIR: Page = Page {
+    name: "repair",
+    operands: "FILE",
+    takes: 1..=1,
+    summary: "make whole line tables of those that are cut or damaged",
+    text: "\
+Of each line table that is not whole, the complete entries are kept up to the first that stops, is cut or is refused; the entry
+that runs past the instructions is shortened; the other bytes are dropped, and the instructions that are left get entries that
+say they have no place. The table stands where it stood, with its length field; every other byte of FILE stays. For each code
+object a line says what was kept, dropped, shortened and covered, the first instruction without a line and the last row placed.
+
+A table that is shared is left as it is, and told, where another code object's repair would give other bytes, or where it is
+shared with something that is no line table; then the exit status is 1, and OUT has the others mended. Before OUT is put in
+place it is read back: all values are the same but for the repaired tables, and every table is whole but those told. FILE and
+OUT may be - as for sill write.
+
+A repaired file is not a sound one: what was lost stays lost, and sill check keeps saying how many rows are not sure.",
+    options: &[
+        Known { short: Some('o'), long: "output", word: Some("OUT"), text: "where to write; must be given but for --dry-run" },
+        Known { short: None, long: "dry-run", word: None, text: "say what would be done, and write nothing" },
+        Known { short: None, long: "json", word: None, text: "as JSON, for machines" },
+        HELP,
+    ],
+};
+
+pub const MANUAL: Page = Page {
+    name: "manual",
+    operands: "",
+    takes: 0..=0,
+    summary: "print all pages of help as Markdown, or as a man page",
+    text: "\
+Markdown is docs/sill.md. The man page is read by man -l, or put in a folder man1 as sill.1. Both are made from the text that
+--help shows.",
+    options: &[Known { short: None, long: "man", word: None, text: "as a man page" }, HELP],
+};
+
+pub const COMPLETIONS: Page = Page {
+    name: "completions",
+    operands: "SHELL",
+    takes: 1..=1,
+    summary: "print what lets a shell complete commands and options",
+    text: "\
+SHELL is bash, zsh or fish. What is printed is made from the same lists as --help:
+
+  bash   sill completions bash > ~/.local/share/bash-completion/completions/sill
+  zsh    sill completions zsh > _sill, in a folder of fpath
+  fish   sill completions fish > ~/.config/fish/completions/sill.fish",
+    options: &[HELP],
+};
