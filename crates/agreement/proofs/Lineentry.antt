@@ -27,3 +27,21 @@ at-line-agrees κs a asked r r′ ws ws′ p p′ = (one p p′, refl)
 
 pub read-entry-agrees : Agree lineentry.read_entry.ended lineentry.read_entry.Reads.Asked lineentry.read_entry.Reads.Learnt
 read-entry-agrees κs a asked r r′ ws ws′ p p′ = (one p p′, refl)
+
+pub is-plain-agrees : Agree lineentry.quick.is_plain.ended lineentry.quick.is_plain.Reads.Asked lineentry.quick.is_plain.Reads.Learnt
+is-plain-agrees κs a asked r r′ ws ws′ p p′ = (one p p′, refl)
+
+pub plain-entry-agrees : Agree lineentry.quick.plain_entry.ended lineentry.quick.plain_entry.Reads.Asked lineentry.quick.plain_entry.Reads.Learnt
+plain-entry-agrees κs a asked r r′ ws ws′ p p′ = (one p p′, refl)
+
+pub is-long-of-four-agrees : Agree lineentry.quick.is_long_of_four.ended lineentry.quick.is_long_of_four.Reads.Asked lineentry.quick.is_long_of_four.Reads.Learnt
+is-long-of-four-agrees κs a asked r r′ ws ws′ p p′ = (one p p′, refl)
+
+pub long-of-four-agrees : Agree lineentry.quick.long_of_four.ended lineentry.quick.long_of_four.Reads.Asked lineentry.quick.long_of_four.Reads.Learnt
+long-of-four-agrees κs a asked r r′ ws ws′ p p′ = (one p p′, refl)
+
+pub next-entry-agrees : Agree lineentry.quick.next_entry.ended lineentry.quick.next_entry.Reads.Asked lineentry.quick.next_entry.Reads.Learnt
+next-entry-agrees κs a asked r r′ ws ws′ p p′ = (one p p′, refl)
+
+pub in-numbers-agrees : Agree lineentry.quick.in_numbers.ended lineentry.quick.in_numbers.Reads.Asked lineentry.quick.in_numbers.Reads.Learnt
+in-numbers-agrees κs a asked r r′ ws ws′ p p′ = (one p p′, refl)

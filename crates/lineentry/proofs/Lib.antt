@@ -1,3 +1,4 @@
 -- Laws that belong to no one function.
 pub mod Varints
 pub mod Entries
+pub mod Bytes

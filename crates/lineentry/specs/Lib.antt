@@ -1,3 +1,4 @@
 pub mod Line
 pub mod Varint
 pub mod Entry
+pub mod Quick

@@ -1,10 +1,13 @@
 // One entry of a location table: its bytes, its varints, its lines, and the location that it gives to some instructions.
-// `linetable` walks a whole table by it. A line, or a step from line to line, is kept as the number plus 2^31, as `ORIGIN` says.
+// `linetable` walks a whole table by it, most entries as `quick` reads them. A line, or a step from line to line, is kept as the number plus
+// 2^31, as `ORIGIN` says.
 ghost use mathlib.Core.Path.{_≡_};
 ghost use Prim.Native.Nat.{_<_, _≤_, max};
 ghost use Rattle.lineentry.specs.Varint.{byteAt, varintWithin, varintAt, signedAt};
 ghost use Rattle.lineentry.specs.Line.{asSigned, moved, shown};
 ghost use Rattle.lineentry.specs.Entry.{atLine, shortForm, oneLine, noColumns, longColumns, longForm, entryAt};
+
+pub mod quick;
 
 // 0 as a line or a step is kept.
 const ORIGIN: u32 = 0x8000_0000;

@@ -83,7 +83,7 @@ fn walk_entries(table: &[u8], first: u32, count: u32, records: &mut [u32]) -> Lo
     let mut i = 0;
     let mut missing = false;
     while i < total {
-        match lineentry::read_entry(table, line, at) {
+        match lineentry::quick::next_entry(table, line, at) {
             Entry::OutOfRange => {
                 return refuse(records, refusals::NUMBER_RANGE, at as u32);
             }

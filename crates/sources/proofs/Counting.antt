@@ -62,18 +62,6 @@ fill-turn xs j (suc left) byte h = simp (towards-suc, sub-one)
 pub fill-done : (xs : List ℕ) (j left byte : ℕ) → left ≡ 0 → sets xs j (replicate left byte) ≡ xs
 fill-done xs j left byte e = rw e
 
-sets-append : (xs : List ℕ) (j : ℕ) (ys zs : List ℕ) → sets xs j (ys ++ zs) ≡ sets (sets xs j ys) (j + length ys) zs
-sets-append xs j [] zs = rw add-zero
-sets-append xs j (y ∷ ys) zs =
-    let e : j + suc (length ys) ≡ suc j + length ys = omega arith in
-    rw e (sets-append (set xs j y) (suc j) ys zs)
-
--- bytes stored behind others
-pub stored-after : (xs before after : List ℕ) (i : ℕ) → length before ≡ i → sets (sets xs 0 before) i after ≡ sets xs 0 (before ++ after)
-stored-after xs before after i e =
-    let p : 0 + length before ≡ i = omega arith in
-    sym (sets-append xs 0 before after ∙ rw p)
-
 zeros-more : (k m : ℕ) → zeros k ++ zeros m ≡ zeros (k + m)
 zeros-more zero m = rw zero-add
 zeros-more (suc k) m =

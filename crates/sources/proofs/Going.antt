@@ -1,16 +1,18 @@
 -- The loop of `walk_marks`: what comes of the whole table is what comes of the rest, behind the bytes that are placed. One law for each way on
 -- from a turn. Assumes nothing.
 use mathlib.Core.Path.{_≡_, refl, sym, ap, subst, _∙_}
-use mathlib.Core.List.{List, [], _++_, append-assoc, append-nil}
+use mathlib.Core.Bool.{Bool, true, false, cond}
+use mathlib.Core.List.{List, [], _∷_, _++_, append-assoc, append-nil}
 use Prim.Native.Nat.{ℕ, zero, suc, _+_, _-_, _≤_, _<_, min}
+use native.Mathlib.Nat.{zero-add}
 use native.Mathlib.Omega.{arith}
-use lib.ListN.{length, replicate, length-append, length-replicate}
-use lib.Seq.{sets, length-sets}
-use borrow.Author.Tests.{eq-eqb, ne-eqb, lt-ltb, le-ltb}
+use lib.ListN.{length, replicate, drop, length-append, length-replicate, drop-of-length-le}
+use lib.Seq.{sets, sets-eq, length-sets, take-append-seam, drop-append-add}
+use lib.Dec.{leb}
+use borrow.Author.Tests.{eq-eqb, ne-eqb, lt-ltb, le-ltb, leb-true}
 use Rattle.refusals.specs.Numbers.{accepted, inputTooLong, noRoom, numberRange}
 use Rattle.refusals.specs.Limits.{mostBytes}
 use Rattle.clearing.specs.Lent.{zeros, padded}
-use Rattle.clearing.proofs.Laws.{sets-padded}
 use Rattle.lineentry.specs.declared.Span.{Span}
 use Rattle.lineentry.specs.declared.Entry.{Entry}
 use Rattle.lineentry.specs.declared.Entry.the-variants.{Covers, Stop, OutOfRange}
@@ -20,7 +22,7 @@ use Rattle.sources.specs.declared.Counts.{Counts}
 use Rattle.sources.specs.declared.Sourced.{Sourced}
 use Rattle.sources.specs.Source.{sourceOf}
 use Rattle.sources.specs.Marks.{Marks, marked, denied, behind, fromEntry, marks, sources, isPlaced, isLined, isSpanned, isSure, counts, times, plus, countsOf, told, answerOf, bytesOf}
-use Rattle.sources.proofs.Counting.{plus-none, share-most, counts-append, counts-replicate, stored-after, padded-zeros}
+use Rattle.sources.proofs.Counting.{plus-none, share-most, counts-append, counts-replicate, padded-zeros}
 
 -- ---- one turn
 pub marks-ended : (turns : ℕ) (s : List ℕ) (line p left : ℕ) → left ≡ 0 → marks turns s line p left ≡ marked []
@@ -41,15 +43,71 @@ behind-twice : (xs ys : List ℕ) (m : Marks) → behind xs (behind ys m) ≡ be
 behind-twice xs ys (marked bytes) = ap marked (sym (append-assoc xs ys bytes))
 behind-twice xs ys (denied number place) = refl
 
+-- ---- what is stored behind what is placed
+laid : (placed rest vs : List ℕ) → length placed + length vs ≤ length (placed ++ rest) → sets (placed ++ rest) (length placed) vs ≡ placed ++ (vs ++ drop (length vs) rest)
+laid placed rest vs h = sets-eq vs (placed ++ rest) (length placed) h ∙ rw (take-append-seam placed rest, drop-append-add placed rest (length vs)) (append-assoc placed vs (drop (length vs) rest))
+
+laid-behind : {xs ys : List ℕ} {i : ℕ} (placed rest vs : List ℕ) → xs ≡ placed ++ rest → length placed ≡ i → i + length vs ≤ length xs → ys ≡ sets xs i vs → ys ≡ placed ++ (vs ++ drop (length vs) rest)
+laid-behind {xs} {ys} {i} placed rest vs e l h q =
+    let k : length xs ≡ length (placed ++ rest) = ap length e in
+    let z : length placed + length vs ≤ length (placed ++ rest) = omega (arith, h, k, l) in
+    q ∙ rw (e, ← l) (laid placed rest vs z)
+
+same-more : (k m byte : ℕ) → replicate (k + m) byte ≡ replicate k byte ++ replicate m byte
+same-more zero m byte = rw zero-add
+same-more (suc k) m byte =
+    let e : suc k + m ≡ suc (k + m) = omega arith in
+    rw e (ap (λ t. byte ∷ t) (same-more k m byte))
+
+-- a store that begins with these
+pub record Begins (ys front : List ℕ) : Type 0 where
+  pub rest : List ℕ
+  pub holds : ys ≡ front ++ rest
+
+-- so many of the eight that are stored are the entry's own
+begins-filled : {xs ys : List ℕ} {i : ℕ} (m byte : ℕ) (placed rest : List ℕ) → xs ≡ placed ++ rest → length placed ≡ i → i + m ≤ length xs → m ≤ 8
+    → ys ≡ sets xs i (cond (leb 8 (length xs - i)) (replicate 8 byte) (replicate m byte)) → Begins ys (placed ++ replicate m byte)
+begins-filled {xs} {ys} {i} m byte placed rest e l h k q = go (leb 8 (length xs - i)) refl where
+  go : (t : Bool) → leb 8 (length xs - i) ≡ t → Begins ys (placed ++ replicate m byte)
+  go true f =
+      let room : 8 ≤ length xs - i = leb-true _ _ f in
+      let behind : List ℕ = drop (length (replicate 8 byte)) rest in
+      let eight : replicate 8 byte ≡ replicate m byte ++ replicate (8 - m) byte = let z : m + (8 - m) ≡ 8 = omega arith in rw z at (same-more m (8 - m) byte) in
+      record {
+        rest = replicate (8 - m) byte ++ behind;
+        holds =
+            laid-behind placed rest (replicate 8 byte) e l (omega (arith, length-replicate 8 byte, room)) (q ∙ ap (λ t. sets xs i (cond t (replicate 8 byte) (replicate m byte))) f)
+            ∙ ap (λ t. placed ++ (t ++ behind)) eight ∙ ap (λ t. placed ++ t) (append-assoc (replicate m byte) (replicate (8 - m) byte) behind)
+            ∙ sym (append-assoc placed (replicate m byte) (replicate (8 - m) byte ++ behind));
+      }
+  go false f =
+      record {
+        rest = drop (length (replicate m byte)) rest;
+        holds =
+            laid-behind placed rest (replicate m byte) e l (omega (arith, length-replicate m byte, h)) (q ∙ ap (λ t. sets xs i (cond t (replicate 8 byte) (replicate m byte))) f)
+            ∙ sym (append-assoc placed (replicate m byte) (drop (length (replicate m byte)) rest));
+      }
+
+-- and what is behind is cleared in the end
+cleared-behind : {xs ys : List ℕ} {i n : ℕ} (placed rest : List ℕ) → xs ≡ placed ++ rest → length placed ≡ i → length xs ≡ n → i ≤ n → ys ≡ sets xs i (zeros (length xs - i)) → ys ≡ padded n placed
+unfolding padded
+cleared-behind {xs} {ys} {i} {n} placed rest e l s h q =
+    let size : length xs ≡ length placed + length rest = ap length e ∙ length-append placed rest in
+    let all : length rest ≤ length (zeros (length xs - i)) = omega (arith, size, l, length-replicate {A = ℕ} (length xs - i) 0) in
+    let same : length xs - i ≡ n - length placed = omega (arith, s, l) in
+    laid-behind placed rest (zeros (length xs - i)) e l (omega (arith, length-replicate {A = ℕ} (length xs - i) 0, s, h)) q
+    ∙ ap (λ t. placed ++ (zeros (length xs - i) ++ t)) (drop-of-length-le rest all) ∙ ap (λ t. placed ++ t) (append-nil (zeros (length xs - i)))
+    ∙ ap (λ t. placed ++ zeros t) same
+
 -- ---- the loop's invariant
--- The store has n bytes and was cleared where the loop begins; `c` counts what is placed.
+-- The store has n bytes and begins with what is placed; `c` counts that.
 pub record Going (s : List ℕ) (total n : ℕ) (goal : Marks) (xs : List ℕ) (c : Counts) (line at i : ℕ) : Type 0 where
   pub placed : List ℕ
   pub count : length placed ≡ i
   pub upto : i ≤ total
   pub room : total ≤ n
   pub same : length xs ≡ n
-  pub holds : xs ≡ sets (zeros n) 0 placed
+  pub begins : Begins xs placed
   pub tallied : c ≡ countsOf placed
   pub few-entries : c .«from_entries» ≤ i
   pub few-lines : c .«with_line» ≤ i
@@ -71,17 +129,17 @@ pub ends-zero : (n : ℕ) {goal : Marks} {number place : ℕ} {r : Sourced} {ys 
 unfolding bytesOf
 ends-zero n e x = rw e x
 
--- where the loop begins: the store was passed with n bytes, and is cleared
-pub going-start : (s : List ℕ) (count first n : ℕ) (xs : List ℕ) (c : Counts) → count ≤ n → length xs ≡ n → xs ≡ zeros n → c ≡ counts 0 0 0 0
+-- where the loop begins nothing is placed
+pub going-start : (s : List ℕ) (count first : ℕ) (xs : List ℕ) (c : Counts) → count ≤ length xs → c ≡ counts 0 0 0 0
     → Going s count (length xs) (marks count s first 0 count) xs c first 0 0
-going-start s count first n xs c h l e q =
+going-start s count first xs c h q =
     record {
       placed = [];
       count = refl;
       upto = omega arith;
       room = omega arith;
       same = refl;
-      holds = e ∙ ap zeros (sym l);
+      begins = record { rest = xs; holds = refl };
       tallied = q;
       few-entries = rw q (omega arith);
       few-lines = rw q (omega arith);
@@ -94,37 +152,33 @@ going-start s count first n xs c h l e q =
           rw z (sym (behind-none (marks count s first 0 count)));
     }
 
--- the store that was passed is as long as the store where the loop begins
-pub at-length : {n k : ℕ} (goal : Marks) {r : Sourced} {ys : List ℕ} → n ≡ k → Ends n goal r ys → Ends k goal r ys
-at-length goal {r} {ys} e x = subst (λ j. Ends j goal r ys) e x
-
 module _ {s : List ℕ} {total n : ℕ} {goal : Marks} {xs : List ℕ} {c : Counts} {line at i : ℕ} (g : Going s total n goal xs c line at i) where
   at-entry : (e : Entry) → i < total → entryAt s line at ≡ e → goal ≡ behind (g .placed) (fromEntry (marks (g .turns - 1) s) s at (total - i) e)
   at-entry e h q =
       g .comes
       ∙ ap (behind (g .placed)) (marks-entry (g .turns) s line at (total - i) (omega arith) (g .enough) ∙ ap (fromEntry (marks (g .turns - 1) s) s at (total - i)) q)
 
-  -- what is placed, in the cleared store
-  padded-placed : xs ≡ padded n (g .placed)
-  padded-placed = g .holds ∙ sets-padded n (g .placed) (omega (arith, g .count, g .upto, g .room))
+  -- what is placed, and zeros behind it
+  padded-placed : {ys : List ℕ} → ys ≡ sets xs i (zeros (length xs - i)) → ys ≡ padded n (g .placed)
+  padded-placed q = cleared-behind (g .placed) (g .begins .rest) (g .begins .holds) (g .count) (g .same) (omega (arith, g .upto, g .room)) q
 
-  pub ends-stop : {r : Sourced} → i < total → entryAt s line at ≡ Stop → r ≡ told accepted 0 c → Ends n goal r xs
-  ends-stop {r} h q e =
+  pub ends-stop : {r : Sourced} {ys : List ℕ} → i < total → entryAt s line at ≡ Stop → ys ≡ sets xs i (zeros (length xs - i)) → r ≡ told accepted 0 c → Ends n goal r ys
+  ends-stop h q w e =
       ends-marked n goal (g .placed ++ zeros (total - i)) c (at-entry Stop h q) e
       (g .tallied ∙ sym (counts-append (g .placed) (zeros (total - i)) ∙ ap (plus (countsOf (g .placed))) (counts-replicate (total - i) 0) ∙ plus-none (countsOf (g .placed))))
-      (padded-placed ∙ padded-zeros n (total - i) (g .placed) (omega (arith, g .count, g .upto, g .room)))
+      (padded-placed w ∙ padded-zeros n (total - i) (g .placed) (omega (arith, g .count, g .upto, g .room)))
 
   pub ends-refused : {r : Sourced} {ys : List ℕ} → i < total → entryAt s line at ≡ OutOfRange → (r ≡ told numberRange at (counts 0 0 0 0)) × (ys ≡ zeros (length xs)) → Ends n goal r ys
   ends-refused h q e = ends-zero n (at-entry OutOfRange h q) (e .0, e .1 ∙ ap zeros (g .same))
 
-  pub ends-all : {r : Sourced} → total ≤ i → r ≡ told accepted 0 c → Ends n goal r xs
-  ends-all {r} h e =
+  pub ends-all : {r : Sourced} {ys : List ℕ} → total ≤ i → ys ≡ sets xs i (zeros (length xs - i)) → r ≡ told accepted 0 c → Ends n goal r ys
+  ends-all h w e =
       ends-marked n goal (g .placed ++ []) c (g .comes ∙ ap (behind (g .placed)) (marks-ended (g .turns) s line at (total - i) (omega arith))) e
-      (g .tallied ∙ ap countsOf (sym (append-nil (g .placed)))) (padded-placed ∙ ap (padded n) (sym (append-nil (g .placed))))
+      (g .tallied ∙ ap countsOf (sym (append-nil (g .placed)))) (padded-placed w ∙ ap (padded n) (sym (append-nil (g .placed))))
 
   pub goes-on : (x : Span) (ys : List ℕ) (m byte : ℕ) (d : Counts) → i < total → entryAt s line at ≡ Covers x → m ≡ min (x .instructions) (total - i) → byte ≡ sourceOf s at (x .line) (x .missing)
-      → ys ≡ sets xs i (replicate m byte) → d ≡ plus c (times m byte) → Going s total n goal ys d (x .line) (x .next) (i + m)
-  goes-on x ys m byte d h q k b e w =
+      → m ≤ 8 → ys ≡ sets xs i (cond (leb 8 (length xs - i)) (replicate 8 byte) (replicate m byte)) → d ≡ plus c (times m byte) → Going s total n goal ys d (x .line) (x .next) (i + m)
+  goes-on x ys m byte d h q k b most e w =
       let z : 0 < x .instructions = entry-places s line at x q in
       let l : total - i - x .instructions ≡ total - (i + m) = omega arith in
       let more = replicate m byte in
@@ -133,8 +187,8 @@ module _ {s : List ℕ} {total n : ℕ} {goal : Marks} {xs : List ℕ} {c : Coun
         count = omega (arith, length-append (g .placed) more, length-replicate m byte, g .count);
         upto = omega (arith, g .upto);
         room = g .room;
-        same = ap length e ∙ length-sets xs i more ∙ g .same;
-        holds = e ∙ rw (g .holds) (stored-after (zeros n) (g .placed) more i (g .count));
+        same = ap length e ∙ length-sets xs i (cond (leb 8 (length xs - i)) (replicate 8 byte) (replicate m byte)) ∙ g .same;
+        begins = begins-filled m byte (g .placed) (g .begins .rest) (g .begins .holds) (g .count) (omega (arith, g .same, g .upto, g .room)) most e;
         tallied = w ∙ rw (g .tallied) (sym (counts-append (g .placed) more ∙ ap (plus (countsOf (g .placed))) (counts-replicate m byte)));
         few-entries = rw w (omega (arith, g .few-entries, share-most m (isPlaced byte)));
         few-lines = rw w (omega (arith, g .few-lines, share-most m (isLined byte)));

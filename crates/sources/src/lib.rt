@@ -1,15 +1,17 @@
 // Where each instruction's place comes from: a byte for each, which tells whether an entry gave it, what the entry has, and whether a byte of
 // the entry was missing. The walk is `linetable`'s, with a byte where that has a record.
 ghost use mathlib.Core.Path.{_≡_};
-ghost use mathlib.Core.Bool.{_&&_, not};
-ghost use Prim.Native.Nat.{_+_, _<_, _≤_, min};
+ghost use mathlib.Core.Bool.{_&&_, not, cond};
+ghost use Prim.Native.Nat.{_+_, _-_, _<_, _≤_, min};
 ghost use lib.ListN.{length, replicate};
 ghost use lib.Seq.{sets};
+ghost use lib.Dec.{leb};
 ghost use Rattle.refusals.specs.Limits.{mostBytes};
 ghost use Rattle.clearing.specs.Lent.{zeros};
 ghost use Rattle.lineentry.specs.Line.{moved, asSigned};
 ghost use Rattle.linetable.specs.Answer.{firstLine};
 ghost use Rattle.lineentry.specs.Varint.{byteAt};
+ghost use Rattle.lineentry.specs.Entry.{entryAt};
 ghost use Rattle.sources.specs.Source.{codeAt, numberAt, longFrom, longAt, LongShown, aboveOne, above, aboveAfter, bit, sum, longSource, sourceOf};
 ghost use Rattle.sources.specs.Marks.{marks, sources, has, share, counts, times, plus, told, answerOf, bytesOf};
 use lineentry::Entry;
@@ -167,14 +169,16 @@ fn source_of(table: &[u8], at: usize, line: u32, missing: bool, shows: Location)
 {
     let first = lineentry::lt_byte(table, at);
     let code = first.value as u32 / 8 % 16;
+    if code < 13 {
+        return sum_of(true, true, true, is_above(line), missing);
+    }
     if code == 15 {
         return sum_of(false, false, false, false, missing);
     }
     if code == 14 {
         return long_source(table, first.next, line, missing, shows);
     }
-    let columns = code < 13;
-    sum_of(true, columns, columns, is_above(line), missing)
+    sum_of(true, false, false, is_above(line), missing)
 }
 
 fn has_bit(weight: u8, byte: u8) -> bool
@@ -254,6 +258,43 @@ fn fill(bytes: &mut [u8], from: usize, n: usize, byte: u8)
     }
 }
 
+// Stores one byte eight times, from an instruction on.
+fn fill_eight(bytes: &mut [u8], from: usize, byte: u8)
+    requires { ⌜ from + 8 ≤ length (now bytes) ⌝ }
+    ensures { λ _. ⌜ now (bytes .exit) ≡ sets (now (bytes .entry)) from (replicate 8 byte) ⌝ }
+{
+    let mut j = from;
+    let mut left = 8usize;
+    while 0 < left {
+        bytes[j] = byte;
+        j += 1;
+        left -= 1;
+    }
+}
+
+// Stores one byte for n instructions. Where there is room it is eight, so that no branch waits for n: what comes behind is stored later.
+fn fill_up(bytes: &mut [u8], from: usize, n: usize, byte: u8)
+    requires { ⌜ (from + n ≤ length (now bytes)) × (n ≤ 8) ⌝ }
+    ensures { λ _. ⌜ now (bytes .exit) ≡ sets (now (bytes .entry)) from (cond (leb 8 (length (now (bytes .entry)) - from)) (replicate 8 byte) (replicate n byte)) ⌝ }
+{
+    if 8 <= bytes.len() - from {
+        fill_eight(bytes, from, byte);
+        return;
+    }
+    fill(bytes, from, n, byte);
+}
+
+// Every byte is zero from one on.
+fn clear_from(bytes: &mut [u8], from: usize)
+    ensures { λ _. ⌜ now (bytes .exit) ≡ sets (now (bytes .entry)) from (zeros (length (now (bytes .entry)) - from)) ⌝ }
+{
+    let mut i = from;
+    while i < bytes.len() {
+        bytes[i] = 0;
+        i += 1;
+    }
+}
+
 fn answer(refusal: u32, place: u32, counts: Counts) -> Sourced
     ensures { λ r. ⌜ r ≡ told refusal place counts ⌝ }
 {
@@ -292,31 +333,44 @@ fn smaller(a: usize, b: usize) -> usize
     if a <= b { a } else { b }
 }
 
-// Gives every instruction its entry's byte, entry by entry; those left over stay zero.
+// The entry at a place of the table: the ways of `quick::next_entry`, which becomes a part of its one caller, as this does.
+fn entry_here(table: &[u8], line: u32, at: usize) -> Entry
+    ensures { λ r. ⌜ r ≡ entryAt (now (table .entry)) line at ⌝ }
+{
+    if lineentry::quick::is_plain(table, at) {
+        return lineentry::quick::plain_entry(table, line, at);
+    }
+    if lineentry::quick::is_long_of_four(table, at) {
+        return lineentry::quick::long_of_four(table, line, at);
+    }
+    lineentry::quick::in_numbers(lineentry::read_entry(table, line, at))
+}
+
+// Gives every instruction its entry's byte, entry by entry; those left over, and what was stored past the last, are cleared.
 fn walk_marks(table: &[u8], first: u32, count: u32, bytes: &mut [u8]) -> Sourced
     requires { ⌜ (length (now table) ≤ mostBytes) × (count ≤ length (now bytes)) ⌝ }
     ensures { λ r. ⌜ (r ≡ answerOf (marks count (now (table .entry)) first 0 count))
         × (now (bytes .exit) ≡ bytesOf (length (now (bytes .entry))) (marks count (now (table .entry)) first 0 count)) ⌝ }
 {
     let total = count as usize;
-    clearing::clear_bytes(bytes);
     let mut counts = none();
     let mut line = first;
     let mut at = 0;
     let mut i = 0;
     while i < total {
-        match lineentry::read_entry(table, line, at) {
+        match entry_here(table, line, at) {
             Entry::OutOfRange => {
                 return refuse(bytes, refusals::NUMBER_RANGE, at as u32);
             }
             Entry::Stop => {
+                clear_from(bytes, i);
                 return answer(refusals::ACCEPTED, 0, counts);
             }
             Entry::Covers(span) => {
                 let shows = span.location;
                 let source = source_of(table, at, span.line, span.missing, shows);
                 let n = smaller(span.instructions, total - i);
-                fill(bytes, i, n, source);
+                fill_up(bytes, i, n, source);
                 counts = count_more(counts, i, n as u32, source);
                 i += n;
                 line = span.line;
@@ -324,6 +378,7 @@ fn walk_marks(table: &[u8], first: u32, count: u32, bytes: &mut [u8]) -> Sourced
             }
         }
     }
+    clear_from(bytes, i);
     answer(refusals::ACCEPTED, 0, counts)
 }
 

@@ -25,7 +25,19 @@ pub struct Indexed {
     pub starts: u32,
 }
 
-// Whether an instruction starts a row: the first does, and every one whose line is not that of the one before.
+// Whether an instruction behind the first starts a row: every one does whose line is not that of the one before.
+fn later_bit(records: &[u32], i: usize) -> u64
+    requires { ⌜ (0 < i) × (4 * i < length (now records)) ⌝ }
+    ensures { λ r. ⌜ (r ≡ bit (isStart (now (records .entry)) i)) × (r ≤ 1) ⌝ }
+{
+    if records[RECORD_WIDTH * i] == records[RECORD_WIDTH * (i - 1)] {
+        0
+    } else {
+        1
+    }
+}
+
+// Whether an instruction starts a row: the first does.
 fn start_bit(records: &[u32], i: usize) -> u64
     requires { ⌜ 4 * i < length (now records) ⌝ }
     ensures { λ r. ⌜ (r ≡ bit (isStart (now (records .entry)) i)) × (r ≤ 1) ⌝ }
@@ -33,11 +45,7 @@ fn start_bit(records: &[u32], i: usize) -> u64
     if i == 0 {
         return 1;
     }
-    if records[RECORD_WIDTH * i] == records[RECORD_WIDTH * (i - 1)] {
-        0
-    } else {
-        1
-    }
+    later_bit(records, i)
 }
 
 // The bits of so many instructions from one on, taken from the last to the first, so that the first is lowest.
@@ -54,6 +62,42 @@ fn word_of(records: &[u32], from: usize, n: usize) -> u64
     word
 }
 
+// The bits of four instructions behind the first.
+fn four_bits(records: &[u32], i: usize) -> u64
+    requires { ⌜ (0 < i) × (4 * (i + 4) ≤ length (now records)) ⌝ }
+    ensures { λ r. ⌜ (r ≡ wordOf (now (records .entry)) i 4) × (r < 16) ⌝ }
+{
+    let a = later_bit(records, i);
+    let b = later_bit(records, i + 1);
+    let c = later_bit(records, i + 2);
+    let d = later_bit(records, i + 3);
+    a + 2 * b + 4 * c + 8 * d
+}
+
+// The bits of eight, made without a branch.
+fn eight_bits(records: &[u32], i: usize) -> u64
+    requires { ⌜ (0 < i) × (4 * (i + 8) ≤ length (now records)) ⌝ }
+    ensures { λ r. ⌜ (r ≡ wordOf (now (records .entry)) i 8) × (r < 256) ⌝ }
+{
+    let low = four_bits(records, i);
+    let high = four_bits(records, i + 4);
+    low + 16 * high
+}
+
+// The bits of 64, eight at a time: most words are such.
+fn full_word(records: &[u32], from: usize) -> u64
+    requires { ⌜ (0 < from) × (4 * (from + 64) ≤ length (now records)) ⌝ }
+    ensures { λ r. ⌜ r ≡ wordOf (now (records .entry)) from 64 ⌝ }
+{
+    let mut word = 0u64;
+    let mut j = 8;
+    while 0 < j {
+        j -= 1;
+        word = word * 256 + eight_bits(records, from + 8 * j);
+    }
+    word
+}
+
 // The word whose first bit is this instruction's. Behind the last instruction no bit is set.
 fn word_at(records: &[u32], count: usize, i: usize) -> u64
     requires { ⌜ 4 * count ≤ length (now records) ⌝ }
@@ -65,7 +109,10 @@ fn word_at(records: &[u32], count: usize, i: usize) -> u64
     if count - i < WORD_BITS {
         return word_of(records, i, count - i);
     }
-    word_of(records, i, WORD_BITS)
+    if i == 0 {
+        return word_of(records, i, WORD_BITS);
+    }
+    full_word(records, i)
 }
 
 // The ones of a word.

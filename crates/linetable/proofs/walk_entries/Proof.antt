@@ -34,14 +34,14 @@ loop-holds c =
     let a = c .before .before .before .before .before .before .before .args in
     going-start (a .table .now) (a .count) (a .first) (a .records .now) _ _ (c .before .before .before .before .before .before .before .pre .1) (c .before .before .before .clear-from .kept .0) (c .before .before .before .clear-from .ensures) (c .at-line .ensures)
 
-read-entry-requires : tie.Need-read-entry-requires Inv-loop μ-loop
-read-entry-requires c κs = search needs
+next-entry-requires : tie.Need-next-entry-requires Inv-loop μ-loop
+next-entry-requires c κs = search needs
 
 enum-told : tie.Need-enum-told Inv-loop μ-loop
 enum-told c = search needs
 
 cast-refuse : tie.Need-cast-refuse Inv-loop μ-loop
-cast-refuse c = omega (arith, refused-inside _ _ _ (sym (c .before .before .before .read-entry .ensures) ∙ c .before .enum-told .given .1))
+cast-refuse c = omega (arith, refused-inside _ _ _ (sym (c .before .before .before .next-entry .ensures) ∙ c .before .enum-told .given .1))
 
 refuse-requires : tie.Need-refuse-requires Inv-loop μ-loop
 refuse-requires c κs = search needs
@@ -50,7 +50,7 @@ same-length : tie.Need-same-length Inv-loop μ-loop
 same-length c = c .before .before .refuse .kept .0 ∙ c .before .before .before .before .before .before .before .before .loop .inv .same ∙ c .before .before .before .before .before .before .before .before .before .before .before .before .clear-from .kept .0
 
 returns : tie.Need-returns Inv-loop μ-loop
-returns c = at-length _ (c .before .before .before .before .before .before .before .before .before .before .before .before .clear-from .kept .0) (ends-refused (c .before .before .before .before .before .before .before .before .loop .inv) _ _ (omega arith) (sym (c .before .before .before .before .before .before .read-entry .ensures) ∙ c .before .before .before .before .enum-told .given .1) (c .before .before .refuse .ensures))
+returns c = at-length _ (c .before .before .before .before .before .before .before .before .before .before .before .before .clear-from .kept .0) (ends-refused (c .before .before .before .before .before .before .before .before .loop .inv) _ _ (omega arith) (sym (c .before .before .before .before .before .before .next-entry .ensures) ∙ c .before .before .before .before .enum-told .given .1) (c .before .before .refuse .ensures))
 
 enum-told-2 : tie.Need-enum-told-2 Inv-loop μ-loop
 enum-told-2 c = search needs
@@ -71,7 +71,7 @@ same-length-2 : tie.Need-same-length-2 Inv-loop μ-loop
 same-length-2 c = c .before .before .fill .kept .0 ∙ c .before .before .before .before .before .before .before .before .loop .inv .same ∙ c .before .before .before .before .before .before .before .before .before .before .before .before .clear-from .kept .0
 
 returns-2 : tie.Need-returns-2 Inv-loop μ-loop
-returns-2 c = at-length _ (c .before .before .before .before .before .before .before .before .before .before .before .before .clear-from .kept .0) (ends-stop (c .before .before .before .before .before .before .before .before .loop .inv) _ (omega arith) (sym (c .before .before .before .before .before .before .read-entry .ensures) ∙ c .before .before .before .before .enum-told2 .given .1) (c .before .before .fill .ensures))
+returns-2 c = at-length _ (c .before .before .before .before .before .before .before .before .before .before .before .before .clear-from .kept .0) (ends-stop (c .before .before .before .before .before .before .before .before .loop .inv) _ (omega arith) (sym (c .before .before .before .before .before .before .next-entry .ensures) ∙ c .before .before .before .before .enum-told2 .given .1) (c .before .before .fill .ensures))
 
 enum-known-span : tie.Need-enum-known-span Inv-loop μ-loop
 enum-known-span c = search needs
@@ -92,7 +92,7 @@ same-length-3 : tie.Need-same-length-3 Inv-loop μ-loop
 same-length-3 c = c .before .before .fill2 .kept .0 ∙ c .before .before .before .before .before .before .before .before .before .before .before .loop .inv .same ∙ c .before .before .before .before .before .before .before .before .before .before .before .before .before .before .before .clear-from .kept .0
 
 returns-3 : tie.Need-returns-3 Inv-loop μ-loop
-returns-3 c = at-length _ (c .before .before .before .before .before .before .before .before .before .before .before .before .before .before .before .clear-from .kept .0) (ends-beyond (c .before .before .before .before .before .before .before .before .before .before .before .loop .inv) _ _ (omega arith) (sym (c .before .before .before .before .before .before .before .before .before .read-entry .ensures) ∙ c .before .before .before .before .before .before .before .span .given .1) (c .before .before .before .before .if1 .taken) (c .before .before .fill2 .ensures))
+returns-3 c = at-length _ (c .before .before .before .before .before .before .before .before .before .before .before .before .before .before .before .clear-from .kept .0) (ends-beyond (c .before .before .before .before .before .before .before .before .before .before .before .loop .inv) _ _ (omega arith) (sym (c .before .before .before .before .before .before .before .before .before .next-entry .ensures) ∙ c .before .before .before .before .before .before .before .span .given .1) (c .before .before .before .before .if1 .taken) (c .before .before .fill2 .ensures))
 
 mul-fill-3 : tie.Need-mul-fill-3 Inv-loop μ-loop
 mul-fill-3 c = search needs
@@ -108,11 +108,11 @@ either-requires c κs = search needs
 
 loop-less : tie.Need-loop-less Inv-loop μ-loop
 loop-less c =
-    let z = entry-places _ _ _ _ (sym (c .before .before .before .before .before .before .before .before .before .before .read-entry .ensures) ∙ c .before .before .before .before .before .before .before .before .span .given .1) in
+    let z = entry-places _ _ _ _ (sym (c .before .before .before .before .before .before .before .before .before .before .next-entry .ensures) ∙ c .before .before .before .before .before .before .before .before .span .given .1) in
     omega (arith, z)
 
 loop-again : tie.Need-loop-again Inv-loop μ-loop
-loop-again c = goes-on (c .before .before .before .before .before .before .before .before .before .before .before .before .loop .inv) _ _ _ (omega arith) (sym (c .before .before .before .before .before .before .before .before .before .before .read-entry .ensures) ∙ c .before .before .before .before .before .before .before .before .span .given .1) (c .before .before .before .before .before .if1 .left) (c .before .before .before .fill3 .ensures) (c .either .ensures)
+loop-again c = goes-on (c .before .before .before .before .before .before .before .before .before .before .before .before .loop .inv) _ _ _ (omega arith) (sym (c .before .before .before .before .before .before .before .before .before .before .next-entry .ensures) ∙ c .before .before .before .before .before .before .before .before .span .given .1) (c .before .before .before .before .before .if1 .left) (c .before .before .before .fill3 .ensures) (c .either .ensures)
 
 all-used-requires : tie.Need-all-used-requires Inv-loop μ-loop
 all-used-requires c κs = search needs
@@ -133,7 +133,7 @@ walk-entries-spec =
     clear-from-requires
     at-line-requires
     loop-holds
-    read-entry-requires
+    next-entry-requires
     enum-told
     cast-refuse
     refuse-requires

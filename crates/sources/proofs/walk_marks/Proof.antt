@@ -8,17 +8,17 @@ use Rattle.lineentry.proofs.Entries.{entry-places, refused-inside}
 use Rattle.sources.specs.Marks.{marks}
 use Rattle.salvage.proofs.Salvages.{entry-most}
 use Rattle.sources.proofs.Long.{entry-long}
-use Rattle.sources.proofs.Going.{Going, going-start, at-length, ends-stop, ends-refused, ends-all, goes-on}
+use Rattle.sources.proofs.Going.{Going, going-start, ends-stop, ends-refused, ends-all, goes-on}
 use borrow.Author.Needs.{needs}
 use Rattle.sources.proofs.walk_marks.Statement.{statement}
 use Rattle.sources.proofs.walk_marks.Tie as tie
 use Rattle.sources.proofs.walk_marks.Reads as reads
 use Rattle.sources.proofs.walk_marks.Lts as lts
-use Rattle.clearing.proofs.clear_bytes.Reads as clear-bytes-reads
-use Rattle.lineentry.proofs.read_entry.Reads as read-entry-reads
+use Rattle.sources.proofs.entry_here.Reads as entry-here-reads
 use Rattle.sources.proofs.answer.Reads as answer-reads
+use Rattle.sources.proofs.clear_from.Reads as clear-from-reads
 use Rattle.sources.proofs.count_more.Reads as count-more-reads
-use Rattle.sources.proofs.fill.Reads as fill-reads
+use Rattle.sources.proofs.fill_up.Reads as fill-up-reads
 use Rattle.sources.proofs.none.Reads as none-reads
 use Rattle.sources.proofs.refuse.Reads as refuse-reads
 use Rattle.sources.proofs.smaller.Reads as smaller-reads
@@ -31,23 +31,20 @@ Inv-loop table first count bytes₀ total counts₀ line₀ at₀ i₀ bytes cou
 abbrev μ-loop : tie.MeasureT-loop
 μ-loop table first count bytes₀ total counts₀ line₀ at₀ i₀ bytes counts line at i = count - i
 
-clear-bytes-requires : tie.Need-clear-bytes-requires Inv-loop μ-loop
-clear-bytes-requires c κs = search needs
-
 none-requires : tie.Need-none-requires Inv-loop μ-loop
 none-requires c κs = search needs
 
 loop-holds : tie.Need-loop-holds Inv-loop μ-loop
-loop-holds c = going-start _ _ _ _ _ _ (c .before .before .before .before .before .before .before .pre .1) (c .before .before .before .clear-bytes .kept .0) (c .before .before .before .clear-bytes .ensures) (c .none .ensures)
+loop-holds c = going-start _ _ _ _ _ (c .before .before .before .pre .1) (c .none .ensures)
 
-read-entry-requires : tie.Need-read-entry-requires Inv-loop μ-loop
-read-entry-requires c κs = search needs
+entry-here-requires : tie.Need-entry-here-requires Inv-loop μ-loop
+entry-here-requires c κs = search needs
 
 enum-told : tie.Need-enum-told Inv-loop μ-loop
 enum-told c = search needs
 
 cast-refuse : tie.Need-cast-refuse Inv-loop μ-loop
-cast-refuse c = omega (arith, refused-inside _ _ _ (sym (c .before .before .before .read-entry .ensures) ∙ c .before .enum-told .given .1))
+cast-refuse c = omega (arith, refused-inside _ _ _ (sym (c .before .before .before .entry-here .ensures) ∙ c .before .enum-told .given .1))
 
 refuse-requires : tie.Need-refuse-requires Inv-loop μ-loop
 refuse-requires c κs = search needs
@@ -56,10 +53,13 @@ same-length : tie.Need-same-length Inv-loop μ-loop
 same-length c = search needs
 
 returns : tie.Need-returns Inv-loop μ-loop
-returns c = at-length _ (c .before .before .before .before .before .before .before .before .before .before .before .before .clear-bytes .kept .0) (ends-refused (c .before .before .before .before .before .before .before .before .loop .inv) (omega arith) (sym (c .before .before .before .before .before .before .read-entry .ensures) ∙ c .before .before .before .before .enum-told .given .1) (c .before .before .refuse .ensures))
+returns c = ends-refused (c .before .before .before .before .before .before .before .before .loop .inv) (omega arith) (sym (c .before .before .before .before .before .before .entry-here .ensures) ∙ c .before .before .before .before .enum-told .given .1) (c .before .before .refuse .ensures)
 
 enum-told-2 : tie.Need-enum-told-2 Inv-loop μ-loop
 enum-told-2 c = search needs
+
+clear-from-requires : tie.Need-clear-from-requires Inv-loop μ-loop
+clear-from-requires c κs = search needs
 
 answer-requires : tie.Need-answer-requires Inv-loop μ-loop
 answer-requires c κs = search needs
@@ -68,13 +68,13 @@ same-length-2 : tie.Need-same-length-2 Inv-loop μ-loop
 same-length-2 c = search needs
 
 returns-2 : tie.Need-returns-2 Inv-loop μ-loop
-returns-2 c = at-length _ (c .before .before .before .before .before .before .before .before .before .clear-bytes .kept .0) (ends-stop (c .before .before .before .before .before .loop .inv) (omega arith) (sym (c .before .before .before .read-entry .ensures) ∙ c .before .enum-told2 .given .1) (c .answer .ensures))
+returns-2 c = ends-stop (c .before .before .before .before .before .before .before .before .before .loop .inv) (omega arith) (sym (c .before .before .before .before .before .before .before .entry-here .ensures) ∙ c .before .before .before .before .before .enum-told2 .given .1) (c .before .before .before .clear-from .ensures) (c .answer .ensures)
 
 enum-known-span : tie.Need-enum-known-span Inv-loop μ-loop
 enum-known-span c = search needs
 
 source-of-requires : tie.Need-source-of-requires Inv-loop μ-loop
-source-of-requires c κs = entry-long _ _ _ _ (sym (c .before .before .before .before .read-entry .ensures) ∙ c .before .before .span .given .1)
+source-of-requires c κs = entry-long _ _ _ _ (sym (c .before .before .before .before .entry-here .ensures) ∙ c .before .before .span .given .1)
 
 sub-smaller : tie.Need-sub-smaller Inv-loop μ-loop
 sub-smaller c = search needs
@@ -82,25 +82,30 @@ sub-smaller c = search needs
 smaller-requires : tie.Need-smaller-requires Inv-loop μ-loop
 smaller-requires c κs = search needs
 
-fill-requires : tie.Need-fill-requires Inv-loop μ-loop
-fill-requires c κs =
-    let most = entry-most _ _ _ _ (sym (c .before .before .before .before .before .before .before .read-entry .ensures) ∙ c .before .before .before .before .before .span .given .1) in
+fill-up-requires : tie.Need-fill-up-requires Inv-loop μ-loop
+fill-up-requires c κs =
+    let most = entry-most _ _ _ _ (sym (c .before .before .before .before .before .before .before .entry-here .ensures) ∙ c .before .before .before .before .before .span .given .1) in
     (search needs, omega (arith, most, c .before .smaller .ensures .0))
 
 cast-count-more : tie.Need-cast-count-more Inv-loop μ-loop
-cast-count-more c = omega (arith, c .before .before .before .before .smaller .ensures .1, c .before .before .before .before .before .before .before .before .before .before .before .before .before .before .before .before .before .before .before .before .fits .count)
+cast-count-more c = omega (arith, c .before .before .before .before .smaller .ensures .1, c .before .before .before .before .before .before .before .before .before .before .before .before .before .before .before .before .fits .count)
 
 count-more-requires : tie.Need-count-more-requires Inv-loop μ-loop
-count-more-requires c κs = (omega (arith, c .before .before .before .before .smaller .ensures .1, c .before .before .before .before .before .before .before .before .before .before .before .before .loop .inv .upto, c .before .before .before .before .before .before .before .before .before .before .before .before .before .before .before .before .before .before .before .before .fits .count), c .before .before .before .before .before .before .before .before .before .before .before .before .loop .inv .few-entries, c .before .before .before .before .before .before .before .before .before .before .before .before .loop .inv .few-lines, c .before .before .before .before .before .before .before .before .before .before .before .before .loop .inv .few-columns, c .before .before .before .before .before .before .before .before .before .before .before .before .loop .inv .few-sure)
+count-more-requires c κs = (omega (arith, c .before .before .before .before .smaller .ensures .1, c .before .before .before .before .before .before .before .before .before .before .before .before .loop .inv .upto, c .before .before .before .before .before .before .before .before .before .before .before .before .before .before .before .before .fits .count), c .before .before .before .before .before .before .before .before .before .before .before .before .loop .inv .few-entries, c .before .before .before .before .before .before .before .before .before .before .before .before .loop .inv .few-lines, c .before .before .before .before .before .before .before .before .before .before .before .before .loop .inv .few-columns, c .before .before .before .before .before .before .before .before .before .before .before .before .loop .inv .few-sure)
 
 add-i : tie.Need-add-i Inv-loop μ-loop
-add-i c = omega (arith, c .before .before .before .before .before .smaller .ensures .1, c .before .before .before .before .before .before .before .before .before .before .before .before .before .loop .inv .upto, c .before .before .before .before .before .before .before .before .before .before .before .before .before .before .before .before .before .before .before .before .before .fits .count)
+add-i c = omega (arith, c .before .before .before .before .before .smaller .ensures .1, c .before .before .before .before .before .before .before .before .before .before .before .before .before .loop .inv .upto, c .before .before .before .before .before .before .before .before .before .before .before .before .before .before .before .before .before .fits .count)
 
 loop-less : tie.Need-loop-less Inv-loop μ-loop
-loop-less c = let z = entry-places _ _ _ _ (sym (c .before .before .before .before .before .before .before .before .before .before .before .read-entry .ensures) ∙ c .before .before .before .before .before .before .before .before .before .span .given .1) in omega (arith, z, c .before .before .before .before .before .smaller .ensures .0)
+loop-less c = let z = entry-places _ _ _ _ (sym (c .before .before .before .before .before .before .before .before .before .before .before .entry-here .ensures) ∙ c .before .before .before .before .before .before .before .before .before .span .given .1) in omega (arith, z, c .before .before .before .before .before .smaller .ensures .0)
 
 loop-again : tie.Need-loop-again Inv-loop μ-loop
-loop-again c = goes-on (c .before .before .before .before .before .before .before .before .before .before .before .before .before .loop .inv) _ _ _ _ _ (omega arith) (sym (c .before .before .before .before .before .before .before .before .before .before .before .read-entry .ensures) ∙ c .before .before .before .before .before .before .before .before .before .span .given .1) (c .before .before .before .before .before .smaller .ensures .0) (c .before .before .before .before .before .before .source-of .ensures) (c .before .before .before .fill .ensures) (c .count-more .ensures)
+loop-again c =
+    let most = entry-most _ _ _ _ (sym (c .before .before .before .before .before .before .before .before .before .before .before .entry-here .ensures) ∙ c .before .before .before .before .before .before .before .before .before .span .given .1) in
+    goes-on (c .before .before .before .before .before .before .before .before .before .before .before .before .before .loop .inv) _ _ _ _ _ (omega arith) (sym (c .before .before .before .before .before .before .before .before .before .before .before .entry-here .ensures) ∙ c .before .before .before .before .before .before .before .before .before .span .given .1) (c .before .before .before .before .before .smaller .ensures .0) (c .before .before .before .before .before .before .source-of .ensures) (omega (arith, most, c .before .before .before .before .before .smaller .ensures .0)) (c .before .before .before .fill-up .ensures) (c .count-more .ensures)
+
+clear-from-requires-2 : tie.Need-clear-from-requires-2 Inv-loop μ-loop
+clear-from-requires-2 c κs = search needs
 
 answer-requires-2 : tie.Need-answer-requires-2 Inv-loop μ-loop
 answer-requires-2 c κs = search needs
@@ -109,7 +114,7 @@ same-length-3 : tie.Need-same-length-3 Inv-loop μ-loop
 same-length-3 c = search needs
 
 returns-3 : tie.Need-returns-3 Inv-loop μ-loop
-returns-3 c = at-length _ (c .before .before .before .before .before .before .clear-bytes .kept .0) (ends-all (c .before .before .loop .inv) (omega arith) (c .answer2 .ensures))
+returns-3 c = ends-all (c .before .before .before .before .before .before .loop .inv) (omega arith) (c .before .before .before .clear-from2 .ensures) (c .answer2 .ensures)
 
 pub walk-marks-spec : {M : Type 1} → statement M
 walk-marks-spec =
@@ -117,16 +122,16 @@ walk-marks-spec =
     (tie.spec
     Inv-loop
     μ-loop
-    clear-bytes-requires
     none-requires
     loop-holds
-    read-entry-requires
+    entry-here-requires
     enum-told
     cast-refuse
     refuse-requires
     same-length
     returns
     enum-told-2
+    clear-from-requires
     answer-requires
     same-length-2
     returns-2
@@ -134,12 +139,13 @@ walk-marks-spec =
     source-of-requires
     sub-smaller
     smaller-requires
-    fill-requires
+    fill-up-requires
     cast-count-more
     count-more-requires
     add-i
     loop-less
     loop-again
+    clear-from-requires-2
     answer-requires-2
     same-length-3
     returns-3)
