@@ -15,7 +15,8 @@
  *   Otherwise refusal is one of the numbers below, and place says where, as told beside the field; every other field is 0,
  *   and so is every element of every store lent for writing.
  * - A truth is 0 or 1. A field named pad is 0.
- * - The functions below need less than 1 KiB of stack; of sill_read and sill_write see there.
+ * - The functions below need less than 1 KiB of stack, those of settings files less than 4 KiB; of sill_read and sill_write see
+ *   there.
  */
 #ifndef SILLGARLAND_H
 #define SILLGARLAND_H
@@ -181,6 +182,57 @@ sill_totalled_t sill_add_totals(const uint64_t *a, size_t a_len, const uint64_t 
 /* The lines "inputs 3", "accepted 2", "refused 1", then "refusal N COUNT" for N from 1 to 26, zero lines included, each ended by a
    newline. 17: no room, place is out_len. Needs up to 910 bytes of out. */
 sill_written_t sill_print_totals(const uint64_t *totals, size_t totals_len, uint8_t *out, size_t out_len);
+
+/* ---- Settings files. A file is fields one behind another: a tag of one byte, a length of two bytes, little-endian, and so many bytes
+   of contents. A tag occurs once, and field 1 is the edition. The first fault of a file, in its order: 22 where a field has the tag of
+   one before it, then 2 where its header or its contents pass the end, both at the field's first byte. */
+
+typedef struct {
+    uint32_t refusal; /* a fault of own, then of fallback, each at its place in its own file; then 23 at 0: neither has the tag */
+    uint32_t place;
+    uint32_t file;  /* 0: the contents stand in own; 1: in fallback */
+    uint32_t start; /* where they start in that file */
+    uint32_t size;  /* how many bytes they are */
+} sill_setting_t;
+
+typedef struct {
+    uint32_t refusal; /* a fault of file, then of changes, each at its place in its own file; then 17: no room, place is out_len, which
+                         counts as at most 4,294,967,295 */
+    uint32_t place;
+    uint32_t written; /* how many bytes */
+} sill_rewritten_t;
+
+typedef struct {
+    uint32_t refusal; /* 14: the archive is above 4,294,967,295 bytes, at 0; then its first fault, record by record: 2 at a record whose
+                         length or file passes the end, or the fault of a saved file, placed from the archive's start; then the
+                         file's own fault; then 23 at 0: the file has no edition, or one that is saved already; then 17 as above */
+    uint32_t place;
+    uint32_t written; /* how many bytes the new archive has */
+} sill_saved_t;
+
+typedef struct {
+    uint32_t refusal; /* 14 and the archive's faults as in sill_save_edition; then 23 at 0: no file of this edition is saved */
+    uint32_t place;
+    uint32_t start; /* where the file's bytes start in the archive */
+    uint32_t size;  /* how many they are */
+} sill_edition_t;
+
+/* Where the contents of a tag stand: in own, the customer's file, if it has the tag, else in fallback, the default. Both files are
+ * tested whole first. A tag above 255 is in none. */
+sill_setting_t sill_setting(const uint8_t *own, size_t own_len, const uint8_t *fallback, size_t fallback_len, uint32_t tag);
+
+/* The file with changes, which are a file of fields too. A field whose tag the changes have gets its contents there, where it stands;
+ * every other field is kept byte for byte; what the file lacks follows in the order of the changes. */
+sill_rewritten_t sill_rewrite_settings(const uint8_t *file, size_t file_len, const uint8_t *changes, size_t changes_len,
+                                       uint8_t *out, size_t out_len);
+
+/* The archive with one more file behind it. An archive is saved files one behind another, each behind its length in four bytes,
+ * little-endian; the empty one has none. Every edition saved before gives afterwards what it gave. */
+sill_saved_t sill_save_edition(const uint8_t *archive, size_t archive_len, const uint8_t *file, size_t file_len, uint8_t *out,
+                               size_t out_len);
+
+/* The first saved file whose field 1 is these bytes, as it was saved. */
+sill_edition_t sill_edition(const uint8_t *archive, size_t archive_len, const uint8_t *edition, size_t edition_len);
 
 /* ---- Line tables: where each instruction of a code object comes from. */
 

@@ -291,6 +291,49 @@ static void test_join(void)
     expect(told.refusal == 18 && told.place == 0 && told.line == 0, "a line out of range");
 }
 
+/* A lookup in both files, and the faults in their order; a rewriting that keeps an unknown tag; two saves, and the editions of both. */
+static void test_settings(void)
+{
+    const uint8_t *own = (const uint8_t *)"\x04\x01\0\x01", *fallback = (const uint8_t *)"\x01\x01\0\x33\x04\x01\0\0";
+    sill_setting_t found = sill_setting(own, 4, fallback, 8, 4);
+    expect(found.refusal == 0 && found.file == 0 && found.start == 3 && found.size == 1, "found in the override");
+    found = sill_setting(own, 4, fallback, 8, 1);
+    expect(found.refusal == 0 && found.file == 1 && found.start == 3 && found.size == 1, "found in the default");
+    found = sill_setting(own, 4, fallback, 8, 260);
+    expect(found.refusal == 23 && found.place == 0 && found.start == 0, "a tag above 255 is in none");
+    found = sill_setting((const uint8_t *)"\x04\0\0\x04", 4, fallback, 7, 4);
+    expect(found.refusal == 22 && found.place == 3, "a repeated tag comes before its cut header, and before the default");
+    found = sill_setting(own, 4, fallback, 7, 4);
+    expect(found.refusal == 2 && found.place == 4, "the default is tested too");
+
+    uint8_t out[16], grown[32];
+    memset(out, 7, sizeof out);
+    sill_rewritten_t again =
+        sill_rewrite_settings((const uint8_t *)"\xC8\x01\0\x2A\x04\0\0", 7, own, 4, out, sizeof out);
+    expect(again.refusal == 0 && again.written == 8, "rewritten");
+    expect(memcmp(out, "\xC8\x01\0\x2A\x04\x01\0\x01\0\0\0\0\0\0\0\0", 16) == 0, "an unknown tag is kept, zeros follow");
+    again = sill_rewrite_settings(fallback, 8, NULL, 0, out, 7);
+    expect(again.refusal == 17 && again.place == 7 && memcmp(out, "\0\0\0\0\0\0\0", 7) == 0, "no room");
+    again = sill_rewrite_settings(fallback, 8, NULL, 0, out, 8);
+    expect(again.refusal == 0 && again.written == 8 && memcmp(out, fallback, 8) == 0, "no changes give the file back");
+
+    sill_saved_t saved = sill_save_edition(NULL, 0, fallback, 8, out, sizeof out);
+    expect(saved.refusal == 0 && saved.written == 12 && memcmp(out, "\x08\0\0\0", 4) == 0, "saved");
+    saved = sill_save_edition(out, 12, (const uint8_t *)"\x01\x01\0\x34", 4, grown, sizeof grown);
+    expect(saved.refusal == 0 && saved.written == 20, "a second edition");
+    sill_edition_t edition = sill_edition(grown, 20, (const uint8_t *)"\x33", 1);
+    expect(edition.refusal == 0 && edition.start == 4 && edition.size == 8, "the first edition is what it was");
+    expect(memcmp(grown + 4, fallback, 8) == 0, "byte for byte");
+    edition = sill_edition(grown, 20, (const uint8_t *)"\x35", 1);
+    expect(edition.refusal == 23 && edition.place == 0, "no such edition");
+    edition = sill_edition(grown, 19, (const uint8_t *)"\x33", 1);
+    expect(edition.refusal == 2 && edition.place == 12, "a record past the end");
+    saved = sill_save_edition(out, 12, fallback, 8, grown, sizeof grown);
+    expect(saved.refusal == 23 && saved.place == 0 && grown[0] == 0, "already saved");
+    saved = sill_save_edition(out, 12, own, 4, grown, sizeof grown);
+    expect(saved.refusal == 23 && saved.place == 0, "a file without an edition");
+}
+
 /* Document 01's table for three instructions, then for one; then a table cut inside its second entry. */
 static void test_salvage(void)
 {
@@ -430,6 +473,7 @@ int main(void)
     test_lines();
     test_salvage();
     test_join();
+    test_settings();
     test_sources();
     test_starts();
     test_split();

@@ -181,6 +181,42 @@ static void hold_join(const uint8_t *table, size_t len, int32_t first, uint32_t 
     hold(j.refusal == 24 && !j.place && !j.written && all_zero(out, both), "lines that do not meet");
 }
 
+/* The halves as override and default; as file and changes; and the input as an archive, and as a file that is saved. */
+static void hold_settings(const uint8_t *data, size_t len) {
+    size_t half = len / 2, rest = len - half;
+    const uint8_t *own = lend_bytes(&inputs, data, half), *fallback = lend_bytes(&outs2, data + half, rest);
+    uint32_t tag = len ? data[0] : 0;
+    sill_setting_t f = sill_setting(own, half, fallback, rest, tag);
+    hold(f.refusal ? !f.file && !f.start && !f.size : (size_t)f.start + f.size <= (f.file ? rest : half), "a part of a file");
+    hold(f.refusal || (f.file ? fallback : own)[f.start - 3] == tag, "another tag");
+    uint8_t *out = lend_bytes(&outs, NULL, len);
+    sill_rewritten_t w = sill_rewrite_settings(own, half, fallback, rest, out, len);
+    hold(w.written <= len && all_zero(out + w.written, len - w.written), "a rewriting is not zero past what was written");
+    hold(w.refusal == (f.refusal == 23 ? 0 : f.refusal), "the same two files are refused otherwise");
+    if (!w.refusal) {
+        const uint8_t *kept = lend_bytes(&nodes_a, out, w.written);
+        sill_setting_t g = sill_setting(kept, w.written, NULL, 0, tag), c = sill_setting(fallback, rest, own, half, tag);
+        hold(g.refusal == c.refusal && g.size == c.size, "a rewritten file says something else");
+        hold(g.refusal || !memcmp(kept + g.start, (c.file ? own : fallback) + c.start, g.size), "in other bytes");
+        out = lend_bytes(&outs, NULL, w.written);
+        sill_rewritten_t same = sill_rewrite_settings(kept, w.written, NULL, 0, out, w.written);
+        hold(!same.refusal && same.written == w.written && !memcmp(out, kept, w.written), "no changes change it");
+    }
+    sill_edition_t e = sill_edition(own, half, fallback, rest);
+    hold(e.refusal ? !e.start && !e.size : (size_t)e.start + e.size <= half, "a part of an archive");
+    out = lend_bytes(&outs, NULL, len + 4);
+    sill_saved_t s = sill_save_edition(own, half, fallback, rest, out, len + 4);
+    hold(s.refusal ? all_zero(out, len + 4) && !s.written : s.written == len + 4 && !memcmp(out, own, half), "a save");
+    s = sill_save_edition(NULL, 0, fallback, rest, out, len + 4);
+    if (s.refusal) return;
+    const uint8_t *archive = lend_bytes(&inputs, out, s.written);
+    f = sill_setting(fallback, rest, NULL, 0, 1);
+    e = sill_edition(archive, s.written, fallback + f.start, f.size);
+    hold(!e.refusal && e.start == 4 && e.size == rest, "what was saved is not there");
+    s = sill_save_edition(archive, s.written, fallback, rest, out, len + 4);
+    hold(s.refusal == 23 && !s.place, "an edition is saved twice");
+}
+
 /* Entries that are read are written in no more bytes, and these read as the same entries; one entry or one byte short is 17. */
 static void hold_exceptions(const uint8_t *table, size_t len) {
     const uint8_t *at = lend_bytes(&inputs, table, len);
@@ -316,6 +352,7 @@ static void others(const uint8_t *data, size_t len) {
     hold_halves(data, len, sum % 2 ? (int32_t)first : 1, sum % 300);
     hold_join(data, len, sum % 2 ? (int32_t)first : 1, sum % 300);
     hold_starts(data, len, sum % 1000);
+    hold_settings(data, len);
     hold_exceptions(data, len);
     hostile_exceptions(data, len);
     hold_totals(data, len);

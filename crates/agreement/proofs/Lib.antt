@@ -12,6 +12,10 @@ pub mod Rows
 pub mod Salvage
 pub mod Sources
 pub mod Join
+pub mod Copying
+pub mod Taggedfields
+pub mod Settings
+pub mod Editions
 pub mod Startindex
 pub mod Starts
 pub mod Decimals

@@ -52,6 +52,20 @@ sill-join-agrees κs a asked r r′ ws ws′ p p′ = (one (p .0) (p′ .0), λ 
 pub sill-line-after-agrees : Agree sillgarland.joins.sill_line_after.ended sillgarland.joins.sill_line_after.Reads.Asked sillgarland.joins.sill_line_after.Reads.Learnt
 sill-line-after-agrees κs a asked r r′ ws ws′ p p′ = (one p p′, refl)
 
+pub sill-setting-agrees : Agree sillgarland.settingfiles.sill_setting.ended sillgarland.settingfiles.sill_setting.Reads.Asked sillgarland.settingfiles.sill_setting.Reads.Learnt
+sill-setting-agrees κs a asked r r′ ws ws′ p p′ = (one p p′, refl)
+
+pub sill-rewrite-settings-agrees :
+    Agree sillgarland.settingfiles.sill_rewrite_settings.ended sillgarland.settingfiles.sill_rewrite_settings.Reads.Asked sillgarland.settingfiles.sill_rewrite_settings.Reads.Learnt
+sill-rewrite-settings-agrees κs a asked r r′ ws ws′ p p′ = (one (p .0) (p′ .0), λ i. (tt, (tt, (one (p .1) (p′ .1) i, tt))))
+
+pub sill-save-edition-agrees :
+    Agree sillgarland.settingfiles.sill_save_edition.ended sillgarland.settingfiles.sill_save_edition.Reads.Asked sillgarland.settingfiles.sill_save_edition.Reads.Learnt
+sill-save-edition-agrees κs a asked r r′ ws ws′ p p′ = (one (p .0) (p′ .0), λ i. (tt, (tt, (one (p .1) (p′ .1) i, tt))))
+
+pub sill-edition-agrees : Agree sillgarland.settingfiles.sill_edition.ended sillgarland.settingfiles.sill_edition.Reads.Asked sillgarland.settingfiles.sill_edition.Reads.Learnt
+sill-edition-agrees κs a asked r r′ ws ws′ p p′ = (one p p′, refl)
+
 pub sill-salvage-agrees : Agree sillgarland.repairs.sill_salvage.ended sillgarland.repairs.sill_salvage.Reads.Asked sillgarland.repairs.sill_salvage.Reads.Learnt
 sill-salvage-agrees κs a asked r r′ ws ws′ p p′ = (one (p .0) (p′ .0), λ i. (tt, (tt, (tt, (one (p .1) (p′ .1) i, tt)))))
 

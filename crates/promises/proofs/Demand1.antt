@@ -56,6 +56,7 @@ use Rattle.promises.proofs.Reading.{writtenBy}
 use Rattle.promises.proofs.LineEnds.{locate-ends, locations-end, salvage-ends, marks-in-table, sources-end}
 use Rattle.promises.proofs.Joins.{join-ends, line-ends}
 use Rattle.promises.proofs.Exceptions.{decoded-in-table, decoded-ends, encoded-in-table, encoded-ends}
+use Rattle.promises.proofs.Settings.{setting-ends, rewrite-ends, save-ends, edition-ends}
 use Rattle.promises.proofs.RowStarts.{index-ends, before-ends, at-ends}
 use Rattle.promises.proofs.Nightly.{totals-in-table, added-in-table, totalled-ends, printed-in-table, printed-ends}
 use Rattle.promises.proofs.Numbers.{Tabled, reading-in-table, leaf-in-table, located-in-table, located-at-in-table, TabledSplit, split-in-table, TabledStore, stored-in-table, signed-in-table, told-in-table, written-in-table}
@@ -222,6 +223,30 @@ demand-1 =
             asks-nothing = λ κs a. tt;
             returns = λ M. sillgarland.rowstarts.sill_start_at.Met.met;
             ends = λ c. at-ends (now (c .args .0)) (c .args .1 .0) (c .args .1 .1 .0) (c .result) (c .meets);
+          };
+      sill-setting =
+          record {
+            asks-nothing = λ κs a. tt;
+            returns = λ M. sillgarland.settingfiles.sill_setting.Met.met;
+            ends = λ c. let a = c .args in setting-ends (now (a .0)) (now (a .1 .0)) (a .1 .1 .0) (c .result) (c .meets);
+          };
+      sill-rewrite-settings =
+          record {
+            asks-nothing = λ κs a. tt;
+            returns = λ M. sillgarland.settingfiles.sill_rewrite_settings.Met.met;
+            ends = λ c. let a = c .args in rewrite-ends (now (a .0)) (now (a .1 .0)) (now (a .1 .1 .0)) _ (c .result) (c .meets .0) (c .meets .1);
+          };
+      sill-save-edition =
+          record {
+            asks-nothing = λ κs a. tt;
+            returns = λ M. sillgarland.settingfiles.sill_save_edition.Met.met;
+            ends = λ c. let a = c .args in save-ends (now (a .0)) (now (a .1 .0)) (now (a .1 .1 .0)) _ (c .result) (c .meets .0) (c .meets .1);
+          };
+      sill-edition =
+          record {
+            asks-nothing = λ κs a. tt;
+            returns = λ M. sillgarland.settingfiles.sill_edition.Met.met;
+            ends = λ c. let a = c .args in edition-ends (now (a .0)) (now (a .1 .0)) (c .result) (c .meets);
           };
       sill-split =
           record {

@@ -4,6 +4,7 @@ pub mod Reading
 pub mod LineEnds
 pub mod Exceptions
 pub mod Joins
+pub mod Settings
 pub mod Nightly
 pub mod Demand1
 pub mod Demand2

@@ -6,6 +6,9 @@ use Rattle.salvage.proofs.Promised.{salvage-keeps-its-promises}
 use Rattle.join.proofs.Promised.{join-keeps-its-promises}
 use Rattle.join.proofs.Reading.{line-keeps-its-promises}
 use Rattle.starts.proofs.Promised.{starts-keep-their-promises}
+use Rattle.taggedfields.proofs.Promised.{fields-keep-their-promises}
+use Rattle.settings.proofs.Promised.{settings-keep-their-promises}
+use Rattle.editions.proofs.Promised.{editions-keep-their-promises}
 use Rattle.sources.proofs.Beside.{beside-located}
 use Rattle.sources.proofs.Repaired.{repaired-told}
 use Rattle.promises.specs.Requests.{Requests}
@@ -20,6 +23,9 @@ requests-promised =
       row-starts = starts-keep-their-promises;
       totals = totals-keep-their-promises;
       printed-totals = printed-totals-keep-their-promises;
+      tagged-fields = fields-keep-their-promises;
+      settings = settings-keep-their-promises;
+      editions = editions-keep-their-promises;
       sources = beside-located;
       sources-repaired = repaired-told;
     }

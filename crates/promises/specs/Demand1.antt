@@ -30,6 +30,8 @@ use Rattle.sources.specs.declared.Counts.{Counts}
 use Rattle.sources.specs.Marks.{counts, told}
 use Rattle.join.specs.Whole as table
 use Rattle.join.specs.Join as joined
+use Rattle.settings.specs.Setting as setting
+use Rattle.editions.specs.Answers as archived
 use Rattle.startindex.specs.Index.{told as toldIndexed}
 use Rattle.starts.specs.Questions.{told as toldStart}
 use Rattle.varint.specs.declared.Written.the-variants as varint
@@ -46,6 +48,7 @@ use Rattle.sillgarland.specs.Leaves.{leafStruct}
 use Rattle.sillgarland.specs.Locals.{splitStruct}
 use Rattle.sillgarland.specs.Locations.{locatedStruct}
 use Rattle.sillgarland.specs.Salvage.{salvagedStruct}
+use Rattle.sillgarland.specs.Settingfiles.{settingStruct, rewrittenStruct, keptStruct, editionStruct}
 use Rattle.sillgarland.specs.Sources.{sourcedStruct}
 use Rattle.sillgarland.specs.Starts.{indexedStruct, startStruct}
 use Rattle.sillgarland.specs.Values.{readStruct, wroteStruct}
@@ -54,6 +57,10 @@ use Rattle.sillgarland.specs.declared.joins.SillJoined.{SillJoined}
 use Rattle.sillgarland.specs.declared.joins.SillLine.{SillLine}
 use Rattle.sillgarland.specs.declared.locations.SillLocated.{SillLocated}
 use Rattle.sillgarland.specs.declared.rowstarts.SillStart.{SillStart}
+use Rattle.sillgarland.specs.declared.settingfiles.SillSetting.{SillSetting}
+use Rattle.sillgarland.specs.declared.settingfiles.SillRewritten.{SillRewritten}
+use Rattle.sillgarland.specs.declared.settingfiles.SillSaved.{SillSaved}
+use Rattle.sillgarland.specs.declared.settingfiles.SillEdition.{SillEdition}
 use Rattle.sillgarland.specs.declared.varints.SillWritten.{SillWritten}
 use Rattle.sillgarland.specs.declared.varints.SillFound.{SillFound}
 use Rattle.sillgarland.proofs as sillgarland
@@ -117,6 +124,21 @@ LineEnds r = Ends r (λ (d : Bool × ℕ). lineStruct (table.told (d .0) (d .1))
 abbrev pub StartEnds : SillStart → Type 0
 StartEnds r = Ends r (λ value. startStruct (toldStart accepted 0 value)) (λ number place. startStruct (toldStart number place 0)) Unit
 
+-- the ends over settings files: a part of a file, a file that is written, an archive that is written, a part of an archive
+abbrev pub SettingEnds : SillSetting → Type 0
+SettingEnds r =
+    Ends r (λ (d : ℕ × ℕ × ℕ). settingStruct (record { refusal = accepted; place = 0; file = d .0; start = d .1; size = d .2 })) (λ number place. settingStruct (setting.refusedWith number place)) Unit
+
+abbrev pub RewriteEnds : SillRewritten → Type 0 → Type 0
+RewriteEnds r = Ends r (λ written. rewrittenStruct (record { refusal = accepted; place = 0; written = written })) (λ number place. rewrittenStruct (record { refusal = number; place = place; written = 0 }))
+
+abbrev pub SaveEnds : SillSaved → Type 0 → Type 0
+SaveEnds r = Ends r (λ written. keptStruct (record { refusal = accepted; place = 0; written = written })) (λ number place. keptStruct (record { refusal = number; place = place; written = 0 }))
+
+abbrev pub EditionEnds : SillEdition → Type 0
+EditionEnds r =
+    Ends r (λ (d : ℕ × ℕ). editionStruct (record { refusal = accepted; place = 0; start = d .0; size = d .1 })) (λ number place. editionStruct (archived.refusedWith number place)) Unit
+
 -- Each export. Arguments and last contents are counted from the left: the third parameter is `.1 .1 .0`.
 pub record Demand1 : Type 2 where
   pub sill-read :
@@ -168,6 +190,18 @@ pub record Demand1 : Type 2 where
   pub sill-start-at :
       EachCall sillgarland.rowstarts.sill_start_at.ended sillgarland.rowstarts.sill_start_at.Reads.Asked sillgarland.rowstarts.sill_start_at.Reads.Learnt sillgarland.rowstarts.sill_start_at.Statement.statement
       (λ c. StartEnds (c .result))
+  pub sill-setting :
+      EachCall sillgarland.settingfiles.sill_setting.ended sillgarland.settingfiles.sill_setting.Reads.Asked sillgarland.settingfiles.sill_setting.Reads.Learnt sillgarland.settingfiles.sill_setting.Statement.statement
+      (λ c. SettingEnds (c .result))
+  pub sill-rewrite-settings :
+      EachCall sillgarland.settingfiles.sill_rewrite_settings.ended sillgarland.settingfiles.sill_rewrite_settings.Reads.Asked sillgarland.settingfiles.sill_rewrite_settings.Reads.Learnt sillgarland.settingfiles.sill_rewrite_settings.Statement.statement
+      (λ c. RewriteEnds (c .result) (Zero (now (c .args .1 .1 .0)) (c .last .1 .1 .0)))
+  pub sill-save-edition :
+      EachCall sillgarland.settingfiles.sill_save_edition.ended sillgarland.settingfiles.sill_save_edition.Reads.Asked sillgarland.settingfiles.sill_save_edition.Reads.Learnt sillgarland.settingfiles.sill_save_edition.Statement.statement
+      (λ c. SaveEnds (c .result) (Zero (now (c .args .1 .1 .0)) (c .last .1 .1 .0)))
+  pub sill-edition :
+      EachCall sillgarland.settingfiles.sill_edition.ended sillgarland.settingfiles.sill_edition.Reads.Asked sillgarland.settingfiles.sill_edition.Reads.Learnt sillgarland.settingfiles.sill_edition.Statement.statement
+      (λ c. EditionEnds (c .result))
   pub sill-split :
       EachCall sillgarland.locals.sill_split.ended sillgarland.locals.sill_split.Reads.Asked sillgarland.locals.sill_split.Reads.Learnt sillgarland.locals.sill_split.Statement.statement
       (λ c.

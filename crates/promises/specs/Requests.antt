@@ -5,6 +5,9 @@ use Rattle.totals.specs.Promised.{Promised as TotalsPromised}
 use Rattle.printedtotals.specs.Promised.{Promised as PrintedTotalsPromised}
 use Rattle.salvage.specs.Promised.{Promised as RepairPromised}
 use Rattle.join.specs.Promised.{Promised as JoinPromised, LinePromised}
+use Rattle.taggedfields.specs.Promised.{Promised as FieldsPromised}
+use Rattle.settings.specs.Promised.{Promised as SettingsPromised}
+use Rattle.editions.specs.Promised.{Promised as EditionsPromised}
 use Rattle.sources.specs.Beside.{BesideLocated}
 use Rattle.sources.specs.Repaired.{Repaired}
 use Rattle.starts.specs.Promised.{Promised as StartsPromised}
@@ -24,6 +27,12 @@ pub record Requests : Type 0 where
   pub totals : TotalsPromised
   -- K14: "print exact counts in this form and order"
   pub printed-totals : PrintedTotalsPromised
+  -- K8: "Fields have a one-byte tag and two-byte little-endian length .. and a tag occurs once."
+  pub tagged-fields : FieldsPromised
+  -- K8: "An older harness keeps tags it does not know byte for byte when rewriting."
+  pub settings : SettingsPromised
+  -- K8: "Each saved file is kept whole; rolling back to an edition gives exactly that file's fields."
+  pub editions : EditionsPromised
   -- the bytes of `sill_sources` beside the places of `sill_locate`
   pub sources : BesideLocated
   -- and of a table that was repaired

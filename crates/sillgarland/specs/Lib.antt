@@ -9,3 +9,4 @@ pub mod Values
 pub mod Exceptions
 pub mod Starts
 pub mod Nightly
+pub mod Settingfiles

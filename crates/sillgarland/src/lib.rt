@@ -9,5 +9,6 @@ pub mod nightly;
 pub mod origins;
 pub mod repairs;
 pub mod rowstarts;
+pub mod settingfiles;
 pub mod values;
 pub mod varints;

@@ -5,6 +5,7 @@ use crate::join::{self, Joins};
 use crate::memory::{Mode, lend};
 use crate::read::Reads;
 use crate::salvage::{self, Salvages};
+use crate::settings::{self, SettingsFiles};
 use crate::sources::{self, Sources};
 use crate::starts::{self, Starts};
 use crate::subject::{Carried, Subject, held};
@@ -46,6 +47,11 @@ pub fn hold() -> bool {
             tally.count("row starts indexed and asked for", held::<Starts>(&asked, &answer));
         }
         ask::<localsplus::LocalNames>(&mut tally, "splits", localsplus::carried_side::asks_to_list());
+        for asked in settings::random_asks(26, OF_EACH) {
+            let answer = settings::by_the_model(&asked);
+            last_asked(&SettingsFiles::row(&asked, &answer));
+            tally.count("settings looked up, rewritten, saved and rolled back", held::<SettingsFiles>(&asked, &answer));
+        }
         for asked in exceptions::random_asks(25, OF_EACH) {
             let answer = exceptions::by_the_model(&asked);
             last_asked(&Exceptions::row(&asked, &answer));

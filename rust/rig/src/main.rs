@@ -34,6 +34,7 @@ mod read;
 mod reading;
 mod record;
 mod salvage;
+mod settings;
 #[cfg(carried)]
 mod shape;
 mod shares;
@@ -67,6 +68,7 @@ use localsplus::LocalNames;
 use options::{Options, Task, USAGE};
 use read::Reads;
 use salvage::Salvages;
+use settings::SettingsFiles;
 use sources::Sources;
 use starts::Starts;
 use std::process::ExitCode;
@@ -110,6 +112,7 @@ fn run(options: Options) -> Result<bool, String> {
         }
         Task::Exceptions => Ok(exceptions::hold(17, EXCEPTIONS)),
         Task::Joins => joins(&options),
+        Task::Settings => Ok(settings::hold(20, SETTINGS)),
         Task::Sources => Ok(sources::hold(17, SOURCES)),
         Task::Starts => Ok(starts::hold(19, STARTS)),
         Task::Totals => Ok(totals::hold(19, TOTALS)),
@@ -169,12 +172,14 @@ const SOURCES: usize = 400_000;
 
 /// How many random values, each in two forms and changed in one place.
 const EQUAL: usize = 400_000;
+/// How many random settings files, looked up, rewritten, saved and rolled back.
+const SETTINGS: usize = 1_000_000;
 
 /// How many random totals, counted, added and printed.
 const TOTALS: usize = 1_000_000;
 
-/// What documents 01 and 02 alone tell: the leaf question and writing on any stores, exception tables, joins, row starts, totals,
-/// equal values and equal bytes, and demand 3 at every room.
+/// What documents 01 and 02 alone tell: the leaf question and writing on any stores, exception tables, joins, row starts,
+/// settings files, totals, equal values and equal bytes, and demand 3 at every room.
 fn without_the_rust() -> Result<bool, String> {
     let found = corpus::inputs()?;
     Ok(all([
@@ -185,6 +190,7 @@ fn without_the_rust() -> Result<bool, String> {
         starts::hold(19, STARTS),
         exceptions::hold(18, EXCEPTIONS),
         join::hold(19, JOINS),
+        settings::hold(20, SETTINGS),
         totals::hold(19, TOTALS),
         equal::hold(20, EQUAL),
         sweep::hold(13, || values::inputs_to_sweep(14, 200_000).chain(found.iter().cloned())),
@@ -211,6 +217,7 @@ fn replay_answers() -> bool {
         replay::<Exceptions>("vectors"),
         replay::<Joins>("vectors"),
         replay::<Starts>("vectors"),
+        replay::<SettingsFiles>("vectors"),
         replay::<NightlyTotals>("vectors"),
     ]);
     all([fixed, vectors, written])

@@ -1,10 +1,11 @@
 //! A null pointer with length 0 is an empty slice: every exported function, called so, answers as for no bytes and no room.
 use crate::tally::Tally;
 use sillgarland_sys::{
-    Exceptions, Found, Indexed, Joined, Leaf, Line, Located, Read, Salvaged, Sourced, Split, Start, Totalled, Written,
-    refusals,
+    Edition, Exceptions, Found, Indexed, Joined, Leaf, Line, Located, Read, Rewritten, Salvaged, Saved, Setting,
+    Sourced, Split, Start, Totalled, Written, refusals,
 };
 use sillgarland_sys::{sill_add_totals, sill_print_totals, sill_totals};
+use sillgarland_sys::{sill_edition, sill_rewrite_settings, sill_save_edition, sill_setting};
 use sillgarland_sys::{sill_index_starts, sill_start_at, sill_starts_before};
 use sillgarland_sys::{sill_join, sill_line_after, sill_read_exceptions, sill_write_exceptions};
 use sillgarland_sys::{sill_leaf, sill_locate_node, sill_read, sill_salvage, sill_sources, sill_write};
@@ -36,6 +37,14 @@ pub fn hold() -> bool {
         count(&mut tally, "sill_read_exceptions", sill_read_exceptions(n, 0, w, 0), no_entries);
         let nothing = Written { refusal: refusals::ACCEPTED, place: 0, written: 0 };
         count(&mut tally, "sill_write_exceptions", sill_write_exceptions(null(), 0, m, 0), nothing);
+        let no_field = Setting { refusal: refusals::NO_SUCH_FIELD, place: 0, file: 0, start: 0, size: 0 };
+        count(&mut tally, "sill_setting", sill_setting(n, 0, n, 0, 0), no_field);
+        let no_fields = Rewritten { refusal: refusals::ACCEPTED, place: 0, written: 0 };
+        count(&mut tally, "sill_rewrite_settings", sill_rewrite_settings(n, 0, n, 0, m, 0), no_fields);
+        let no_edition = Saved { refusal: refusals::NO_SUCH_FIELD, place: 0, written: 0 };
+        count(&mut tally, "sill_save_edition", sill_save_edition(n, 0, n, 0, m, 0), no_edition);
+        let none_saved = Edition { refusal: refusals::NO_SUCH_FIELD, place: 0, start: 0, size: 0 };
+        count(&mut tally, "sill_edition", sill_edition(n, 0, n, 0), none_saved);
         let few = Totalled { refusal: refusals::NO_ROOM, place: 0 };
         count(&mut tally, "sill_totals", sill_totals(null(), 0, null(), 0, null_mut(), 0), few);
         count(&mut tally, "sill_add_totals", sill_add_totals(null(), 0, null(), 0, null_mut(), 0), few);

@@ -12,6 +12,7 @@ usage: rig [--tables FILE]                       compare with the carried Rust, 
        rig --joins [--tables FILE]               joins of line tables: the model, and the carried Rust beside it, nothing else
        rig --sources                             where instructions' places come from: the model, nothing else
        rig --starts                              row starts: the model, nothing else
+       rig --settings                            settings files and their editions: the model, nothing else
        rig --totals                              nightly totals: the model, nothing else
        rig --equal                               equal values are written as equal bytes and no others, nothing else
        rig --goldens PATH..                      compare on golden files; without a PATH, say how
@@ -42,6 +43,7 @@ pub enum Task {
     Rooms,
     Exceptions,
     Joins,
+    Settings,
     Sources,
     Starts,
     Totals,
@@ -87,6 +89,7 @@ impl Options {
                 "--joins" => options.set(Task::Joins)?,
                 "--sources" => options.set(Task::Sources)?,
                 "--starts" => options.set(Task::Starts)?,
+                "--settings" => options.set(Task::Settings)?,
                 "--extremes" => options.set(Task::Extremes)?,
                 "--has-rust" => options.set(Task::HasRust)?,
                 "--exact" => options.set(Task::Exact)?,

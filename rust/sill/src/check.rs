@@ -8,6 +8,7 @@ mod totals;
 use crate::files;
 use crate::glob::Filter;
 use crate::options::Arguments;
+use crate::settings::{self, Scope};
 use crate::terminal::{Colours, Progress};
 use crate::{Outcome, complaints};
 use findings::{Manner, Verdict};
@@ -16,7 +17,8 @@ use std::io::{self, Write};
 use totals::Totals;
 
 pub fn run(arguments: &Arguments, out: &mut dyn Write) -> io::Result<Outcome> {
-    let teller = match teller(arguments) {
+    let Some(scope) = settings::scope(arguments) else { return Ok(Outcome::Trouble) };
+    let teller = match teller(arguments, scope) {
         Ok(teller) => teller,
         Err(complaint) => {
             complaints::say(format_args!("check: {complaint}; sill check --help says how to call it"));
@@ -44,7 +46,7 @@ pub fn run(arguments: &Arguments, out: &mut dyn Write) -> io::Result<Outcome> {
     Ok(totals.outcome())
 }
 
-fn teller(arguments: &Arguments) -> Result<Teller, &'static str> {
+fn teller(arguments: &Arguments, scope: Scope) -> Result<Teller, &'static str> {
     let named = |word: &std::ffi::OsStr| Verdict::ALL.into_iter().find(|verdict| word == verdict.name());
     let listed: Vec<Verdict> = arguments.words_of("list").filter_map(named).collect();
     let format =
@@ -62,7 +64,7 @@ fn teller(arguments: &Arguments) -> Result<Teller, &'static str> {
     let strict = arguments.has("strict") || listed.contains(&Verdict::NoPlace);
     Ok(Teller {
         form,
-        manner: Manner { strict, pyc: arguments.has("pyc") },
+        manner: Manner { strict, pyc: arguments.has("pyc"), scope },
         quiet: arguments.has("quiet"),
         all: arguments.has("all"),
         colours: Colours::of(arguments),

@@ -6,7 +6,7 @@ mod values;
 use crate::files::{self, Item, is_stdin};
 use crate::glob::Filter;
 use crate::options::Arguments;
-use crate::{Outcome, complaints, text};
+use crate::{Outcome, complaints, settings, text};
 use std::collections::BTreeMap;
 use std::ffi::OsStr;
 use std::io::{self, Write};
@@ -24,6 +24,9 @@ struct Asked {
 
 pub fn run(arguments: &Arguments, out: &mut dyn Write) -> io::Result<Outcome> {
     let [one, other] = [0, 1].map(|at| PathBuf::from(&arguments.operands()[at]));
+    if arguments.has("settings") {
+        return settings::diff(arguments, [&one, &other], out);
+    }
     let asked = Asked { all: arguments.has("all"), pyc: arguments.has("pyc") };
     let below = |folder: &Path, file: &Path| folder.join(file.file_name().unwrap_or(OsStr::new("")));
     match (one.is_dir(), other.is_dir()) {

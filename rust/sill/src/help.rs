@@ -4,11 +4,13 @@ mod completions;
 mod making;
 mod manual;
 mod pages;
+mod settings;
 
 pub use completions::completions;
 pub use making::{COMPLETIONS, MANUAL, REPAIR, WRITE};
 pub use manual::{man, manual};
 pub use pages::{CHECK, DIFF, LINES, ROW, SHOW, TOTALS};
+pub use settings::SETTINGS;
 
 /// A command's page.
 pub struct Page {
@@ -45,7 +47,8 @@ Exit status: 0 all is well; 1 a file is refused, not whole or different; 2 calle
 written (one line on standard error each; the other files are still done).";
 
 /// Every page, in the order in which they are listed.
-pub const PAGES: &[&Page] = &[&CHECK, &SHOW, &LINES, &ROW, &WRITE, &REPAIR, &DIFF, &TOTALS, &MANUAL, &COMPLETIONS];
+pub const PAGES: &[&Page] =
+    &[&CHECK, &SHOW, &LINES, &ROW, &WRITE, &REPAIR, &DIFF, &TOTALS, &SETTINGS, &MANUAL, &COMPLETIONS];
 
 /// The longest line of a usage.
 const WIDTH: usize = 110;

@@ -13,6 +13,7 @@ mod looks;
 mod options;
 mod repair;
 mod row;
+mod settings;
 mod show;
 mod terminal;
 mod text;
@@ -54,6 +55,7 @@ const COMMANDS: &[(&Page, Command)] = &[
     (&help::REPAIR, repair::run),
     (&help::DIFF, diff::run),
     (&help::TOTALS, totals::run),
+    (&help::SETTINGS, settings::run),
     (&help::MANUAL, manual),
     (&help::COMPLETIONS, completions),
 ];

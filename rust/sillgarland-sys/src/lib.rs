@@ -110,6 +110,45 @@ pub struct Salvaged {
     pub covered: u32,
 }
 
+/// Where the contents of a tag stand: in which of two files, from where, how many bytes.
+#[repr(C)]
+#[derive(Clone, Copy, Debug, PartialEq, Eq)]
+pub struct Setting {
+    pub refusal: u32,
+    pub place: u32,
+    pub file: u32,
+    pub start: u32,
+    pub size: u32,
+}
+
+/// How many bytes a rewritten settings file has.
+#[repr(C)]
+#[derive(Clone, Copy, Debug, PartialEq, Eq)]
+pub struct Rewritten {
+    pub refusal: u32,
+    pub place: u32,
+    pub written: u32,
+}
+
+/// How many bytes an archive has after a save.
+#[repr(C)]
+#[derive(Clone, Copy, Debug, PartialEq, Eq)]
+pub struct Saved {
+    pub refusal: u32,
+    pub place: u32,
+    pub written: u32,
+}
+
+/// Where the file of an edition stands in an archive.
+#[repr(C)]
+#[derive(Clone, Copy, Debug, PartialEq, Eq)]
+pub struct Edition {
+    pub refusal: u32,
+    pub place: u32,
+    pub start: u32,
+    pub size: u32,
+}
+
 /// What splitting local names answers: how many of each kind, and whether the cell-to-argument list is present.
 #[repr(C)]
 #[derive(Clone, Copy, Debug, PartialEq, Eq)]
@@ -199,6 +238,24 @@ unsafe extern "C" {
         sum_len: usize,
     ) -> Totalled;
     pub fn sill_print_totals(totals: *const u64, totals_len: usize, out: *mut u8, out_len: usize) -> Written;
+    pub fn sill_setting(own: *const u8, own_len: usize, fallback: *const u8, fallback_len: usize, tag: u32) -> Setting;
+    pub fn sill_rewrite_settings(
+        file: *const u8,
+        file_len: usize,
+        changes: *const u8,
+        changes_len: usize,
+        out: *mut u8,
+        out_len: usize,
+    ) -> Rewritten;
+    pub fn sill_save_edition(
+        archive: *const u8,
+        archive_len: usize,
+        file: *const u8,
+        file_len: usize,
+        out: *mut u8,
+        out_len: usize,
+    ) -> Saved;
+    pub fn sill_edition(archive: *const u8, archive_len: usize, edition: *const u8, edition_len: usize) -> Edition;
     pub fn sill_locate(
         table: *const u8,
         table_len: usize,

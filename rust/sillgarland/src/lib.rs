@@ -46,6 +46,7 @@ mod refusal;
 mod salvage;
 mod same;
 mod split;
+mod settings;
 mod starts;
 mod tables;
 mod totals;
@@ -66,6 +67,10 @@ pub use refusal::{Place, Refusal, Refused};
 pub use salvage::{Salvaged, salvage};
 pub use same::{Difference, Path, Step, What, each_difference, first_difference};
 pub use split::{Split, split};
+pub use settings::{
+    EDITION, FromFile, MOST_CONTENTS, Setting, edition, rewrite_settings, save_edition, setting, settings_field,
+    settings_fields,
+};
 pub use starts::Starts;
 pub use totals::{NotTotals, Totals};
 pub use value::{Children, Content, Text, Value, Wide};

@@ -16,11 +16,18 @@ const GROWTH: usize = 4;
 /// }
 /// # Ok::<(), sillgarland::Refused>(())
 /// ```
-#[derive(Debug, Default)]
+#[derive(Debug)]
 pub struct Reader {
     nodes: Vec<[u32; 5]>,
     entries: Vec<[u32; 2]>,
     slots: Vec<u32>,
+    nesting: u32,
+}
+
+impl Default for Reader {
+    fn default() -> Self {
+        Self::allowing(MOST_NESTING)
+    }
 }
 
 impl Reader {
@@ -29,10 +36,20 @@ impl Reader {
         Self::default()
     }
 
+    /// A reader that allows no deeper nesting; more than [`MOST_NESTING`] counts as that.
+    ///
+    /// ```
+    /// use sillgarland::{Reader, Refusal};
+    /// assert_eq!(Reader::allowing(0).read(b")\x01N").unwrap_err().refusal, Refusal::TooDeep);
+    /// ```
+    pub fn allowing(nesting: u32) -> Self {
+        Self { nodes: Vec::new(), entries: Vec::new(), slots: Vec::new(), nesting }
+    }
+
     /// Reads the value that the input begins with. Bytes after it are not looked at, but the whole input counts for
     /// [`Refusal::InputTooLong`].
     pub fn read<'a>(&'a mut self, input: &'a [u8]) -> Result<Golden<'a>, Refused> {
-        self.read_nested(input, MOST_NESTING)
+        self.read_nested(input, self.nesting)
     }
 
     /// As [`read`](Self::read), with less nesting allowed.

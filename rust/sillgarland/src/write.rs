@@ -1,5 +1,5 @@
 //! Writing a value back in its canonical form.
-use crate::{Golden, MOST_BYTES, MOST_NESTING, Place, Refusal, Refused};
+use crate::{Golden, MOST_BYTES, MOST_NESTING, Place, Refusal, Refused, Value};
 
 impl Golden<'_> {
     /// The value in its canonical form: integers `i` or `l` with the fewest digits, strings `u`, tuples `(`, no references
@@ -12,9 +12,13 @@ impl Golden<'_> {
     /// # Ok::<(), sillgarland::Refused>(())
     /// ```
     pub fn written(self) -> Result<Vec<u8>, Refused> {
+        self.written_from(0)
+    }
+
+    fn written_from(self, node: u32) -> Result<Vec<u8>, Refused> {
         let mut out = vec![0; MOST_BYTES.min(2 * self.consumed + 64)];
         loop {
-            let answer = self.try_write(&mut out);
+            let answer = self.try_write(node, &mut out);
             let place = |refusal| match refusal {
                 Refusal::NoRoom => Place::Room(answer.place),
                 Refusal::InputTooLong => Place::Byte(0),
@@ -33,7 +37,7 @@ impl Golden<'_> {
         }
     }
 
-    fn try_write(self, out: &mut [u8]) -> sillgarland_sys::Written {
+    fn try_write(self, node: u32, out: &mut [u8]) -> sillgarland_sys::Written {
         let Golden { input, nodes, entries, .. } = self;
         let (nodes, entries) = (nodes.as_flattened(), entries.as_flattened());
         // SAFETY: four slices of their own, each handed on by its pointer and its length.
@@ -47,12 +51,19 @@ impl Golden<'_> {
                 entries.len(),
                 self.used_nodes(),
                 self.entries.len() as u32,
-                0,
+                node,
                 MOST_NESTING,
                 out.as_mut_ptr(),
                 out.len(),
             )
         }
+    }
+}
+
+impl Value<'_> {
+    /// As [`Golden::written`], of this value alone.
+    pub fn written(self) -> Result<Vec<u8>, Refused> {
+        self.golden.written_from(self.node)
     }
 }
 

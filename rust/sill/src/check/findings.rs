@@ -1,5 +1,6 @@
 //! What is found in a file: one model, from which every form of output is made.
 use crate::files::{self, Ended};
+use crate::settings::Scope;
 use crate::words::{self, Within};
 use crate::{Outcome, looks};
 use sillgarland::{Code, Golden, Location, Locations, Reader, Records, Refused};
@@ -131,11 +132,13 @@ pub struct Manner {
     pub strict: bool,
     /// Whether the header of a .pyc is skipped.
     pub pyc: bool,
+    /// How deep values may be nested, and of which code objects there is anything to be said.
+    pub scope: Scope,
 }
 
 impl Manner {
     pub fn reader(&self) -> Reader {
-        Reader::new()
+        self.scope.reader()
     }
 }
 
@@ -161,7 +164,7 @@ impl Findings {
 
     fn add_value(&mut self, start: usize, golden: Golden, manner: &Manner, records: &mut Records) {
         self.values += 1;
-        for code in golden.code_objects() {
+        for code in golden.code_objects().filter(|code| manner.scope.covers(code)) {
             self.code_objects += 1;
             self.instructions += code.instructions();
             let last_row = self.add_lines(start, &code, manner, records);

@@ -1,4 +1,5 @@
 //! The pages of the commands that read.
+use super::settings::{DEFAULTS, SETTINGS_OF};
 use super::{HELP, Known, Page};
 
 const JSON: Known = Known { short: None, long: "json", word: None, text: "as JSON, for machines" };
@@ -84,6 +85,9 @@ junit has a testcase a file and the totals as properties; sarif a result for eac
 github a workflow command for each fault and a notice with the totals. These leave out what is no fault, but for local names out
 of order: junit has every finding in a testcase's text, sarif and github have them as warnings.
 
+With --settings a value nested deeper than the settings allow is refused, and of code objects only those are looked at, and
+counted, whose qualified names begin with the prefix.
+
 Files are read in parallel. Each reader holds one file at a time, its stores and the locations of one code object. A value may
 have 16 MiB, and a file as many values as there are, up to 1 GiB.",
     options: &[
@@ -108,6 +112,8 @@ have 16 MiB, and a file as many values as there are, up to 1 GiB.",
         GLOB,
         PYC,
         COLOR,
+        SETTINGS_OF,
+        DEFAULTS,
         HELP,
     ],
 };
@@ -212,12 +218,18 @@ row / 211, with the first eight instructions whose row or place is another, or w
 
 A or B may be - for standard input, or FILE#2 for the second value of FILE alone, unless there is a file of that very name. Two
 folders are compared file by file, by their paths below the folder: only differences are shown, then files that only one
-has, then the totals. Of a folder and a file, the file of that name in the folder is taken.",
+has, then the totals. Of a folder and a file, the file of that name in the folder is taken.
+
+With --settings, of two files, only code objects whose qualified names begin with the prefix are compared, in their order, or
+whole values where the prefix is empty; by value or by the bytes that they are written as, as the mode says. Where no name
+begins so, nothing is compared, and the exit status is 1.",
     options: &[
         Known { short: Some('a'), long: "all", word: None, text: "every difference, not only the first" },
         EXT,
         GLOB,
         PYC,
+        SETTINGS_OF,
+        DEFAULTS,
         HELP,
     ],
 };

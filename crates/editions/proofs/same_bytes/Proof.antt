@@ -1,0 +1,59 @@
+-- `editions::same_bytes` meets its contract, by the laws of this crate that it names.
+-- Assumes nothing.
+use lib.ListN.{length}
+use Prim.Native.Nat.{_-_}
+use Rattle.editions.proofs.Same.{longer, SameSoFar, same-start, same-other, same-more, same-all}
+use borrow.Author.Needs.{needs}
+use Rattle.editions.proofs.same_bytes.Statement.{statement}
+use Rattle.editions.proofs.same_bytes.Tie as tie
+use Rattle.editions.proofs.same_bytes.Reads as reads
+use Rattle.editions.proofs.same_bytes.Lts as lts
+
+abbrev Inv-loop : tie.InvT-loop
+Inv-loop a b i₀ i = SameSoFar a b i
+
+abbrev μ-loop : tie.MeasureT-loop
+μ-loop a b i₀ i = length a - i
+
+returns : tie.Need-returns Inv-loop μ-loop
+returns c = longer _ _ (c .if1 .taken)
+
+loop-holds : tie.Need-loop-holds Inv-loop μ-loop
+loop-holds c = same-start (c .if1 .left)
+
+shared-slice-read-if2 : tie.Need-shared-slice-read-if2 Inv-loop μ-loop
+shared-slice-read-if2 c = search needs
+
+shared-slice-read-if2-2 : tie.Need-shared-slice-read-if2-2 Inv-loop μ-loop
+shared-slice-read-if2-2 c = search needs
+
+returns-2 : tie.Need-returns-2 Inv-loop μ-loop
+returns-2 c = same-other (c .before .before .before .before .loop .inv) (c .before .before .before .loop-test .taken) (c .if2 .taken)
+
+add-i : tie.Need-add-i Inv-loop μ-loop
+add-i c = search needs
+
+loop-less : tie.Need-loop-less Inv-loop μ-loop
+loop-less c = search needs
+
+loop-again : tie.Need-loop-again Inv-loop μ-loop
+loop-again c = same-more (c .before .before .before .before .loop .inv) (c .before .before .before .loop-test .taken) (c .if2 .left)
+
+returns-3 : tie.Need-returns-3 Inv-loop μ-loop
+returns-3 c = same-all (c .before .loop .inv) (c .loop-test .left)
+
+pub same-bytes-spec : {M : Type 1} → statement M
+same-bytes-spec =
+    tie.close
+    (tie.spec
+    Inv-loop
+    μ-loop
+    returns
+    loop-holds
+    shared-slice-read-if2
+    shared-slice-read-if2-2
+    returns-2
+    add-i
+    loop-less
+    loop-again
+    returns-3)

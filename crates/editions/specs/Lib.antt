@@ -1,0 +1,4 @@
+pub mod Archive
+pub mod Answers
+pub mod Meeting
+pub mod Promised

@@ -1,0 +1,4 @@
+pub mod Setting
+pub mod Rewriting
+pub mod Putting
+pub mod Promised
