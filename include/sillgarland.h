@@ -262,6 +262,23 @@ sill_located_t sill_locate(const uint8_t *table, size_t table_len, int32_t first
 sill_located_t sill_locations(const uint8_t *table, size_t table_len, int32_t first_line, uint32_t count,
                               uint32_t *flat, size_t flat_len, sill_location_t *out, size_t out_len);
 
+/* A line table that comes by piece, cut anywhere: the start, any pieces, and the end give what sill_locate gives of the joined
+ * table. The state is SILL_STATE_NUMBERS numbers or more, all of a caller's that no other reading uses; what it holds is the
+ * port's own, and behind these numbers nothing is touched. The start zeroes the records; a piece writes those that its complete
+ * entries place and leaves the others as lent; the end reads missing bytes as 0 and writes the records that are left. So each call
+ * is lent the state and the records that the call before left. Until the end from_entries counts what complete entries placed, and
+ * whole is 0.
+ * A refusal zeroes all records. The state keeps 14 (pieces above 16 MiB together, at 0, before the piece's bytes are used), 17 (fewer
+ * records than count at any call, place is records_len / 4) and 18 (place as sill_locate's, in the call whose bytes first show it),
+ * and every later call repeats it: the one store that a refusal does not clear. A state of fewer numbers is 17 before all, place is
+ * state_len, and is cleared. 21 at 0: the reading has ended, or the numbers are no state that a call leaves (all zeros are none). */
+enum { SILL_STATE_NUMBERS = 40 };
+sill_located_t sill_locate_begin(int32_t first_line, uint32_t count, uint32_t *state, size_t state_len, uint32_t *records,
+                                 size_t records_len);
+sill_located_t sill_locate_piece(const uint8_t *bytes, size_t bytes_len, uint32_t *state, size_t state_len,
+                                 uint32_t *records, size_t records_len);
+sill_located_t sill_locate_end(uint32_t *state, size_t state_len, uint32_t *records, size_t records_len);
+
 typedef struct {
     uint32_t refusal; /* as sill_located_t's; 17's place is sources_len */
     uint32_t place;

@@ -217,6 +217,50 @@ static void test_totals(void)
 
 /* ---- line tables */
 
+/* Two entries, cut inside the first and the second: placed as they become complete; the end, then 21; a refusal that stays. */
+static void test_pieces(void)
+{
+    static const uint8_t table[] = {0xE9, 0x02, 0xE8, 0x02}, far[] = {0xF0, 0x00, 0x45, 0x00};
+    uint32_t state[41], records[13];
+    memset(state, 7, sizeof state);
+    memset(records, 7, sizeof records);
+    sill_located_t told = sill_locate_begin(10, 3, state, 41, records, 12);
+    expect(told.refusal == 0 && told.from_entries == 0 && records[0] == 0 && records[11] == 0 && records[12] == 0x07070707, "begun, all records zero");
+    told = sill_locate_piece(table, 1, state, 41, records, 12);
+    expect(told.refusal == 0 && told.from_entries == 0 && records[0] == 0, "nothing is complete");
+    told = sill_locate_piece(table + 1, 2, state, 41, records, 12);
+    expect(told.refusal == 0 && told.from_entries == 2 && told.whole == 0 && records[0] == 11 && records[4] == 11 && records[8] == 0, "the first entry is placed");
+    told = sill_locate_piece(NULL, 0, state, 41, records, 12);
+    expect(told.refusal == 0 && told.from_entries == 2 && records[4] == 11, "a piece without bytes");
+    uint32_t kept[41], held[12];
+    memcpy(kept, state, sizeof kept);
+    memcpy(held, records, sizeof held);
+    told = sill_locate_end(kept, 41, held, 12);
+    expect(told.refusal == 0 && told.from_entries == 3 && told.whole == 0 && held[8] == 11, "the missing byte is 0 at the end");
+    told = sill_locate_piece(table + 3, 1, state, 41, records, 12);
+    expect(told.refusal == 0 && told.from_entries == 3 && records[8] == 12, "the second entry is placed");
+    told = sill_locate_end(state, 41, records, 12);
+    expect(told.refusal == 0 && told.from_entries == 3 && told.whole == 1 && records[8] == 12 && state[40] == 0x07070707, "whole");
+    told = sill_locate_end(state, 41, records, 12);
+    expect(told.refusal == SILL_ALREADY_ENDED && told.place == 0 && records[0] == 0, "21 behind the end");
+    memset(state, 0, sizeof state);
+    told = sill_locate_piece(NULL, 0, state, 40, records, 12);
+    expect(told.refusal == SILL_ALREADY_ENDED && told.place == 0, "zeros are no state");
+    sill_locate_begin(2147483647, 2, state, 40, records, 12);
+    told = sill_locate_piece(far, 3, state, 40, records, 12);
+    expect(told.refusal == 0, "not lost: the end line's number goes on");
+    told = sill_locate_piece(far + 3, 1, state, 40, records, 12);
+    expect(told.refusal == SILL_NUMBER_RANGE && told.place == 0, "lost");
+    told = sill_locate_end(state, 40, records, 12);
+    expect(told.refusal == SILL_NUMBER_RANGE && told.place == 0, "and again");
+    told = sill_locate_begin(1, 4, state, 40, records, 12);
+    expect(told.refusal == SILL_NO_ROOM && told.place == 3, "records for three");
+    told = sill_locate_end(state, 40, records, 13);
+    expect(told.refusal == SILL_NO_ROOM && told.place == 3, "which sticks");
+    told = sill_locate_begin(1, 3, state, 39, records, 12);
+    expect(told.refusal == SILL_NO_ROOM && told.place == 39 && state[6] == 0, "a state of 39 numbers");
+}
+
 /* 600 instructions, three a row: bits and a total behind 512 of them; the count itself may be asked for, and no more. */
 static void test_starts(void)
 {
@@ -476,6 +520,7 @@ int main(void)
     test_settings();
     test_sources();
     test_starts();
+    test_pieces();
     test_split();
     test_small_stack();
     printf("%d passed, %d failed\n", passed, failed);

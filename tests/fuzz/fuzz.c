@@ -98,6 +98,30 @@ static void hold_sources(const uint8_t *table, size_t len, int32_t first, uint32
     }
 }
 
+/* A table in pieces of the lengths that its own bytes say: the end as of the joined table; then the bytes as a state. */
+static void hold_pieces(const uint8_t *table, size_t len, int32_t first, uint32_t count) {
+    static uint32_t state[SILL_STATE_NUMBERS];
+    size_t words = 4 * (size_t)count;
+    uint32_t *joined = lend_words(&records_a, words), *records = lend_words(&entries_a, words);
+    sill_located_t whole = sill_locate(table, len, first, count, joined, words);
+    hold(!sill_locate_begin(first, count, state, SILL_STATE_NUMBERS, records, words).refusal, "a beginning");
+    for (size_t at = 0; at < len;) {
+        size_t next = at + table[at] % 5;
+        if (next == at) sill_locate_piece(table, 0, state, SILL_STATE_NUMBERS, records, words), next++;
+        if (next > len) next = len;
+        sill_located_t told = sill_locate_piece(table + at, next - at, state, SILL_STATE_NUMBERS, records, words);
+        hold(!told.refusal || told.refusal == whole.refusal, "a piece refuses what the table does");
+        at = next;
+    }
+    sill_located_t told = sill_locate_end(state, SILL_STATE_NUMBERS, records, words);
+    hold(!memcmp(&told, &whole, sizeof told) && !memcmp(records, joined, 4 * words), "by piece as joined");
+    memset(state, 0, sizeof state);
+    memcpy(state, table, len < sizeof state ? len : sizeof state);
+    told = sill_locate_piece(table, len, state, SILL_STATE_NUMBERS, records, words);
+    sill_located_t again = sill_locate_piece(table, 0, state, SILL_STATE_NUMBERS, records, words);
+    hold(!told.refusal || (again.refusal == told.refusal && again.place == told.place), "a refusal of any state stays");
+}
+
 /* An index of the records' lines: each answer beside a count of its own; then the input's bytes as an index. */
 static void hold_starts(const uint8_t *data, size_t len, uint32_t count) {
     static uint64_t index[18], any[18];
@@ -353,6 +377,7 @@ static void others(const uint8_t *data, size_t len) {
     hold_join(data, len, sum % 2 ? (int32_t)first : 1, sum % 300);
     hold_starts(data, len, sum % 1000);
     hold_settings(data, len);
+    hold_pieces(data, len, sum % 2 ? (int32_t)first : 1, sum % 300);
     hold_exceptions(data, len);
     hostile_exceptions(data, len);
     hold_totals(data, len);

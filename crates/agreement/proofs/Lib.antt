@@ -8,6 +8,10 @@ pub mod Varintread
 pub mod Exceptiontable
 pub mod Localsplus
 pub mod Linetable
+pub mod Lostentry
+pub mod Piecestate
+pub mod Pieces
+pub mod Bypiece
 pub mod Rows
 pub mod Salvage
 pub mod Sources

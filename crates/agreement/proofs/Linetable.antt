@@ -1,5 +1,5 @@
 -- One answer for each call of the functions of `linetable`: answer and stores, by an equation each.
-use mathlib.Core.Path.{_≡_}
+use mathlib.Core.Path.{_≡_, refl}
 use Prim.Native.Nat.{_/_, min}
 use lib.ListN.{length}
 use base.Logic.{id⊢}
@@ -16,6 +16,9 @@ refuse-agrees κs a asked r r′ ws ws′ p p′ = (one (p .0) (p′ .0), λ i. 
 
 pub linetable-to-records-agrees : Agree linetable.linetable_to_records.ended linetable.linetable_to_records.Reads.Asked linetable.linetable_to_records.Reads.Learnt
 linetable-to-records-agrees κs a asked r r′ ws ws′ p p′ = (one (p .0) (p′ .0), λ i. (tt, (tt, (tt, (one (p .1) (p′ .1) i, tt)))))
+
+pub fill-agrees : Agree linetable.fill.ended linetable.fill.Reads.Asked linetable.fill.Reads.Learnt
+fill-agrees κs a asked r r′ ws ws′ p p′ = (refl, λ i. (one p p′ i, (tt, (tt, (tt, tt)))))
 
 -- The layer over a slice of `Location`. Its clauses, as they stand in the source, say a plain fact in every model.
 abbrev placed : Tells linetable.linetable_to_locations.ended

@@ -66,6 +66,15 @@ sill-save-edition-agrees κs a asked r r′ ws ws′ p p′ = (one (p .0) (p′ 
 pub sill-edition-agrees : Agree sillgarland.settingfiles.sill_edition.ended sillgarland.settingfiles.sill_edition.Reads.Asked sillgarland.settingfiles.sill_edition.Reads.Learnt
 sill-edition-agrees κs a asked r r′ ws ws′ p p′ = (one p p′, refl)
 
+pub sill-locate-begin-agrees : Agree sillgarland.piecewise.sill_locate_begin.ended sillgarland.piecewise.sill_locate_begin.Reads.Asked sillgarland.piecewise.sill_locate_begin.Reads.Learnt
+sill-locate-begin-agrees κs a asked r r′ ws ws′ p p′ = (one (p .answers) (p′ .answers), λ i. (tt, (tt, (one (p .states) (p′ .states) i, (one (p .fills) (p′ .fills) i, tt)))))
+
+pub sill-locate-piece-agrees : Agree sillgarland.piecewise.sill_locate_piece.ended sillgarland.piecewise.sill_locate_piece.Reads.Asked sillgarland.piecewise.sill_locate_piece.Reads.Learnt
+sill-locate-piece-agrees κs a asked r r′ ws ws′ p p′ = (one (p .answers) (p′ .answers), λ i. (tt, (one (p .states) (p′ .states) i, (one (p .fills) (p′ .fills) i, tt))))
+
+pub sill-locate-end-agrees : Agree sillgarland.piecewise.sill_locate_end.ended sillgarland.piecewise.sill_locate_end.Reads.Asked sillgarland.piecewise.sill_locate_end.Reads.Learnt
+sill-locate-end-agrees κs a asked r r′ ws ws′ p p′ = (one (p .answers) (p′ .answers), λ i. (one (p .states) (p′ .states) i, (one (p .fills) (p′ .fills) i, tt)))
+
 pub sill-salvage-agrees : Agree sillgarland.repairs.sill_salvage.ended sillgarland.repairs.sill_salvage.Reads.Asked sillgarland.repairs.sill_salvage.Reads.Learnt
 sill-salvage-agrees κs a asked r r′ ws ws′ p p′ = (one (p .0) (p′ .0), λ i. (tt, (tt, (tt, (one (p .1) (p′ .1) i, tt)))))
 

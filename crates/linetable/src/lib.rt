@@ -40,7 +40,7 @@ pub fn refuse(records: &mut [u32], number: u32, place: u32) -> Located
 }
 
 // Stores one location for n instructions, from the number at `from` on.
-fn fill(records: &mut [u32], from: usize, n: usize, location: Location)
+pub fn fill(records: &mut [u32], from: usize, n: usize, location: Location)
     requires { ⌜ from + 4 * n ≤ length (now records) ⌝ }
     ensures { λ _. ⌜ now (records .exit) ≡ sets (now (records .entry)) from (numbers (replicate n location)) ⌝ }
 {

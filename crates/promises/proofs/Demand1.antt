@@ -57,6 +57,8 @@ use Rattle.promises.proofs.LineEnds.{locate-ends, locations-end, salvag
 use Rattle.promises.proofs.Joins.{join-ends, line-ends}
 use Rattle.promises.proofs.Exceptions.{decoded-in-table, decoded-ends, encoded-in-table, encoded-ends}
 use Rattle.promises.proofs.Settings.{setting-ends, rewrite-ends, save-ends, edition-ends}
+use Rattle.promises.proofs.Piecewise.{pieced-ends}
+use Rattle.cuttings.proofs.Answered.{begin-ends, piece-ends, end-ends}
 use Rattle.promises.proofs.RowStarts.{index-ends, before-ends, at-ends}
 use Rattle.promises.proofs.Nightly.{totals-in-table, added-in-table, totalled-ends, printed-in-table, printed-ends}
 use Rattle.promises.proofs.Numbers.{Tabled, reading-in-table, leaf-in-table, located-in-table, located-at-in-table, TabledSplit, split-in-table, TabledStore, stored-in-table, signed-in-table, told-in-table, written-in-table}
@@ -141,6 +143,24 @@ demand-1 =
                 let room = length (now (a .1 .1 .1 .0)) / 4 in
                 locate-ends (located (now (a .0)) (firstLine (a .1 .0)) (a .1 .1 .0) room) (located-in-table (now (a .0)) (firstLine (a .1 .0)) (a .1 .1 .0) room)
                 (now (a .1 .1 .1 .0)) _ (c .result) (c .meets .0) (c .meets .1);
+          };
+      sill-locate-begin =
+          record {
+            asks-nothing = λ κs a. tt;
+            returns = λ M. sillgarland.piecewise.sill_locate_begin.Met.met;
+            ends = λ c. let a = c .args in pieced-ends (now (a .1 .1 .1 .0)) (begin-ends (firstLine (a .0)) (a .1 .0) (now (a .1 .1 .0)) (now (a .1 .1 .1 .0))) (c .meets .answers) (c .meets .fills);
+          };
+      sill-locate-piece =
+          record {
+            asks-nothing = λ κs a. tt;
+            returns = λ M. sillgarland.piecewise.sill_locate_piece.Met.met;
+            ends = λ c. let a = c .args in pieced-ends (now (a .1 .1 .0)) (piece-ends (now (a .0)) (now (a .1 .0)) (now (a .1 .1 .0))) (c .meets .answers) (c .meets .fills);
+          };
+      sill-locate-end =
+          record {
+            asks-nothing = λ κs a. tt;
+            returns = λ M. sillgarland.piecewise.sill_locate_end.Met.met;
+            ends = λ c. let a = c .args in pieced-ends (now (a .1 .0)) (end-ends (now (a .0)) (now (a .1 .0))) (c .meets .answers) (c .meets .fills);
           };
       sill-locate-node =
           record {

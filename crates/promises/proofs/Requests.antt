@@ -3,6 +3,7 @@ use Rattle.exceptiontable.proofs.Promised.{exception-tables-keep-their-promises
 use Rattle.totals.proofs.Promised.{totals-keep-their-promises}
 use Rattle.printedtotals.proofs.Promised.{printed-totals-keep-their-promises}
 use Rattle.salvage.proofs.Promised.{salvage-keeps-its-promises}
+use Rattle.cuttings.proofs.Promised.{pieces-keep-their-promises}
 use Rattle.join.proofs.Promised.{join-keeps-its-promises}
 use Rattle.join.proofs.Reading.{line-keeps-its-promises}
 use Rattle.starts.proofs.Promised.{starts-keep-their-promises}
@@ -17,6 +18,7 @@ pub requests-promised : Requests
 requests-promised =
     record {
       exception-tables = exception-tables-keep-their-promises;
+      pieces = pieces-keep-their-promises;
       repair = salvage-keeps-its-promises;
       join = join-keeps-its-promises;
       line = line-keeps-its-promises;

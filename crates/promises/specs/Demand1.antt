@@ -157,6 +157,16 @@ pub record Demand1 : Type 2 where
   pub sill-locate :
       EachCall sillgarland.locations.sill_locate.ended sillgarland.locations.sill_locate.Reads.Asked sillgarland.locations.sill_locate.Reads.Learnt sillgarland.locations.sill_locate.Statement.statement
       (λ c. LocateEnds (c .result) (Zero (now (c .args .1 .1 .1 .0)) (c .last .1 .1 .1 .0)))
+  -- K6's state is the one store lent for writing that a refusal does not clear: "After a refusal, later calls repeat it, and the records stay zero."
+  pub sill-locate-begin :
+      EachCall sillgarland.piecewise.sill_locate_begin.ended sillgarland.piecewise.sill_locate_begin.Reads.Asked sillgarland.piecewise.sill_locate_begin.Reads.Learnt sillgarland.piecewise.sill_locate_begin.Statement.statement
+      (λ c. LocateEnds (c .result) (Zero (now (c .args .1 .1 .1 .0)) (c .last .1 .1 .1 .0)))
+  pub sill-locate-piece :
+      EachCall sillgarland.piecewise.sill_locate_piece.ended sillgarland.piecewise.sill_locate_piece.Reads.Asked sillgarland.piecewise.sill_locate_piece.Reads.Learnt sillgarland.piecewise.sill_locate_piece.Statement.statement
+      (λ c. LocateEnds (c .result) (Zero (now (c .args .1 .1 .0)) (c .last .1 .1 .0)))
+  pub sill-locate-end :
+      EachCall sillgarland.piecewise.sill_locate_end.ended sillgarland.piecewise.sill_locate_end.Reads.Asked sillgarland.piecewise.sill_locate_end.Reads.Learnt sillgarland.piecewise.sill_locate_end.Statement.statement
+      (λ c. LocateEnds (c .result) (Zero (now (c .args .1 .0)) (c .last .1 .0)))
   pub sill-locate-node :
       EachCall sillgarland.leaves.sill_locate_node.ended sillgarland.leaves.sill_locate_node.Reads.Asked sillgarland.leaves.sill_locate_node.Reads.Learnt sillgarland.leaves.sill_locate_node.Statement.statement
       (λ c. LocateEnds (c .result) (Zero (now (c .args .1 .1 .1 .1 .1 .1 .0)) (c .last .1 .1 .1 .1 .1 .1 .0)))

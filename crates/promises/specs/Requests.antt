@@ -4,6 +4,7 @@ use Rattle.exceptiontable.specs.Promised.{Promised as ExceptionTablesPromised}
 use Rattle.totals.specs.Promised.{Promised as TotalsPromised}
 use Rattle.printedtotals.specs.Promised.{Promised as PrintedTotalsPromised}
 use Rattle.salvage.specs.Promised.{Promised as RepairPromised}
+use Rattle.cuttings.specs.Promised.{Promised as PiecesPromised}
 use Rattle.join.specs.Promised.{Promised as JoinPromised, LinePromised}
 use Rattle.taggedfields.specs.Promised.{Promised as FieldsPromised}
 use Rattle.settings.specs.Promised.{Promised as SettingsPromised}
@@ -15,6 +16,8 @@ use Rattle.starts.specs.Promised.{Promised as StartsPromised}
 pub record Requests : Type 0 where
   -- K1: "Write the same entries back in shortest form .. a written table reads as the same entries."
   pub exception-tables : ExceptionTablesPromised
+  -- K6: "Locations, totals and "whole" equal those of the joined table"
+  pub pieces : PiecesPromised
   -- K9: "a repair that takes a table, first line and instruction count and makes a whole one"
   pub repair : RepairPromised
   -- K12: "A followed by B must then give A's locations followed by B's, and be whole for a + b."

@@ -3,6 +3,7 @@ pub mod Locals
 pub mod Locations
 pub mod Salvage
 pub mod Sources
+pub mod Pieces
 pub mod Joins
 pub mod Leaves
 pub mod Values

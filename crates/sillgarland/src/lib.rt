@@ -7,6 +7,7 @@ pub mod locals;
 pub mod locations;
 pub mod nightly;
 pub mod origins;
+pub mod piecewise;
 pub mod repairs;
 pub mod rowstarts;
 pub mod settingfiles;

@@ -8,9 +8,9 @@ use sillgarland_sys::{Location, sill_locate, sill_locations, sill_sources};
 use std::hint::black_box;
 
 pub struct Table {
-    bytes: Vec<u8>,
-    first_line: i32,
-    count: u32,
+    pub bytes: Vec<u8>,
+    pub first_line: i32,
+    pub count: u32,
 }
 
 /// The line tables of the file that tools/cpython-tables writes.
@@ -45,6 +45,11 @@ pub fn run(of_cpython: Vec<Table>) {
     compare_sources("one made table, all codes", &[made(1_000_000, all_codes)]);
     compare_sources("one made table, code 14 for one instruction each", &[made(1_000_000, |_| (14, 1))]);
     compare_sources("one made table, code 10 for one instruction each", &[made(1_000_000, |_| (10, 1))]);
+}
+
+/// Tables of all codes, of a few and of many instructions.
+pub fn made_tables() -> [Table; 2] {
+    [1_000, 1_000_000].map(|count| made(count, all_codes))
 }
 
 /// All sixteen codes in turn, each for one to eight instructions.

@@ -7,6 +7,8 @@ mod floor;
 #[cfg(carried)]
 mod linetable;
 #[cfg(carried)]
+mod pieces;
+#[cfg(carried)]
 mod python;
 #[cfg(carried)]
 mod read;
@@ -48,6 +50,9 @@ fn main() -> ExitCode {
             if wanted("lines") {
                 linetable::run(tables);
             }
+            if wanted("pieces") {
+                pieces::run();
+            }
             if wanted("starts") {
                 starts::run();
             }
@@ -64,7 +69,7 @@ fn main() -> ExitCode {
 
 /// What is timed; all where none is named.
 #[cfg(carried)]
-const PARTS: [&str; 6] = ["varint", "exceptions", "lines", "starts", "read", "write"];
+const PARTS: [&str; 7] = ["varint", "exceptions", "lines", "pieces", "starts", "read", "write"];
 
 /// The modules of the file, as CPython marshals them.
 #[cfg(carried)]

@@ -6,6 +6,7 @@ use crate::lent::Part;
 use crate::linetable::{self, LineTables, Origin, locate};
 use crate::localsplus::{self, split};
 use crate::marshalled::{Marshalled, Module};
+use crate::pieces;
 #[cfg(carried)]
 use crate::read;
 use crate::salvage;
@@ -25,6 +26,7 @@ pub fn hold(text: &str) -> bool {
     let mut nodes = Tally::new("cpython positions by node");
     let mut repairs = Tally::new("cpython tables repaired, cut at every byte");
     let mut splits = Tally::new("cpython tables split and joined");
+    let mut bytes = Tally::new("cpython tables by piece");
     let mut origins = Tally::new("cpython sources");
     let mut module: Option<Module> = None;
     for row in text.lines().filter(|row| !row.starts_with('#')) {
@@ -35,6 +37,7 @@ pub fn hold(text: &str) -> bool {
                 salvage::hold_cuts(&mut repairs, &ask);
                 join::hold_splits(&mut splits, &ask);
                 sources::hold_positions(&mut origins, &ask, &said);
+                pieces::hold_bytes(&mut bytes, &ask);
                 if let Some(module) = &mut module {
                     let held = module.hold_lines(ask.first_line, ask.count, &as_all_shown(&ask, &said));
                     nodes.count("code objects, every position alike", held);
@@ -66,7 +69,7 @@ pub fn hold(text: &str) -> bool {
             positions.count("", Err(format!("malformed: {row}")));
         }
     }
-    [positions, cuts, repairs, splits, origins, names, handlers, values, nodes]
+    [positions, cuts, repairs, splits, bytes, origins, names, handlers, values, nodes]
         .map(Tally::finish)
         .iter()
         .all(|held| *held)

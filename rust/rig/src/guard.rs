@@ -3,6 +3,7 @@
 use crate::exceptions::{self, Exceptions};
 use crate::join::{self, Joins};
 use crate::memory::{Mode, lend};
+use crate::pieces::{self, Pieces};
 use crate::read::Reads;
 use crate::salvage::{self, Salvages};
 use crate::settings::{self, SettingsFiles};
@@ -39,6 +40,12 @@ pub fn hold() -> bool {
             let answer = sources::by_the_model(&asked);
             last_asked(&Sources::row(&asked, &answer));
             tally.count("sources of instructions", held::<Sources>(&asked, &answer));
+        }
+        for _ in 0..OF_EACH {
+            let asked = pieces::random_ask(&mut random);
+            let answer = pieces::by_the_model(&asked);
+            last_asked(&Pieces::row(&asked, &answer));
+            tally.count("line tables by piece", held::<Pieces>(&asked, &answer));
         }
         for _ in 0..OF_EACH / 10 {
             let asked = starts::random_ask(&mut random);

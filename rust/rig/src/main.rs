@@ -28,6 +28,7 @@ mod numbers;
 mod options;
 #[cfg(carried)]
 mod panics;
+mod pieces;
 mod plain;
 mod random;
 mod read;
@@ -66,6 +67,7 @@ use join::Joins;
 use linetable::LineTables;
 use localsplus::LocalNames;
 use options::{Options, Task, USAGE};
+use pieces::Pieces;
 use read::Reads;
 use salvage::Salvages;
 use settings::SettingsFiles;
@@ -115,6 +117,7 @@ fn run(options: Options) -> Result<bool, String> {
         Task::Settings => Ok(settings::hold(20, SETTINGS)),
         Task::Sources => Ok(sources::hold(17, SOURCES)),
         Task::Starts => Ok(starts::hold(19, STARTS)),
+        Task::Pieces => Ok(pieces::hold(20, PIECES)),
         Task::Totals => Ok(totals::hold(19, TOTALS)),
         Task::Equal => Ok(equal::hold(20, EQUAL)),
         Task::Extremes => Ok(extremes::hold()),
@@ -149,6 +152,9 @@ fn beside_the_rust(options: &Options) -> Result<bool, String> {
     println!("rig: built without the carried Rust, so nothing is compared with it: the fixed lists stand in");
     Ok(true)
 }
+
+/// How many random line tables by piece; a hundredth as many in every cutting.
+const PIECES: usize = 300_000;
 
 /// How many random indexes of row starts, and how many of any words.
 const STARTS: usize = 20_000;
@@ -188,6 +194,7 @@ fn without_the_rust() -> Result<bool, String> {
         salvage::hold(16, 400_000),
         sources::hold(17, SOURCES),
         starts::hold(19, STARTS),
+        pieces::hold(20, PIECES),
         exceptions::hold(18, EXCEPTIONS),
         join::hold(19, JOINS),
         settings::hold(20, SETTINGS),
@@ -218,6 +225,7 @@ fn replay_answers() -> bool {
         replay::<Joins>("vectors"),
         replay::<Starts>("vectors"),
         replay::<SettingsFiles>("vectors"),
+        replay::<Pieces>("vectors"),
         replay::<NightlyTotals>("vectors"),
     ]);
     all([fixed, vectors, written])

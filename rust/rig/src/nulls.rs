@@ -10,6 +10,7 @@ use sillgarland_sys::{sill_index_starts, sill_start_at, sill_starts_before};
 use sillgarland_sys::{sill_join, sill_line_after, sill_read_exceptions, sill_write_exceptions};
 use sillgarland_sys::{sill_leaf, sill_locate_node, sill_read, sill_salvage, sill_sources, sill_write};
 use sillgarland_sys::{sill_locate, sill_locations, sill_read_varint, sill_read_varint_with_start, sill_split};
+use sillgarland_sys::{sill_locate_begin, sill_locate_end, sill_locate_piece};
 use sillgarland_sys::{
     sill_write_signed_varint, sill_write_varint, sill_write_varint_be, sill_write_varint_with_start,
 };
@@ -69,6 +70,10 @@ pub fn hold() -> bool {
         count(&mut tally, "sill_join", sill_join(n, 0, 1, 0, n, 0, 1, 0, m, 0), both);
         let first_line = Line { refusal: refusals::ACCEPTED, place: 0, whole: 1, line: 1 };
         count(&mut tally, "sill_line_after", sill_line_after(n, 0, 1, 0), first_line);
+        let no_state = Located { refusal: refusals::NO_ROOM, place: 0, from_entries: 0, whole: 0 };
+        count(&mut tally, "sill_locate_begin", sill_locate_begin(1, 0, w, 0, w, 0), no_state);
+        count(&mut tally, "sill_locate_piece", sill_locate_piece(n, 0, w, 0, w, 0), no_state);
+        count(&mut tally, "sill_locate_end", sill_locate_end(w, 0, w, 0), no_state);
         let no_index = Indexed { refusal: refusals::NO_ROOM, place: 0, starts: 0 };
         count(&mut tally, "sill_index_starts", sill_index_starts(null(), 0, 0, null_mut(), 0), no_index);
         let unanswered = Start { refusal: refusals::NO_ROOM, place: 0, value: 0 };

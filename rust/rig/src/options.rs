@@ -11,6 +11,7 @@ usage: rig [--tables FILE]                       compare with the carried Rust, 
        rig --exceptions                          exception tables: the model, and the carried Rust beside it, nothing else
        rig --joins [--tables FILE]               joins of line tables: the model, and the carried Rust beside it, nothing else
        rig --sources                             where instructions' places come from: the model, nothing else
+       rig --pieces                              line tables by piece: the model, and `sill_locate` of the joined table, nothing else
        rig --starts                              row starts: the model, nothing else
        rig --settings                            settings files and their editions: the model, nothing else
        rig --totals                              nightly totals: the model, nothing else
@@ -46,6 +47,7 @@ pub enum Task {
     Settings,
     Sources,
     Starts,
+    Pieces,
     Totals,
     Equal,
     Replay,
@@ -90,6 +92,7 @@ impl Options {
                 "--sources" => options.set(Task::Sources)?,
                 "--starts" => options.set(Task::Starts)?,
                 "--settings" => options.set(Task::Settings)?,
+                "--pieces" => options.set(Task::Pieces)?,
                 "--extremes" => options.set(Task::Extremes)?,
                 "--has-rust" => options.set(Task::HasRust)?,
                 "--exact" => options.set(Task::Exact)?,

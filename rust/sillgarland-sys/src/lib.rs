@@ -274,6 +274,23 @@ unsafe extern "C" {
         out: *mut Location,
         out_len: usize,
     ) -> Located;
+    pub fn sill_locate_begin(
+        first_line: i32,
+        count: u32,
+        state: *mut u32,
+        state_len: usize,
+        records: *mut u32,
+        records_len: usize,
+    ) -> Located;
+    pub fn sill_locate_piece(
+        bytes: *const u8,
+        bytes_len: usize,
+        state: *mut u32,
+        state_len: usize,
+        records: *mut u32,
+        records_len: usize,
+    ) -> Located;
+    pub fn sill_locate_end(state: *mut u32, state_len: usize, records: *mut u32, records_len: usize) -> Located;
     pub fn sill_sources(
         table: *const u8,
         table_len: usize,

@@ -1,0 +1,3 @@
+-- Laws on the end of a reading by piece, as its code takes it.
+pub mod Entering
+pub mod Ends

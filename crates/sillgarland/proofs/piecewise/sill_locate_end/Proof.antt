@@ -1,0 +1,26 @@
+-- `sillgarland::piecewise::sill_locate_end` meets its contract: the end's answer, handed on as numbers. Assumes nothing.
+use mathlib.Core.Path.{ap, _∙_}
+use borrow.Author.Needs.{needs}
+use Rattle.sillgarland.specs.Pieces.{piecedStruct}
+use Rattle.sillgarland.proofs.piecewise.sill_locate_end.Statement.{statement}
+use Rattle.sillgarland.proofs.piecewise.sill_locate_end.Tie as tie
+
+locate-end-requires : tie.Need-locate-end-requires
+locate-end-requires c κs = search needs
+
+pieced-numbers-requires : tie.Need-pieced-numbers-requires
+pieced-numbers-requires c κs = search needs
+
+same-length : tie.Need-same-length
+same-length c = search needs
+
+same-length-2 : tie.Need-same-length-2
+same-length-2 c = search needs
+
+returns : tie.Need-returns
+returns c =
+    let left = c .before .before .before .before .before .locate-end .ensures in
+    record { answers = c .pieced-numbers .ensures ∙ ap piecedStruct (left .answers); states = left .states; fills = left .fills }
+
+pub sill-locate-end-spec : {M : Type 1} → statement M
+sill-locate-end-spec = tie.close (tie.spec locate-end-requires pieced-numbers-requires same-length same-length-2 returns)
