@@ -13,6 +13,8 @@ mod python;
 #[cfg(carried)]
 mod read;
 #[cfg(carried)]
+mod settings;
+#[cfg(carried)]
 mod starts;
 #[cfg(carried)]
 mod timing;
@@ -56,6 +58,9 @@ fn main() -> ExitCode {
             if wanted("starts") {
                 starts::run();
             }
+            if wanted("settings") {
+                settings::run();
+            }
             if wanted("read") {
                 read::run(modules.clone());
             }
@@ -69,7 +74,7 @@ fn main() -> ExitCode {
 
 /// What is timed; all where none is named.
 #[cfg(carried)]
-const PARTS: [&str; 7] = ["varint", "exceptions", "lines", "pieces", "starts", "read", "write"];
+const PARTS: [&str; 8] = ["varint", "exceptions", "lines", "pieces", "starts", "settings", "read", "write"];
 
 /// The modules of the file, as CPython marshals them.
 #[cfg(carried)]

@@ -159,7 +159,10 @@ fn on_the_floor(input: &[u8]) -> Stores {
     let port = Stores::just_enough(input);
     let mut stores = Stores::just_enough(input);
     floor::fill(input, &mut stores);
-    assert!(stores.nodes == port.nodes && stores.entries == port.entries && stores.slots == port.slots, "the floor differs");
+    assert!(
+        stores.nodes == port.nodes && stores.entries == port.entries && stores.slots == port.slots,
+        "the floor differs"
+    );
     stores
 }
 

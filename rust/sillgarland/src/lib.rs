@@ -46,8 +46,8 @@ mod reader;
 mod refusal;
 mod salvage;
 mod same;
-mod split;
 mod settings;
+mod split;
 mod starts;
 mod tables;
 mod totals;
@@ -68,11 +68,11 @@ pub use reader::Reader;
 pub use refusal::{Place, Refusal, Refused};
 pub use salvage::{Salvaged, salvage};
 pub use same::{Difference, Path, Step, What, each_difference, first_difference};
-pub use split::{Split, split};
 pub use settings::{
     EDITION, FromFile, MOST_CONTENTS, Setting, edition, rewrite_settings, save_edition, setting, settings_field,
     settings_fields,
 };
+pub use split::{Split, split};
 pub use starts::Starts;
 pub use totals::{NotTotals, Totals};
 pub use value::{Children, Content, Text, Value, Wide};
