@@ -1,5 +1,5 @@
 //! Which instructions of a code object are guarded, and by which handler: the entries of its exception table.
-use crate::{Code, Place, Refusal, Refused};
+use crate::{Code, Refused};
 
 /// An entry of an exception table. Instructions count from 0, cache units counted.
 #[derive(Clone, Copy, Debug, PartialEq, Eq, Hash)]
@@ -48,17 +48,14 @@ pub fn handlers(table: &[u8]) -> Result<Vec<Handler>, Refused> {
     // SAFETY: two slices of their own, each handed on by its pointer and its length.
     let answer =
         unsafe { sillgarland_sys::sill_read_exceptions(table.as_ptr(), table.len(), flat.as_mut_ptr(), flat.len()) };
-    Refused::unless_accepted(answer.refusal, |refusal| match refusal {
-        Refusal::NoRoom => Place::Room(answer.place),
-        _ => Place::Byte(answer.place as usize),
-    })?;
+    Refused::unless_accepted_in_bytes(answer.refusal, answer.place)?;
     entries.truncate(answer.count as usize);
     let handler =
         |[start, length, target, depth, last]: [u32; 5]| Handler { start, length, target, depth, lasti: last == 1 };
     Ok(entries.into_iter().map(handler).collect())
 }
 
-/// Handlers as an exception table, in the shortest form. [`Refusal::NumberRange`] where a depth is 2^31 or more.
+/// Handlers as an exception table, in the shortest form. [`Refusal::NumberRange`](crate::Refusal::NumberRange) where a depth is 2^31 or more.
 pub fn exception_table(handlers: &[Handler]) -> Result<Vec<u8>, Refused> {
     let numbers = |h: &Handler| [h.start, h.length, h.target, h.depth, u32::from(h.lasti)];
     let entries: Vec<[u32; 5]> = handlers.iter().map(numbers).collect();
@@ -66,10 +63,7 @@ pub fn exception_table(handlers: &[Handler]) -> Result<Vec<u8>, Refused> {
     // SAFETY: two slices of their own, each handed on by its pointer and its length.
     let answer =
         unsafe { sillgarland_sys::sill_write_exceptions(flat.as_ptr(), flat.len(), out.as_mut_ptr(), out.len()) };
-    Refused::unless_accepted(answer.refusal, |refusal| match refusal {
-        Refusal::NoRoom => Place::Room(answer.place),
-        _ => Place::Byte(answer.place as usize),
-    })?;
+    Refused::unless_accepted_in_bytes(answer.refusal, answer.place)?;
     out.truncate(answer.written as usize);
     Ok(out)
 }
@@ -89,6 +83,7 @@ mod tests {
     use super::*;
     use crate::Reader;
     use crate::code::tests::put_code;
+    use crate::{Place, Refusal};
 
     fn handler(start: u32, length: u32, target: u32, depth: u32, lasti: bool) -> Handler {
         Handler { start, length, target, depth, lasti }

@@ -1,5 +1,5 @@
 //! Joining line tables: one whole table behind another that leaves its first line.
-use crate::{MOST_BYTES, Place, Refusal, Refused};
+use crate::{MOST_BYTES, Place, Refused};
 
 /// A line table that stands for so many instructions from a first line.
 #[derive(Clone, Copy, Debug, PartialEq, Eq)]
@@ -41,8 +41,8 @@ pub struct LineAfter {
     pub line: i32,
 }
 
-/// Puts one table behind another. [`Refusal::NotJoined`] where one is not whole (one that is refused is not), or the first does
-/// not leave the second's first line; [`Refusal::InputTooLong`] where they are above [`MOST_BYTES`] together.
+/// Puts one table behind another. [`Refusal::NotJoined`](crate::Refusal::NotJoined) where one is not whole (one that is refused is not), or the first does
+/// not leave the second's first line; [`Refusal::InputTooLong`](crate::Refusal::InputTooLong) where they are above [`MOST_BYTES`] together.
 ///
 /// ```
 /// use sillgarland::{Block, join};
@@ -69,10 +69,7 @@ pub fn join(a: Block, b: Block) -> Result<Joined, Refused> {
             out.len(),
         )
     };
-    Refused::unless_accepted(answer.refusal, |refusal| match refusal {
-        Refusal::NoRoom => Place::Room(answer.place),
-        _ => Place::Byte(answer.place as usize),
-    })?;
+    Refused::unless_accepted_in_bytes(answer.refusal, answer.place)?;
     out.truncate(answer.written as usize);
     Ok(Joined { table: out, first_line: a.first_line, count: answer.count, line: answer.line })
 }
@@ -98,6 +95,7 @@ pub fn line_after(block: Block) -> Result<LineAfter, Refused> {
 #[cfg(test)]
 mod tests {
     use super::*;
+    use crate::Refusal;
 
     fn block(table: &[u8], first_line: i32, count: u32) -> Block<'_> {
         Block { table, first_line, count }

@@ -132,6 +132,14 @@ impl Refused {
         }
     }
 
+    /// Where a place is a byte of the input, and of [`Refusal::NoRoom`] the room that there is.
+    pub(crate) fn unless_accepted_in_bytes(number: u32, place: u32) -> Result<(), Self> {
+        Self::unless_accepted(number, |refusal| match refusal {
+            Refusal::NoRoom => Place::Room(place),
+            _ => Place::Byte(place as usize),
+        })
+    }
+
     /// The same refusal in an input that has `before` more bytes at its front.
     pub fn after(self, before: usize) -> Self {
         match self.place {

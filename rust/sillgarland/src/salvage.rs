@@ -1,5 +1,5 @@
 //! The repair of a line table that is cut or damaged: a whole one, and a list of what was changed.
-use crate::{Code, MOST_BYTES, Place, Refusal, Refused};
+use crate::{Code, MOST_BYTES, Refused};
 
 /// A repaired line table, and what was changed to make it whole.
 ///
@@ -34,10 +34,7 @@ pub fn salvage(table: &[u8], first_line: i32, count: u32) -> Result<Salvaged, Re
     let answer = unsafe {
         sillgarland_sys::sill_salvage(table.as_ptr(), table.len(), first_line, count, out.as_mut_ptr(), out.len())
     };
-    Refused::unless_accepted(answer.refusal, |refusal| match refusal {
-        Refusal::NoRoom => Place::Room(answer.place),
-        _ => Place::Byte(answer.place as usize),
-    })?;
+    Refused::unless_accepted_in_bytes(answer.refusal, answer.place)?;
     out.truncate(answer.written as usize);
     Ok(Salvaged {
         table: out,
@@ -58,6 +55,7 @@ impl Code<'_> {
 #[cfg(test)]
 mod tests {
     use super::*;
+    use crate::{Place, Refusal};
 
     fn list(table: &[u8], first_line: i32, count: u32) -> (Vec<u8>, usize, usize, bool, usize) {
         let Salvaged { table, kept, dropped, shortened, covered } = salvage(table, first_line, count).unwrap();

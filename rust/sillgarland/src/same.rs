@@ -195,20 +195,12 @@ fn differences_at(left: Value, right: Value) -> impl Iterator<Item = What> {
 
 fn difference_at(left: Value, right: Value) -> Option<What> {
     use Content::*;
-    let same = match (left.content(), right.content()) {
-        (None, None) | (Stop, Stop) | (Ellipsis, Ellipsis) => true,
-        (Truth(l), Truth(r)) => l == r,
-        (Whole(l), Whole(r)) => l == r,
-        (Wide(l), Wide(r)) => l == r,
-        (Float(l), Float(r)) => l.to_bits() == r.to_bits(),
-        (Complex(l, m), Complex(r, s)) => [l.to_bits(), m.to_bits()] == [r.to_bits(), s.to_bits()],
-        (Bytes(l), Bytes(r)) => l == r,
-        (Text(l), Text(r)) => l == r,
-        (Tuple(l), Tuple(r)) | (List(l), List(r)) | (Set(l), Set(r)) => return difference_in_count(l, r),
-        (FrozenSet(l), FrozenSet(r)) | (Slice(l), Slice(r)) | (Dict(l), Dict(r)) => return difference_in_count(l, r),
-        _ => false,
-    };
-    if same { Option::None } else { Some(What::Content) }
+    match (left.content(), right.content()) {
+        (Tuple(l), Tuple(r)) | (List(l), List(r)) | (Set(l), Set(r)) => difference_in_count(l, r),
+        (FrozenSet(l), FrozenSet(r)) | (Slice(l), Slice(r)) | (Dict(l), Dict(r)) => difference_in_count(l, r),
+        (l, r) if l == r => Option::None,
+        _ => Some(What::Content),
+    }
 }
 
 fn difference_in_count(left: Children, right: Children) -> Option<What> {

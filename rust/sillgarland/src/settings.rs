@@ -1,5 +1,5 @@
 //! Settings files of tagged fields, and archives of their editions.
-use crate::{Place, Refusal, Refused};
+use crate::Refused;
 use std::ops::Range;
 
 /// The tag of a file's edition.
@@ -26,15 +26,8 @@ pub struct Setting<'a> {
     pub from: FromFile,
 }
 
-fn unless_accepted(refusal: u32, place: u32) -> Result<(), Refused> {
-    Refused::unless_accepted(refusal, |refusal| match refusal {
-        Refusal::NoRoom => Place::Room(place),
-        _ => Place::Byte(place as usize),
-    })
-}
-
 /// The contents of a tag, from the override if it has the tag, else from the default. Both files are tested whole first, and a place
-/// counts from the start of the file that has the fault. [`Refusal::NoSuchField`] where neither has the tag.
+/// counts from the start of the file that has the fault. [`Refusal::NoSuchField`](crate::Refusal::NoSuchField) where neither has the tag.
 ///
 /// ```
 /// use sillgarland::{FromFile, setting, settings_field};
@@ -50,7 +43,7 @@ pub fn setting<'a>(own: &'a [u8], default: &'a [u8], tag: u8) -> Result<Setting<
     let answer = unsafe {
         sillgarland_sys::sill_setting(own.as_ptr(), own.len(), default.as_ptr(), default.len(), u32::from(tag))
     };
-    unless_accepted(answer.refusal, answer.place)?;
+    Refused::unless_accepted_in_bytes(answer.refusal, answer.place)?;
     let (file, from) = if answer.file == 0 { (own, FromFile::Override) } else { (default, FromFile::Default) };
     Ok(Setting { contents: &file[part(answer.start, answer.size)], from })
 }
@@ -94,12 +87,12 @@ pub fn rewrite_settings(file: &[u8], changes: &[u8]) -> Result<Vec<u8>, Refused>
             out.len(),
         )
     };
-    unless_accepted(answer.refusal, answer.place)?;
+    Refused::unless_accepted_in_bytes(answer.refusal, answer.place)?;
     out.truncate(answer.written as usize);
     Ok(out)
 }
 
-/// An archive with one more file behind those that it has; a new archive is no bytes. [`Refusal::NoSuchField`] where the file has no
+/// An archive with one more file behind those that it has; a new archive is no bytes. [`Refusal::NoSuchField`](crate::Refusal::NoSuchField) where the file has no
 /// edition, or one that is saved already.
 ///
 /// ```
@@ -122,17 +115,17 @@ pub fn save_edition(archive: &[u8], file: &[u8]) -> Result<Vec<u8>, Refused> {
             out.len(),
         )
     };
-    unless_accepted(answer.refusal, answer.place)?;
+    Refused::unless_accepted_in_bytes(answer.refusal, answer.place)?;
     out.truncate(answer.written as usize);
     Ok(out)
 }
 
-/// The saved file of an edition, byte for byte, as a part of the archive. [`Refusal::NoSuchField`] where none is saved.
+/// The saved file of an edition, byte for byte, as a part of the archive. [`Refusal::NoSuchField`](crate::Refusal::NoSuchField) where none is saved.
 pub fn edition<'a>(archive: &'a [u8], edition: &[u8]) -> Result<&'a [u8], Refused> {
     // SAFETY: two slices, handed on by their pointers and lengths.
     let answer =
         unsafe { sillgarland_sys::sill_edition(archive.as_ptr(), archive.len(), edition.as_ptr(), edition.len()) };
-    unless_accepted(answer.refusal, answer.place)?;
+    Refused::unless_accepted_in_bytes(answer.refusal, answer.place)?;
     Ok(&archive[part(answer.start, answer.size)])
 }
 
@@ -158,6 +151,7 @@ pub fn settings_fields(file: &[u8]) -> Result<Vec<(u8, &[u8])>, Refused> {
 #[cfg(test)]
 mod tests {
     use super::*;
+    use crate::{Place, Refusal};
 
     fn refused(outcome: Result<impl std::fmt::Debug, Refused>) -> (Refusal, Place) {
         let refused = outcome.unwrap_err();

@@ -1,5 +1,5 @@
 //! The local names of a code object by their kinds: arguments and locals, cells, free variables.
-use crate::{Code, Place, Refusal, Refused};
+use crate::{Code, Refused};
 use sillgarland_sys::refusals::NOTHING;
 
 /// Positions in the list of local names, by kind. A name may be of several kinds.
@@ -18,8 +18,8 @@ pub struct Split {
 }
 
 /// Splits names by their kinds: a byte for each, Local 0x20, Cell 0x40, Free 0x80. Arguments, keyword-only arguments and flags say
-/// which positions are arguments. [`Refusal::InvalidBytecode`] where there are not as many kinds as names, and
-/// [`Refusal::NumberRange`] where the arguments add up to 2^32 or more.
+/// which positions are arguments. [`Refusal::InvalidBytecode`](crate::Refusal::InvalidBytecode) where there are not as many kinds as names, and
+/// [`Refusal::NumberRange`](crate::Refusal::NumberRange) where the arguments add up to 2^32 or more.
 ///
 /// ```
 /// let split = sillgarland::split(&[0x20, 0x60, 0x80], 3, 2, 0, 0)?;
@@ -52,10 +52,7 @@ pub fn split(kinds: &[u8], names: u32, args: u32, kwonly: u32, flags: u32) -> Re
             cell_args.len(),
         )
     };
-    Refused::unless_accepted(answer.refusal, |refusal| match refusal {
-        Refusal::NoRoom => Place::Room(answer.place),
-        _ => Place::Byte(answer.place as usize),
-    })?;
+    Refused::unless_accepted_in_bytes(answer.refusal, answer.place)?;
     let some = |numbers: Vec<u32>| numbers.into_iter().map(|n| (n != NOTHING).then_some(n)).collect();
     locals.truncate(answer.locals as usize);
     frees.truncate(answer.frees as usize);
@@ -78,6 +75,7 @@ impl Code<'_> {
 mod tests {
     use super::*;
     use crate::Reader;
+    use crate::Refusal;
     use crate::code::tests::put_code;
 
     #[test]

@@ -1,5 +1,5 @@
 //! Numbers of six bits a byte, 0x40 meaning more: little-endian as in line tables, big-endian as in exception tables.
-use crate::{Place, Refusal, Refused};
+use crate::{Place, Refused};
 use sillgarland_sys::{Found, Written};
 
 /// The bytes that a number of 32 bits takes at most.
@@ -19,7 +19,7 @@ pub fn varint(value: u32) -> Vec<u8> {
     always_fits(written(|out| unsafe { sillgarland_sys::sill_write_varint(out.as_mut_ptr(), out.len(), value) }))
 }
 
-/// A signed number as a line table has it: twice its size, and one more where it is below 0. [`Refusal::NumberRange`] for the
+/// A signed number as a line table has it: twice its size, and one more where it is below 0. [`Refusal::NumberRange`](crate::Refusal::NumberRange) for the
 /// smallest 32-bit number, whose size has 33 bits.
 pub fn signed_varint(value: i32) -> Result<Vec<u8>, Refused> {
     // SAFETY: the slice is handed on by its pointer and its length.
@@ -64,10 +64,7 @@ pub fn read_varint_with_start(data: &[u8], at: usize) -> Result<Option<(u32, usi
 fn written(write: impl FnOnce(&mut [u8]) -> Written) -> Result<Vec<u8>, Refused> {
     let mut out = vec![0; LONGEST];
     let answer = write(&mut out);
-    Refused::unless_accepted(answer.refusal, |refusal| match refusal {
-        Refusal::NoRoom => Place::Room(answer.place),
-        _ => Place::Byte(answer.place as usize),
-    })?;
+    Refused::unless_accepted_in_bytes(answer.refusal, answer.place)?;
     out.truncate(answer.written as usize);
     Ok(out)
 }
@@ -84,6 +81,7 @@ fn found(answer: Found) -> Result<Option<(u32, usize)>, Refused> {
 #[cfg(test)]
 mod tests {
     use super::*;
+    use crate::Refusal;
 
     #[test]
     fn what_is_written_reads_back() {
