@@ -13,7 +13,8 @@
  * - A store lent for writing (a pointer without const) overlaps no other argument. The function may read and write all of it.
  * - refusal is 0 where the call was accepted; then place is 0, and what was written is followed by zeros to the store's end.
  *   Otherwise refusal is one of the numbers below, and place says where, as told beside the field; every other field is 0,
- *   and so is every element of every store lent for writing.
+ *   and so is every element of every store lent for writing, but for the state of a line table by piece, which
+ *   keeps the refusal.
  * - A truth is 0 or 1. A field named pad is 0.
  * - The functions below need less than 1 KiB of stack, those of settings files less than 4 KiB; of sill_read and sill_write see
  *   there.
