@@ -66,7 +66,13 @@ same-length-2 : tie.Need-same-length-2
 same-length-2 c = search needs
 
 returns-2 : tie.Need-returns-2
-returns-2 c = save-archive-fault (c .before .before .before .before .before .before .before .before .before .before .before .before .before .before .before .before .args .archive .now) (c .before .before .before .before .before .before .before .before .before .before .before .before .before .before .before .before .args .file .now) (length (c .before .before .before .before .before .before .before .before .before .before .before .before .before .before .before .before .args .out .now)) (c .before .before .before .before .before .before .before .before .if1 .left) _ (c .before .before .before .search .ensures) (c .before .if2 .taken) (c .refused2 .ensures) (c .before .before .before .before .before .before .before .before .before .before .before .clear-bytes .ensures)
+returns-2 c =
+    let at-search = c .before .before .before in
+    let at-if1 = at-search .before .before .before .before .before in
+    let at-clear-bytes = at-if1 .before .before .before in
+    let at-args = at-clear-bytes .before .before .before .before .before in
+    let a = at-args .args in
+    save-archive-fault (a .archive .now) (a .file .now) (length (a .out .now)) (at-if1 .if1 .left) _ (at-search .search .ensures) (c .before .if2 .taken) (c .refused2 .ensures) (at-clear-bytes .clear-bytes .ensures)
 
 refused-requires-3 : tie.Need-refused-requires-3
 refused-requires-3 c κs = search needs
@@ -75,7 +81,15 @@ same-length-3 : tie.Need-same-length-3
 same-length-3 c = search needs
 
 returns-3 : tie.Need-returns-3
-returns-3 c = save-file-fault (c .before .before .before .before .before .before .before .before .before .before .before .before .before .before .before .before .before .before .args .archive .now) (c .before .before .before .before .before .before .before .before .before .before .before .before .before .before .before .before .before .before .args .file .now) (length (c .before .before .before .before .before .before .before .before .before .before .before .before .before .before .before .before .before .before .args .out .now)) (c .before .before .before .before .before .before .before .before .before .before .if1 .left) _ (c .before .before .before .before .before .search .ensures) (c .before .before .before .if2 .left) (c .before .before .before .before .before .before .before .before .before .look .ensures) (c .before .if3 .taken) (c .refused3 .ensures) (c .before .before .before .before .before .before .before .before .before .before .before .before .before .clear-bytes .ensures)
+returns-3 c =
+    let at-if2 = c .before .before .before in
+    let at-search = at-if2 .before .before in
+    let at-look = at-search .before .before .before .before in
+    let at-if1 = at-look .before in
+    let at-clear-bytes = at-if1 .before .before .before in
+    let at-args = at-clear-bytes .before .before .before .before .before in
+    let a = at-args .args in
+    save-file-fault (a .archive .now) (a .file .now) (length (a .out .now)) (at-if1 .if1 .left) _ (at-search .search .ensures) (at-if2 .if2 .left) (at-look .look .ensures) (c .before .if3 .taken) (c .refused3 .ensures) (at-clear-bytes .clear-bytes .ensures)
 
 refused-requires-4 : tie.Need-refused-requires-4
 refused-requires-4 c κs = search needs
@@ -84,7 +98,16 @@ same-length-4 : tie.Need-same-length-4
 same-length-4 c = search needs
 
 returns-4 : tie.Need-returns-4
-returns-4 c = save-missing (c .before .before .before .before .before .before .before .before .before .before .before .before .before .before .before .before .before .before .before .before .args .archive .now) (c .before .before .before .before .before .before .before .before .before .before .before .before .before .before .before .before .before .before .before .before .args .file .now) (length (c .before .before .before .before .before .before .before .before .before .before .before .before .before .before .before .before .before .before .before .before .args .out .now)) (c .before .before .before .before .before .before .before .before .before .before .before .before .if1 .left) _ (c .before .before .before .before .before .before .before .search .ensures) (c .before .before .before .before .before .if2 .left) (c .before .before .before .before .before .before .before .before .before .before .before .look .ensures) (c .before .before .before .if3 .left) (c .before .if4 .taken) (c .refused4 .ensures) (c .before .before .before .before .before .before .before .before .before .before .before .before .before .before .before .clear-bytes .ensures)
+returns-4 c =
+    let at-if3 = c .before .before .before in
+    let at-if2 = at-if3 .before .before in
+    let at-search = at-if2 .before .before in
+    let at-look = at-search .before .before .before .before in
+    let at-if1 = at-look .before in
+    let at-clear-bytes = at-if1 .before .before .before in
+    let at-args = at-clear-bytes .before .before .before .before .before in
+    let a = at-args .args in
+    save-missing (a .archive .now) (a .file .now) (length (a .out .now)) (at-if1 .if1 .left) _ (at-search .search .ensures) (at-if2 .if2 .left) (at-look .look .ensures) (at-if3 .if3 .left) (c .before .if4 .taken) (c .refused4 .ensures) (at-clear-bytes .clear-bytes .ensures)
 
 refused-requires-5 : tie.Need-refused-requires-5
 refused-requires-5 c κs = search needs
@@ -93,7 +116,17 @@ same-length-5 : tie.Need-same-length-5
 same-length-5 c = c .before .before .before .before .before .before .before .before .before .before .before .before .before .before .before .before .before .clear-bytes .kept .0
 
 returns-5 : tie.Need-returns-5
-returns-5 c = save-already (c .before .before .before .before .before .before .before .before .before .before .before .before .before .before .before .before .before .before .before .before .before .before .args .archive .now) (c .before .before .before .before .before .before .before .before .before .before .before .before .before .before .before .before .before .before .before .before .before .before .args .file .now) (length (c .before .before .before .before .before .before .before .before .before .before .before .before .before .before .before .before .before .before .before .before .before .before .args .out .now)) (c .before .before .before .before .before .before .before .before .before .before .before .before .before .before .if1 .left) _ (c .before .before .before .before .before .before .before .before .before .search .ensures) (c .before .before .before .before .before .before .before .if2 .left) (c .before .before .before .before .before .before .before .before .before .before .before .before .before .look .ensures) (c .before .before .before .before .before .if3 .left) (c .before .before .before .if4 .left) refl (c .before .if5 .taken) (c .refused5 .ensures) (c .before .before .before .before .before .before .before .before .before .before .before .before .before .before .before .before .before .clear-bytes .ensures)
+returns-5 c =
+    let at-if4 = c .before .before .before in
+    let at-if3 = at-if4 .before .before in
+    let at-if2 = at-if3 .before .before in
+    let at-search = at-if2 .before .before in
+    let at-look = at-search .before .before .before .before in
+    let at-if1 = at-look .before in
+    let at-clear-bytes = at-if1 .before .before .before in
+    let at-args = at-clear-bytes .before .before .before .before .before in
+    let a = at-args .args in
+    save-already (a .archive .now) (a .file .now) (length (a .out .now)) (at-if1 .if1 .left) _ (at-search .search .ensures) (at-if2 .if2 .left) (at-look .look .ensures) (at-if3 .if3 .left) (at-if4 .if4 .left) refl (c .before .if5 .taken) (c .refused5 .ensures) (at-clear-bytes .clear-bytes .ensures)
 
 put-new-requires : tie.Need-put-new-requires
 put-new-requires c κs = (c .before .before .before .before .before .before .before .before .before .before .before .before .before .before .if1 .left, c .before .before .before .before .before .before .before .before .before .before .before .before .before .before .before .before .before .clear-bytes .ensures ∙ ap zeros (sym (c .before .before .before .before .before .before .before .before .before .before .before .before .before .before .before .before .before .clear-bytes .kept .0)))
@@ -102,7 +135,19 @@ same-length-6 : tie.Need-same-length-6
 same-length-6 c = c .before .before .put-new .kept .1 .1 .0 ∙ c .before .before .before .before .before .before .before .before .before .before .before .before .before .before .before .before .before .before .before .before .clear-bytes .kept .0
 
 returns-6 : tie.Need-returns-6
-returns-6 c = save-new (c .before .before .before .before .before .before .before .before .before .before .before .before .before .before .before .before .before .before .before .before .before .before .before .before .before .args .archive .now) (c .before .before .before .before .before .before .before .before .before .before .before .before .before .before .before .before .before .before .before .before .before .before .before .before .before .args .file .now) (length (c .before .before .before .before .before .before .before .before .before .before .before .before .before .before .before .before .before .before .before .before .before .before .before .before .before .args .out .now)) (c .before .before .before .before .before .before .before .before .before .before .before .before .before .before .before .before .before .if1 .left) _ (c .before .before .before .before .before .before .before .before .before .before .before .before .search .ensures) (c .before .before .before .before .before .before .before .before .before .before .if2 .left) (c .before .before .before .before .before .before .before .before .before .before .before .before .before .before .before .before .look .ensures) (c .before .before .before .before .before .before .before .before .if3 .left) (c .before .before .before .before .before .before .if4 .left) refl (c .before .before .before .before .if5 .left) (c .before .before .put-new .ensures ∙ ap (inRoom (c .before .before .before .before .before .before .before .before .before .before .before .before .before .before .before .before .before .before .before .before .before .before .before .before .before .args .archive .now ++ recordOf (c .before .before .before .before .before .before .before .before .before .before .before .before .before .before .before .before .before .before .before .before .before .before .before .before .before .args .file .now))) (c .before .before .before .before .before .before .before .before .before .before .before .before .before .before .before .before .before .before .before .before .clear-bytes .kept .0))
+returns-6 c =
+    let at-put-new = c .before .before in
+    let at-if5 = at-put-new .before .before in
+    let at-if4 = at-if5 .before .before in
+    let at-if3 = at-if4 .before .before in
+    let at-if2 = at-if3 .before .before in
+    let at-search = at-if2 .before .before in
+    let at-look = at-search .before .before .before .before in
+    let at-if1 = at-look .before in
+    let at-clear-bytes = at-if1 .before .before .before in
+    let at-args = at-clear-bytes .before .before .before .before .before in
+    let a = at-args .args in
+    save-new (a .archive .now) (a .file .now) (length (a .out .now)) (at-if1 .if1 .left) _ (at-search .search .ensures) (at-if2 .if2 .left) (at-look .look .ensures) (at-if3 .if3 .left) (at-if4 .if4 .left) refl (at-if5 .if5 .left) (at-put-new .put-new .ensures ∙ ap (inRoom (a .archive .now ++ recordOf (a .file .now))) (at-clear-bytes .clear-bytes .kept .0))
 
 pub save-edition-spec : {M : Type 1} → statement M
 save-edition-spec =

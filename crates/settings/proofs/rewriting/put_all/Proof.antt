@@ -37,7 +37,15 @@ same-length c = c .before .before .before .clear-bytes .kept .0 ∙ (c .before .
     ∙ c .before .before .before .before .before .before .before .before .before .before .before .before .put-file .kept .1 .1 .1 .1 .0)
 
 returns : tie.Need-returns
-returns c = put-all-short (c .before .before .before .before .before .before .before .before .before .before .before .before .before .before .before .before .before .before .args .file .now) (c .before .before .before .before .before .before .before .before .before .before .before .before .before .before .before .before .before .before .args .changes .now) (c .before .before .before .before .before .before .before .before .before .before .before .before .before .before .before .before .before .before .pre .4) (c .before .before .before .before .before .before .before .before .before .before .before .before .put-file .ensures) (c .before .before .before .before .before .before .before .before .put-new .ensures) (c .before .before .before .before .before .before .before .before .before .before .before .before .before .before .room-of .ensures .0) (c .before .before .before .before .before .before .before .before .before .before .before .before .before .before .room-of .ensures .1) (c .before .before .before .before .before .if1 .taken) (c .refused .ensures) (c .before .before .before .clear-bytes .ensures) (c .before .before .before .before .before .before .before .before .put-new .kept .1 .1 .1 .1 .1 .0 ∙ c .before .before .before .before .before .before .before .before .before .before .before .before .put-file .kept .1 .1 .1 .1 .0)
+returns c =
+    let at-clear-bytes = c .before .before .before in
+    let at-if1 = at-clear-bytes .before .before in
+    let at-put-new = at-if1 .before .before .before in
+    let at-put-file = at-put-new .before .before .before .before in
+    let at-room-of = at-put-file .before .before in
+    let at-args = at-room-of .before .before .before .before in
+    let a = at-args .args in
+    put-all-short (a .file .now) (a .changes .now) (at-args .pre .4) (at-put-file .put-file .ensures) (at-put-new .put-new .ensures) (at-room-of .room-of .ensures .0) (at-room-of .room-of .ensures .1) (at-if1 .if1 .taken) (c .refused .ensures) (at-clear-bytes .clear-bytes .ensures) (at-put-new .put-new .kept .1 .1 .1 .1 .1 .0 ∙ at-put-file .put-file .kept .1 .1 .1 .1 .0)
 
 cast-t19 : tie.Need-cast-t19
 cast-t19 c = record { fits = omega (arith, c .if1 .left, c .before .before .before .before .before .before .before .before .before .room-of .ensures .2) }

@@ -67,7 +67,16 @@ same-length-3 : tie.Need-same-length-3
 same-length-3 c = search needs
 
 returns-3 : tie.Need-returns-3
-returns-3 c = no-faults (c .before .before .before .before .before .before .before .before .before .before .before .before .before .before .before .before .before .before .before .before .before .args .file .now) (c .before .before .before .before .before .before .before .before .before .before .before .before .before .before .before .before .before .before .before .before .before .args .changes .now) (length (c .before .before .before .before .before .before .before .before .before .before .before .before .before .before .before .before .before .before .before .before .before .args .out .now)) (c .before .before .before .before .before .before .before .before .before .before .before .before .index-fields .ensures .0) (c .before .before .before .before .before .before .before .before .before .before .if1 .left) (c .before .before .before .before .before .before .before .before .index-fields2 .ensures .0) (c .before .before .before .before .before .before .if2 .left) (c .before .before .put-all .ensures ∙ ap (inRoom (rewritten (c .before .before .before .before .before .before .before .before .before .before .before .before .before .before .before .before .before .before .before .before .before .args .file .now) (c .before .before .before .before .before .before .before .before .before .before .before .before .before .before .before .before .before .before .before .before .before .args .changes .now))) (c .before .before .before .before .before .before .before .before .before .before .before .before .before .before .before .before .clear-bytes .kept .0))
+returns-3 c =
+    let at-put-all = c .before .before in
+    let at-if2 = at-put-all .before .before .before .before in
+    let at-index-fields2 = at-if2 .before .before in
+    let at-if1 = at-index-fields2 .before .before in
+    let at-index-fields = at-if1 .before .before in
+    let at-clear-bytes = at-index-fields .before .before .before .before in
+    let at-args = at-clear-bytes .before .before .before .before .before in
+    let a = at-args .args in
+    no-faults (a .file .now) (a .changes .now) (length (a .out .now)) (at-index-fields .index-fields .ensures .0) (at-if1 .if1 .left) (at-index-fields2 .index-fields2 .ensures .0) (at-if2 .if2 .left) (at-put-all .put-all .ensures ∙ ap (inRoom (rewritten (a .file .now) (a .changes .now))) (at-clear-bytes .clear-bytes .kept .0))
 
 pub rewrite-spec : {M : Type 1} → statement M
 rewrite-spec =
