@@ -3,6 +3,8 @@ mod places;
 mod rows;
 mod values;
 
+pub use places::named_step;
+
 use crate::files::{self, Item, is_stdin};
 use crate::glob::Filter;
 use crate::options::Arguments;

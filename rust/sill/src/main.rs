@@ -11,10 +11,13 @@ mod json;
 mod lines;
 mod looks;
 mod options;
+mod page;
 mod repair;
+mod report;
 mod row;
 mod settings;
 mod show;
+mod spans;
 mod terminal;
 mod text;
 mod totals;
@@ -48,6 +51,7 @@ type Command = fn(&Arguments, &mut dyn Write) -> io::Result<Outcome>;
 
 const COMMANDS: &[(&Page, Command)] = &[
     (&help::CHECK, check::run),
+    (&help::REPORT, report::run),
     (&help::SHOW, show::run),
     (&help::LINES, lines::run),
     (&help::ROW, row::run),

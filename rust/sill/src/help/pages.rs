@@ -4,26 +4,29 @@ use super::{HELP, Known, Page};
 
 const JSON: Known = Known { short: None, long: "json", word: None, text: "as JSON, for machines" };
 
-const EXT: Known = Known {
+pub const EXT: Known = Known {
     short: None,
     long: "ext",
     word: Some("EXT"),
     text: "of folders, only names that end in .EXT (may be repeated)",
 };
 
-const GLOB: Known = Known {
+pub const GLOB: Known = Known {
     short: None,
     long: "glob",
     word: Some("PATTERN"),
     text: "of folders, only what matches: * ? [a-z], and ** across folders (may be repeated)",
 };
 
-const PYC: Known = Known {
+pub const PYC: Known = Known {
     short: None,
     long: "pyc",
     word: None,
     text: "skip the first 16 bytes of a file that begins as a .pyc does",
 };
+
+pub const STRICT: Known =
+    Known { short: None, long: "strict", word: None, text: "a code object that ends without a line is a fault" };
 
 const COLOR: Known = Known {
     short: None,
@@ -92,7 +95,7 @@ Files are read in parallel. Each reader holds one file at a time, its stores and
 have 16 MiB, and a file as many values as there are, up to 1 GiB.",
     options: &[
         Known { short: Some('q'), long: "quiet", word: None, text: "leave out accepted files" },
-        Known { short: None, long: "strict", word: None, text: "a code object that ends without a line is a fault" },
+        STRICT,
         Known { short: Some('a'), long: "all", word: None, text: "a line for every damaged code object" },
         Known {
             short: Some('l'),

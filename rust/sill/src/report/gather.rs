@@ -1,0 +1,104 @@
+//! The parts of the page as they come together, in the order of the files, and the page that they make.
+use super::file::{Damaged, Drawn, Entry, Told};
+use super::object::ORIGINS;
+use super::when;
+use crate::check::{Manner, Totals, Verdict};
+use crate::json::{self, Object};
+use crate::page::Page;
+use crate::text;
+use sillgarland::Refusal;
+use std::collections::HashMap;
+use std::ffi::OsString;
+use std::path::Path;
+
+/// How much is drawn of the first damaged code object of each file, and of the others, in bytes. What is over is told, not drawn.
+const ROOM_FOR_FIRST: usize = 1_200_000;
+const ROOM_FOR_OTHERS: usize = 500_000;
+
+#[derive(Default)]
+pub struct Gathered {
+    /// Folders in the order in which they were met, and their numbers.
+    folders: Vec<String>,
+    numbers: HashMap<String, usize>,
+    sound: Vec<String>,
+    damaged: Vec<String>,
+    /// How much is drawn, of first objects and of others.
+    drawn: [usize; 2],
+    undrawn: usize,
+}
+
+impl Gathered {
+    pub fn add(&mut self, entry: Entry) {
+        let Entry { folder, name, told } = entry;
+        let folder = self.number_of(folder);
+        match told {
+            Told::Sound(numbers) => self.sound.push(format!("[{folder},{},{numbers}]", json::string(&name))),
+            Told::Damaged(Damaged { fields, objects }) => {
+                let objects: Vec<String> = objects.into_iter().enumerate().map(|(at, drawn)| self.fitted(at, drawn)).collect();
+                let file = Object::new().with("folder", folder).text("name", &name).and(fields);
+                self.damaged.push(file.with("objects", json::list(objects)).end());
+            }
+        }
+    }
+
+    fn number_of(&mut self, folder: String) -> usize {
+        let next = self.folders.len();
+        match self.numbers.entry(folder) {
+            std::collections::hash_map::Entry::Occupied(known) => *known.get(),
+            std::collections::hash_map::Entry::Vacant(new) => {
+                self.folders.push(new.key().clone());
+                *new.insert(next)
+            }
+        }
+    }
+
+    /// A code object with its drawing, if there is room for it.
+    fn fitted(&mut self, at: usize, object: Drawn) -> String {
+        let (kind, room) = if at == 0 { (0, ROOM_FOR_FIRST) } else { (1, ROOM_FOR_OTHERS) };
+        let Drawn { told, drawing } = object;
+        let size = drawing.size();
+        if self.drawn[kind] + size > room {
+            self.undrawn += 1;
+            return told.end();
+        }
+        self.drawn[kind] += size;
+        told.and(drawing).end()
+    }
+
+    pub fn page(&self, totals: &Totals, paths: &[OsString], manner: &Manner) -> String {
+        let damaged = totals.paths() - totals.of(Verdict::Accepted);
+        let title = format!("sill report: {damaged} of {} not accepted", text::count(totals.paths(), "file"));
+        let counted = totals.named().fold(Object::new().with("files", totals.files()), |object, (name, count)| object.with(name, count));
+        let list = |items: &[String]| format!("[\n{}\n]", items.join(",\n"));
+        let strings = |items: &mut dyn Iterator<Item = String>| json::list(items.map(|item| json::string(&item)));
+        let data = Object::new()
+            .text("made", &when::made())
+            .text("version", env!("CARGO_PKG_VERSION"))
+            .with("paths", strings(&mut paths.iter().map(|path| text::path(Path::new(path)))))
+            .with("strict", manner.strict)
+            .text("prefix", &text::short(&manner.scope.prefix))
+            .with("totals", counted.end())
+            .with("origins", strings(&mut ORIGINS.iter().map(ToString::to_string)))
+            .with("refusals", refusals())
+            .with("undrawn", self.undrawn)
+            .with("folders", strings(&mut self.folders.iter().cloned()))
+            .with("damaged", list(&self.damaged))
+            .with("sound", list(&self.sound))
+            .end();
+        Page { title: &title, markup: &markup(totals), script: include_str!("../page/report.js"), data: &data }.whole()
+    }
+}
+
+/// The names of refusals, by their numbers.
+fn refusals() -> String {
+    let all = (1..).map_while(Refusal::of_number);
+    all.fold(Object::new(), |object, refusal| object.text(&refusal.number().to_string(), &format!("{refusal:?}"))).end()
+}
+
+/// What stands in the page before its script runs: the totals, which have nothing from a file.
+fn markup(totals: &Totals) -> String {
+    format!(
+        "<header>\n<h1>sill report</h1>\n<p id=\"totals\">{totals}</p>\n<p id=\"made\"></p>\n</header>\n<main id=\"main\">\n\
+         <noscript><p>The table of files needs this page's own script, and scripts are switched off.</p></noscript>\n</main>\n"
+    )
+}

@@ -1,0 +1,51 @@
+//! The bytes that each node of a value takes, from its header to its last byte.
+use sillgarland::{Golden, NUMBERS, Value};
+use std::ops::Range;
+
+/// The ends of a reading's nodes, by their numbers. They follow from places, sizes and children: a child that does not begin where
+/// the one before it ends is a reference to one.
+pub struct Spans {
+    ends: Vec<usize>,
+}
+
+/// A code object's first line stands before this part.
+const LINE_TABLE: usize = 8;
+const FIRST_LINE: usize = 4;
+const REFERENCE: usize = 5;
+
+impl Spans {
+    pub fn of(golden: Golden) -> Self {
+        let values: Vec<Value> = golden.values().collect();
+        let mut ends = vec![0; values.len()];
+        // What stands in a node has a greater number.
+        for value in values.into_iter().rev() {
+            ends[value.node() as usize] = end(value, &ends);
+        }
+        Self { ends }
+    }
+
+    /// The bytes of a node, counted from the value's first; of one that is shared, where it stands itself.
+    pub fn span_of(&self, value: Value) -> Range<usize> {
+        start(value)..self.ends[value.node() as usize]
+    }
+}
+
+/// Where its header stands: before its place, and before a string's length.
+fn start(value: Value) -> usize {
+    let length = match value.letter() {
+        's' | 'u' | 't' | 'a' | 'A' => 4,
+        'z' | 'Z' => 1,
+        _ => 0,
+    };
+    value.place() - length - 1
+}
+
+fn end(value: Value, ends: &[usize]) -> usize {
+    let is_code = value.as_code().is_some();
+    let own = if is_code { 4 * NUMBERS.len() } else { value.size() };
+    let behind_children = value.children().enumerate().fold(value.place() + own, |at, (part, child)| {
+        let at = if is_code && part == LINE_TABLE { at + FIRST_LINE } else { at };
+        if start(child) == at { ends[child.node() as usize] } else { at + REFERENCE }
+    });
+    behind_children + usize::from(value.letter() == '{')
+}
