@@ -11,6 +11,7 @@ mod json;
 mod lines;
 mod looks;
 mod options;
+mod origins;
 mod page;
 mod repair;
 mod report;

@@ -1,6 +1,14 @@
 //! A page that stands alone: one file of markup, style, script and data. Its policy lets a browser use its own style and script and
 //! nothing else. What comes from files stands in the data alone, where nothing can be taken for markup, and the whole is ASCII.
+mod refusal;
 mod sha256;
+mod trail;
+mod ways;
+mod when;
+
+pub use refusal::{refusal, refused_value};
+pub use ways::{Ways, way};
+pub use when::made;
 
 use sha256::base64_of;
 use std::fmt::Write;

@@ -1,10 +1,8 @@
 //! `sill report`: what `check` finds, as one page for people.
+mod damage;
 mod file;
 mod gather;
 mod object;
-mod trail;
-mod ways;
-mod when;
 
 use crate::check::{Looked, Manner, Task, each_file};
 use crate::files::{self, Item};

@@ -228,6 +228,7 @@ whole values where the prefix is empty; by value or by the bytes that they are w
 begins so, nothing is compared, and the exit status is 1.",
     options: &[
         Known { short: Some('a'), long: "all", word: None, text: "every difference, not only the first" },
+        Known { short: None, long: "html", word: None, text: "a page for a browser, on standard output" },
         EXT,
         GLOB,
         PYC,

@@ -23,8 +23,6 @@ const damaged = data.damaged.map((file, turn) => ({ ...file, turn, refusals: fil
 const sound = data.sound.map(([folder, name, values, codes, instructions, unsure, note], turn) =>
   ({ folder, name, verdict: ACCEPTED, refusals: [], turn, numbers: [values, codes, instructions, unsure], text: note ?? "" }));
 
-const swatch = (kind) => make("span", { class: `swatch ${kind}`, "aria-hidden": "true" });
-
 // ---- Filters
 
 const wanted = { text: "", verdict: null, refusal: "", folder: "" };
@@ -308,35 +306,6 @@ const SOUND_COLUMNS = [
 
 // ---- What is known of a file
 
-// Sixteen bytes a line, each also as a letter; the byte of the refusal stands in brackets, also where the file ends before it.
-const hexadecimal = ({ byte, bytes, from }) => {
-  const line = (at) => {
-    const [hex, letters] = [[], []];
-    for (let place = at; place < at + 16; place += 1) {
-      const pair = bytes.slice(2 * (place - from), 2 * (place - from) + 2).padEnd(2);
-      const code = parseInt(pair, 16);
-      const letter = pair === "  " ? " " : code > 31 && code < 127 ? String.fromCharCode(code) : "\u00b7";
-      const between = place === byte + 1 && place > at ? "" : " ";
-      hex.push(place === byte ? make("mark", {}, `[${pair}]`) : between + pair);
-      letters.push(place === byte ? make("mark", {}, letter) : letter);
-    }
-    return [String(at).padStart(9), " ", ...hex, byte === at + 15 ? "" : " ", " ", ...letters, "\n"];
-  };
-  const lines = [];
-  for (let at = from; at < Math.max(from + bytes.length / 2, byte + 1); at += 16) lines.push(...line(at));
-  return make("pre", { class: "bytes", tabindex: 0, "aria-label": `bytes about byte ${byte}` }, ...lines);
-};
-
-const refusal = (refused, title) =>
-  make("section", { class: "card refusal" },
-    make("h3", {}, make("span", {}, `${refused.number} ${refused.name}`), make("span", { class: "quiet" }, title ?? "")),
-    make("p", {}, refused.meaning),
-    facts(
-      ["Place", `byte ${shown(refused.byte)} of ${shown(refused.length)}`],
-      ["Way to it", foreign(refused.way, "code")],
-      refused.hint && ["Hint", refused.hint]),
-    hexadecimal(refused));
-
 const strip = (object) => {
   const pieces = [];
   let at = 0;
@@ -355,18 +324,9 @@ const legend = (object) =>
   make("ul", { class: "legend" }, ...object.counts.flatMap((count, origin) =>
     count === 0 ? [] : [make("li", { "data-origin": data.origins[origin] }, swatch(`o${origin}`), make("b", {}, shown(count)), data.origins[origin])]));
 
-const [SURE, LINE_ALONE, BELOW, NO_PLACE, CUT, LEFT_OVER, BEHIND] = data.origins.keys();
-
-const placeWords = (origin, line, column, end, endColumn) => {
-  if (origin === SURE) return `${line}:${column} to ${end}:${endColumn}`;
-  if (origin === LINE_ALONE) return line === end ? `${line}` : `${line} to ${end}`;
-  if (origin === BEHIND) return "-";
-  return origin === BELOW && line < 1 ? `- (line ${line}, shown as 1)` : `- (shown as ${Math.max(1, line)})`;
-};
-
 const rowsTable = (object) => {
   const rows = [];
-  let at = 0;
+  let [at, broken] = [0, false];
   for (let turn = 0; turn < object.rows.length; turn += 6) {
     const [count, origin, line, column, lines, endColumn] = object.rows.slice(turn, turn + 6);
     const from = make("td", { class: "number" }, spread(at, at + count - 1));
@@ -374,7 +334,9 @@ const rowsTable = (object) => {
       ? [make("td", { class: "code" }, placeWords(origin, line, column, line + lines, endColumn)),
          make("td", {}, swatch(`o${origin}`), " ", data.origins[origin])]
       : [make("td", { colspan: 2, class: "quiet" }, `${counted(line, "row")} left out; sill lines has them`)];
-    rows.push(make("tr", {}, from, ...cells));
+    const breaks = !broken && origin >= CUT && origin < data.origins.length;
+    broken ||= breaks;
+    rows.push(make("tr", { class: breaks ? "marked" : "" }, from, ...cells));
     at += count;
   }
   return scrolled("rows", small({ text: "Rows", unseen: true }, ["Instructions", "Row", "From"], rows));

@@ -102,6 +102,9 @@ mod tests {
 
     #[test]
     fn ends_of_base_64() {
-        assert_eq!((base64(b"a"), base64(b"ab"), base64(b"abc\xFF\xFE")), ("YQ==".into(), "YWI=".into(), "YWJj//4=".into()));
+        assert_eq!(
+            (base64(b"a"), base64(b"ab"), base64(b"abc\xFF\xFE")),
+            ("YQ==".into(), "YWI=".into(), "YWJj//4=".into())
+        );
     }
 }

@@ -1,10 +1,10 @@
 //! The parts of the page as they come together, in the order of the files, and the page that they make.
-use super::file::{Damaged, Drawn, Entry, Told};
-use super::object::ORIGINS;
-use super::when;
+use super::damage::Drawn;
+use super::file::{Entry, Told};
 use crate::check::{Manner, Totals, Verdict};
 use crate::json::{self, Object};
-use crate::page::Page;
+use crate::origins::ORIGINS;
+use crate::page::{Page, made};
 use crate::text;
 use sillgarland::Refusal;
 use std::collections::HashMap;
@@ -33,10 +33,11 @@ impl Gathered {
         let folder = self.number_of(folder);
         match told {
             Told::Sound(numbers) => self.sound.push(format!("[{folder},{},{numbers}]", json::string(&name))),
-            Told::Damaged(Damaged { fields, objects }) => {
-                let objects: Vec<String> = objects.into_iter().enumerate().map(|(at, drawn)| self.fitted(at, drawn)).collect();
-                let file = Object::new().with("folder", folder).text("name", &name).and(fields);
-                self.damaged.push(file.with("objects", json::list(objects)).end());
+            Told::NotAccepted(fields, damaged) => {
+                let objects = damaged.objects.into_iter().enumerate().map(|(at, drawn)| self.fitted(at, drawn));
+                let objects = json::list(objects.collect::<Vec<_>>());
+                let file = Object::new().with("folder", folder).text("name", &name).and(fields).and(damaged.fields);
+                self.damaged.push(file.with("objects", objects).end());
             }
         }
     }
@@ -68,11 +69,13 @@ impl Gathered {
     pub fn page(&self, totals: &Totals, paths: &[OsString], manner: &Manner) -> String {
         let damaged = totals.paths() - totals.of(Verdict::Accepted);
         let title = format!("sill report: {damaged} of {} not accepted", text::count(totals.paths(), "file"));
-        let counted = totals.named().fold(Object::new().with("files", totals.files()), |object, (name, count)| object.with(name, count));
+        let counted = totals
+            .named()
+            .fold(Object::new().with("files", totals.files()), |object, (name, count)| object.with(name, count));
         let list = |items: &[String]| format!("[\n{}\n]", items.join(",\n"));
         let strings = |items: &mut dyn Iterator<Item = String>| json::list(items.map(|item| json::string(&item)));
         let data = Object::new()
-            .text("made", &when::made())
+            .text("made", &made())
             .text("version", env!("CARGO_PKG_VERSION"))
             .with("paths", strings(&mut paths.iter().map(|path| text::path(Path::new(path)))))
             .with("strict", manner.strict)

@@ -46,6 +46,12 @@ impl Ways {
     }
 }
 
+/// `value 2 .constants[0]`: a way in the file, from one of its values on.
+pub fn way(value: usize, steps: &str) -> String {
+    let space = if steps.is_empty() { "" } else { " " };
+    format!("value {value}{space}{steps}")
+}
+
 /// How many steps of a long way are shown, at its beginning and at its end.
 const FIRST: usize = 8;
 const LAST: usize = 16;
