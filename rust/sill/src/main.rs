@@ -16,6 +16,8 @@ mod page;
 mod repair;
 mod report;
 mod row;
+#[cfg(test)]
+mod samples;
 mod settings;
 mod show;
 mod spans;

@@ -49,3 +49,48 @@ fn end(value: Value, ends: &[usize]) -> usize {
     });
     behind_children + usize::from(value.letter() == '{')
 }
+
+#[cfg(test)]
+mod tests {
+    use super::*;
+    use crate::samples;
+    use sillgarland::Reader;
+
+    fn spans(input: &[u8]) -> Vec<(usize, usize)> {
+        let mut reader = Reader::new();
+        let golden = reader.read(input).unwrap();
+        let spans = Spans::of(golden);
+        golden.values().map(|value| spans.span_of(value)).map(|span| (span.start, span.end)).collect()
+    }
+
+    #[test]
+    fn from_header_to_last_byte() {
+        assert_eq!(spans(b")\x02z\x01a[\x01\0\0\0N"), [(0, 11), (2, 5), (5, 11), (10, 11)]);
+        assert_eq!(spans(b"{TF0"), [(0, 4), (1, 2), (2, 3)]);
+    }
+
+    /// A reference is five bytes of what it stands in, and the value it names is where it stands itself.
+    #[test]
+    fn references_are_no_nodes() {
+        assert_eq!(spans(b")\x03\xCEr\0\0\0\0)\x01r\0\0\0\0"), [(0, 15), (2, 3), (8, 15)]);
+    }
+
+    /// The bytes of a value are its root's; those of what holds no other value read as that value alone.
+    #[test]
+    fn spans_of_samples() {
+        for (path, input) in samples::all() {
+            samples::each_value(&input, |start, golden| {
+                let spans = Spans::of(golden);
+                assert_eq!(spans.span_of(golden.root()), 0..golden.consumed(), "{path}");
+                for value in golden.values().filter(|value| value.children().len() == 0) {
+                    let span = spans.span_of(value);
+                    let alone = &input[start + span.start..start + span.end];
+                    let mut reader = Reader::new();
+                    let again = reader.read(alone).unwrap();
+                    assert_eq!((again.consumed(), again.root().letter()), (span.len(), value.letter()), "{path}");
+                    assert!(sillgarland::first_difference(value, again.root()).is_none(), "{path} at {}", span.start);
+                }
+            });
+        }
+    }
+}

@@ -66,3 +66,60 @@ fn own(value: Value) -> Own {
 fn own_of_code(code: &Code) -> Own<'static> {
     Own::Code(code.numbers(), code.first_line().max(0))
 }
+
+#[cfg(test)]
+mod tests {
+    use super::*;
+    use crate::samples;
+    use sillgarland::{Reader, first_difference};
+
+    /// Of all pairs of nodes, those with one number are those without a difference.
+    fn hold(left: &[u8], right: &[u8]) {
+        let mut readers = [Reader::new(), Reader::new()];
+        let [one, other] = &mut readers;
+        let goldens = [one.read(left).unwrap(), other.read(right).unwrap()];
+        let classes = Classes::of(goldens, &goldens.map(Spans::of));
+        for left in goldens[0].values() {
+            for right in goldens[1].values() {
+                let same = first_difference(left, right).is_none();
+                assert_eq!(classes.are_same([left, right]), same, "{left:?} and {right:?}");
+            }
+        }
+    }
+
+    #[test]
+    fn classes_of_samples() {
+        let firsts: Vec<Vec<u8>> = samples::all().into_iter().filter_map(|(_, input)| first_value(input)).collect();
+        for left in &firsts {
+            for right in firsts.iter().filter(|right| left.len() + right.len() < 800) {
+                hold(left, right);
+            }
+        }
+    }
+
+    fn first_value(mut input: Vec<u8>) -> Option<Vec<u8>> {
+        let consumed = Reader::new().read(&input).ok()?.consumed();
+        input.truncate(consumed);
+        Some(input)
+    }
+
+    #[test]
+    fn letters_and_sharing_do_not_count() {
+        hold(b")\x02i\x05\0\0\0z\x01a", b"(\x02\0\0\0I\x05\0\0\0\0\0\0\0u\x01\0\0\0a");
+        hold(b")\x02\xA9\x01Tr\0\0\0\0", b")\x02)\x01T)\x01T");
+        hold(b"[\x01\0\0\0g\0\0\0\0\0\0\0\x80", b")\x01g\0\0\0\0\0\0\0\0");
+    }
+
+    /// Forty tuples, each of the one before twice: 2^40 ways to the first.
+    #[test]
+    fn sharing_costs_nothing() {
+        let shared = (0..40_u8).fold(b"(\x29\0\0\0\xA9\0".to_vec(), |input, slot| {
+            [&input[..], &[0xA9, 2, b'r', slot, 0, 0, 0, b'r', slot, 0, 0, 0]].concat()
+        });
+        let mut readers = [Reader::new(), Reader::new()];
+        let [one, other] = &mut readers;
+        let goldens = [one.read(&shared).unwrap(), other.read(&shared).unwrap()];
+        let classes = Classes::of(goldens, &goldens.map(Spans::of));
+        assert!(classes.are_same(goldens.map(Golden::root)));
+    }
+}

@@ -223,6 +223,10 @@ A or B may be - for standard input, or FILE#2 for the second value of FILE alone
 folders are compared file by file, by their paths below the folder: only differences are shown, then files that only one
 has, then the totals. Of a folder and a file, the file of that name in the folder is taken.
 
+--html prints a page for a browser, of two files: each pair of values that differ as one tree with both sides, what is the same
+folded, each part with the bytes that it takes in its file, and line tables as rows beside rows. It tells the differences that
+--all tells, up to 3,000 lines of them, and as many of what is the same.
+
 With --settings, of two files, only code objects whose qualified names begin with the prefix are compared, in their order, or
 whole values where the prefix is empty; by value or by the bytes that they are written as, as the mode says. Where no name
 begins so, nothing is compared, and the exit status is 1.",

@@ -114,3 +114,59 @@ fn own_bytes(letter: u8, behind: &[u8]) -> (usize, usize) {
         _ => (0, 0),
     }
 }
+
+#[cfg(test)]
+mod tests {
+    use super::super::ways::Ways;
+    use super::*;
+    use crate::samples;
+    use crate::spans::Spans;
+    use sillgarland::Value;
+
+    /// Where nodes are known, the way to a node's header, and to each byte of its own, is the way to the node.
+    #[test]
+    fn ways_of_samples() {
+        for (path, input) in samples::all() {
+            samples::each_value(&input, |start, golden| {
+                let (spans, ways) = (Spans::of(golden), Ways::of(golden));
+                let values: Vec<Value> = golden.values().collect();
+                for value in &values {
+                    let span = spans.span_of(*value);
+                    let own = if value.children().len() > 0 { span.start } else { span.end - 1 };
+                    let known: Vec<Step> = ways.steps(&values, value.node()).iter().map(|step| step.0).collect();
+                    for at in [span.start, own].map(|at| start + at) {
+                        let steps: Vec<Step> = followed(&input, start, at).iter().map(Open::step).collect();
+                        assert_eq!(steps, known, "{path} at byte {at}");
+                    }
+                }
+            });
+        }
+    }
+
+    #[test]
+    fn bytes_between_children() {
+        let dict = b"{z\x01k)\x01NT?";
+        assert_eq!(way_to(dict, 0, 6), "[\"k\"][0]");
+        assert_eq!((way_to(dict, 0, 7), way_to(dict, 0, 8)), ("{key 1}".to_string(), "[True]".to_string()));
+        let code = [b"c", &[0; 20][..], b"s\0\0\0\0)\0)\0)\0s\0\0\0\0z\0z\0z\0", b"\x01\0\0\0N"].concat();
+        assert_eq!(way_to(&code, 0, 43), "", "the first line is the code object's");
+        assert_eq!(way_to(&code, 0, 47), ".line_table");
+        assert_eq!(way_to(&code, 0, 36), ".kinds");
+    }
+
+    /// References by their index, and what the file ends before.
+    #[test]
+    fn what_is_no_node() {
+        assert_eq!(way_to(b")\x02Nr\x09\0\0\0", 0, 4), "[1]");
+        assert_eq!(way_to(b"(\x05\0\0\0NN", 0, 7), "[2]");
+        assert_eq!(way_to(b"NN)\x01?", 2, 4), "[0]");
+        assert_eq!((way_to(b"", 0, 0), way_to(b"(\xFF\xFF\xFF\xFF", 0, 1)), (String::new(), String::new()));
+    }
+
+    /// Where a key cannot be read by itself it is told by its number.
+    #[test]
+    fn keys_that_hold_others() {
+        assert_eq!(way_to(b"{)\x01N)\x01?", 0, 6), "{value of key 0}[0]");
+        assert_eq!(way_to(b"{\xDA\x01kNr\0\0\0\0)\x01?", 0, 12), "{value of key 1}[0]");
+    }
+}

@@ -33,16 +33,22 @@ impl Ways {
         Self { above }
     }
 
-    /// `.constants[2]["rows"]`, from the root to a node; nothing for the root itself.
-    pub fn to(&self, values: &[Value], mut node: u32) -> String {
+    /// The steps from the root to a node, each with the child before the one that it leads to.
+    pub fn steps<'a>(&self, values: &[Value<'a>], mut node: u32) -> Vec<(Step, Option<Value<'a>>)> {
         let mut steps = Vec::new();
         while let Some(Above { parent, at, before }) = self.above[node as usize] {
             let step = Step::to_child(values[parent as usize], at);
-            steps.push(named_step(step, before.map(|key| values[key as usize])));
+            steps.push((step, before.map(|key| values[key as usize])));
             node = parent;
         }
         steps.reverse();
-        shown(&steps)
+        steps
+    }
+
+    /// `.constants[2]["rows"]`, from the root to a node; nothing for the root itself.
+    pub fn to(&self, values: &[Value], node: u32) -> String {
+        let steps = self.steps(values, node).into_iter().map(|(step, before)| named_step(step, before));
+        shown(&steps.collect::<Vec<_>>())
     }
 }
 
