@@ -134,8 +134,10 @@ class Browser:
     # ---- A person's hands
 
     def click(self, selector, nth=0):
-        """Moves to the middle of an element and clicks it."""
-        found = f"[...document.querySelectorAll({json.dumps(selector)})][{nth}]"
+        self.click_on(f"document.querySelectorAll({json.dumps(selector)})[{nth}]")
+
+    def click_on(self, found):
+        """Moves to the middle of the element that an expression gives, and clicks it."""
         self.evaluate(f"{found}.scrollIntoView({{block: 'center'}})")
         self.frame()
         x, y = self.evaluate(f"(() => {{ const box = {found}.getBoundingClientRect();"
@@ -170,5 +172,6 @@ class Browser:
         path.write_bytes(base64.b64decode(shot["data"]))
 
     def paper(self):
-        """The page as it is printed: a PDF."""
+        """The page as it is printed, with colours only where it insists on them: a PDF."""
+        self.send("Emulation.setEmulatedMedia", media="")
         return base64.b64decode(self.send("Page.printToPDF", printBackground=False)["data"])

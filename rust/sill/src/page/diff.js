@@ -49,7 +49,7 @@ const rowsBeside = (rows) => {
     marked ||= kind === 1;
     at += count;
   }
-  return scrolled("rows of both", small({ text: "Rows of both", unseen: true }, ["Instructions", "Row in A", "Row in B", ""], made));
+  return scrolled("rows of both", small("Rows of both", ["Instructions", "Row in A", "Row in B", ""], made));
 };
 
 // ---- Trees

@@ -22,7 +22,7 @@ const facts = (...pairs) =>
 
 const small = (caption, heads, rows) =>
   make("table", { class: "small" },
-    make("caption", { class: caption.unseen ? "unseen" : "" }, caption.text ?? caption),
+    make("caption", { class: "unseen" }, caption),
     make("thead", {}, make("tr", {}, ...heads.map((head) => make("th", { scope: "col" }, head)))),
     make("tbody", {}, ...rows));
 

@@ -15,6 +15,10 @@ use std::path::Path;
 const ROOM_FOR_FIRST: usize = 1_200_000;
 const ROOM_FOR_OTHERS: usize = 500_000;
 
+/// The page's own script: the table of files, what is known of one, and the page.
+const SCRIPT: &str =
+    concat!(include_str!("../page/table.js"), include_str!("../page/known.js"), include_str!("../page/report.js"));
+
 #[derive(Default)]
 pub struct Gathered {
     /// Folders in the order in which they were met, and their numbers.
@@ -88,7 +92,7 @@ impl Gathered {
             .with("damaged", list(&self.damaged))
             .with("sound", list(&self.sound))
             .end();
-        Page { title: &title, markup: &markup(totals), script: include_str!("../page/report.js"), data: &data }.whole()
+        Page { title: &title, markup: &markup(totals), script: SCRIPT, data: &data }.whole()
     }
 }
 
