@@ -8,13 +8,13 @@ use crate::page::{Page, made, refused_value};
 use crate::{Outcome, text};
 use sillgarland::{Golden, Reader};
 use std::io::{self, Write};
+use std::ops::Range;
 
-/// How many lines of a page tell what differs, and how many what is the same; how many values it lists.
+/// How many lines of a page tell what differs, and how many what is the same.
 const ROOM: Room = Room { different: 3_000, same: 3_000 };
-const MOST_VALUES: usize = 500;
 
 pub fn show(sides: &mut [Side; 2], out: &mut dyn Write) -> io::Result<Outcome> {
-    let mut gathered = Gathered::default();
+    let mut gathered = Gathered::new();
     let mut readers = [Reader::new(), Reader::new()];
     for (side, reader) in sides.iter_mut().zip(&mut readers) {
         match side.skip(reader) {
@@ -36,21 +36,34 @@ pub fn show(sides: &mut [Side; 2], out: &mut dyn Write) -> io::Result<Outcome> {
 }
 
 /// What has come together.
-#[derive(Default)]
 struct Gathered {
     values: Vec<String>,
-    /// How many values are not listed for want of room.
+    /// Values that are the same, one after another up to here.
+    same: Option<Same>,
+    /// How many values that differ are not shown for want of room.
     more: usize,
     refused: Vec<String>,
     /// What is said of a file that goes on.
     longer: Option<String>,
     differences: usize,
     different: bool,
-    lines: usize,
-    same_lines: usize,
+    room: Room,
+}
+
+/// Where values that are the same stand: the words for the first, its number, how many there are, and their bytes in both files.
+struct Same {
+    title: String,
+    first: usize,
+    count: usize,
+    spans: [Range<usize>; 2],
 }
 
 impl Gathered {
+    fn new() -> Self {
+        let (values, refused) = (Vec::new(), Vec::new());
+        Self { values, same: None, more: 0, refused, longer: None, differences: 0, different: false, room: ROOM }
+    }
+
     /// Compares the next values, and says how many bytes they take.
     fn add_next(&mut self, sides: &[Side; 2], readers: &mut [Reader; 2]) -> [usize; 2] {
         let [one, other] = readers;
@@ -74,31 +87,45 @@ impl Gathered {
 
     /// The written bytes decide; the tree says where two values differ, and decides where the bytes say nothing.
     fn add(&mut self, goldens: [Golden; 2], sides: &[Side; 2]) {
-        let told = by_bytes::tell(goldens[0], goldens[1]);
-        let span = |at: usize| json::list([sides[at].at, sides[at].at + goldens[at].consumed()]);
-        let value = Object::new().text("title", &number(sides)).with("spans", json::list([span(0), span(1)]));
-        let value = match told {
-            Told::Same => value.with("same", true),
-            Told::Different { from } => {
-                self.different = true;
-                self.tree(value, goldens, sides).with("written", from)
-            }
-            Told::Nothing(why) => self.tree(value.text("note", &why), goldens, sides),
+        let spans = [0, 1].map(|at| sides[at].at..sides[at].at + goldens[at].consumed());
+        let (told, different) = match by_bytes::tell(goldens[0], goldens[1]) {
+            Told::Same => return self.add_same(sides, spans),
+            Told::Different { from } => (Object::new().with("written", from), true),
+            Told::Nothing(why) => (Object::new().text("note", &why), false),
         };
-        if self.values.len() < MOST_VALUES { self.values.push(value.end()) } else { self.more += 1 }
+        self.tell_same();
+        let has_room = self.room.different > 0;
+        let tree = Tree::of(goldens, [sides[0].at, sides[1].at], &mut self.room);
+        self.differences += tree.differences;
+        self.different |= different || !tree.same;
+        if !has_room {
+            self.more += usize::from(different || !tree.same);
+            return;
+        }
+        let value = titled(&number(sides), &spans).and(told).with("differences", tree.differences);
+        self.values.push(value.with("lines", format!("[\n{}\n]", tree.lines.join(",\n"))).end());
     }
 
-    fn tree(&mut self, value: Object, goldens: [Golden; 2], sides: &[Side; 2]) -> Object {
-        let mut room = Room { different: ROOM.different - self.lines, same: ROOM.same - self.same_lines };
-        let tree = Tree::of(goldens, [sides[0].at, sides[1].at], &mut room);
-        (self.lines, self.same_lines) = (ROOM.different - room.different, ROOM.same - room.same);
-        self.differences += tree.differences;
-        self.different |= tree.differences > 0;
-        value.with("differences", tree.differences).with("lines", format!("[\n{}\n]", tree.lines.join(",\n")))
+    fn add_same(&mut self, sides: &[Side; 2], spans: [Range<usize>; 2]) {
+        match &mut self.same {
+            None => self.same = Some(Same { title: number(sides), first: sides[0].value, count: 1, spans }),
+            Some(same) => {
+                same.count += 1;
+                same.spans.iter_mut().zip(spans).for_each(|(known, span)| known.end = span.end);
+            }
+        }
+    }
+
+    /// Tells of the values that were the same, all at once.
+    fn tell_same(&mut self) {
+        let Some(Same { title, first, count, spans }) = self.same.take() else { return };
+        let title = if count == 1 { title } else { format!("values {first} to {}", first + count - 1) };
+        self.values.push(titled(&title, &spans).with("same", true).end());
     }
 
     /// Where one file goes on behind the other's last value.
     fn end(&mut self, sides: &[Side; 2]) {
+        self.tell_same();
         let longer = sides.iter().find(|side| side.has_more()).filter(|_| self.refused.is_empty());
         if let Some(side) = longer {
             self.different = true;
@@ -126,4 +153,9 @@ impl Gathered {
         let title = format!("sill diff: {verdict}");
         Page { title: &title, markup: &markup, script: include_str!("../page/diff.js"), data: &data }.whole()
     }
+}
+
+fn titled(title: &str, spans: &[Range<usize>; 2]) -> Object {
+    let spans = spans.each_ref().map(|span| json::list([span.start, span.end]));
+    Object::new().text("title", title).with("spans", json::list(spans))
 }

@@ -30,8 +30,9 @@ enum State {
     LeftOut,
 }
 
-/// The lines of two values, and how many differences they tell.
+/// Whether two values are the same, their lines, and how many differences these tell.
 pub struct Tree<'a> {
+    pub same: bool,
     pub lines: Vec<String>,
     pub differences: usize,
     starts: [usize; 2],
@@ -58,14 +59,17 @@ struct Open<'a> {
 const MOST_MEMBERS: usize = 24;
 const MOST_LEVELS: usize = 4;
 const LINE_TABLE: usize = 8;
+/// How many bytes of rows take the room of a line.
+const A_LINE: usize = 400;
 
 impl<'a> Tree<'a> {
     /// Of two values that begin at these places of their files.
     pub fn of(goldens: [Golden<'a>; 2], starts: [usize; 2], room: &mut Room) -> Self {
         let spans = goldens.map(Spans::of);
         let classes = Classes::of(goldens, &spans);
+        let same = classes.are_same(goldens.map(Golden::root));
         let (lines, met, open) = (Vec::new(), HashSet::new(), Vec::new());
-        let mut tree = Self { lines, differences: 0, starts, spans, classes, met, open };
+        let mut tree = Self { same, lines, differences: 0, starts, spans, classes, met, open };
         tree.enter(goldens.map(Golden::root), String::new(), room);
         while !tree.open.is_empty() && room.different > 0 {
             tree.go_on(room);
@@ -119,6 +123,8 @@ impl<'a> Tree<'a> {
         self.differences += differ.len();
         let state = if differ.is_empty() { State::DiffersBelow } else { State::Differs };
         let more = self.more(values, &differ);
+        let lines = more.as_ref().map_or(0, |more| more.size() / A_LINE);
+        room.different = room.different.saturating_sub(lines);
         self.line(depth, state, &step, values.map(Some), more);
         if !differ.contains(&What::Content) {
             self.open.push(Open::of(values));

@@ -225,7 +225,7 @@ has, then the totals. Of a folder and a file, the file of that name in the folde
 
 --html prints a page for a browser, of two files: each pair of values that differ as one tree with both sides, what is the same
 folded, each part with the bytes that it takes in its file, and line tables as rows beside rows. It tells the differences that
---all tells, up to 3,000 lines of them, and as many of what is the same.
+--all tells, as far as 3,000 lines go, and says where there are more.
 
 With --settings, of two files, only code objects whose qualified names begin with the prefix are compared, in their order, or
 whole values where the prefix is empty; by value or by the bytes that they are written as, as the mode says. Where no name

@@ -220,7 +220,7 @@ if (differences.length > 0) {
 main.append(...sections);
 for (const refused of data.refused) main.append(refusal(refused, `${SIDES[refused.side]} is refused`));
 if (data.longer) main.append(make("p", { class: "foreign", dir: "ltr" }, data.longer));
-if (data.more > 0) main.append(make("p", {}, `and ${counted(data.more, "value")} more; sill diff --all tells every difference`));
+if (data.more > 0) main.append(make("p", {}, `and ${counted(data.more, "value")} more that differ; sill diff --all tells every difference`));
 document.body.append(make("footer", {}, make("p", {}, make("kbd", {}, "n"), " and ", make("kbd", {}, "p"), " lead to the next and the previous difference, ",
   make("kbd", {}, "\u2191"), " ", make("kbd", {}, "\u2193"), " from line to line, ", make("kbd", {}, "\u2192"), " opens one, ", make("kbd", {}, "\u2190"), " closes it. Places count bytes from a file's start.")));
 

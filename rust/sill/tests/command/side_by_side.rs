@@ -128,7 +128,15 @@ fn other_ends() {
     let script = "print([(v['title'], v.get('same')) for v in data['values']], [(r['side'], r['number'], r['byte'], r['way']) for r in data['refused']])";
     let told = "[('value 1', True)] [(1, 3, 6, 'value 2 [0]')]\n";
     assert_eq!(page(script, [&whole, &cut]), (1, told.to_string()));
-    assert_eq!(page(script, [&whole, &whole]), (0, "[('value 1', True), ('value 2', True)] []\n".to_string()));
+    assert_eq!(page(script, [&whole, &whole]), (0, "[('values 1 to 2', True)] []\n".to_string()));
+    let (many, other) = (
+        file(&folder, "many", &b"N".repeat(9_000)),
+        file(&folder, "other", &[&b"N".repeat(8_998)[..], b"TN"].concat()),
+    );
+    let script = "print([(v['title'], v['spans'], v.get('differences')) for v in data['values']])";
+    let told = "[('values 1 to 8998', [[0, 8998], [0, 8998]], None), ('value 8999', [[8998, 8999], [8998, 8999]], 1), \
+                ('value 9000', [[8999, 9000], [8999, 9000]], None)]\n";
+    assert_eq!(page(script, [&many, &other]), (1, told.to_string()));
     let (status, shown, told) = ended(&["diff", "--html", &format!("{whole}#3"), &whole]);
     assert_eq!((status, shown.as_str()), (2, ""));
     assert!(told.ends_with("has no value 3\n"), "{told}");
