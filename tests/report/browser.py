@@ -37,7 +37,7 @@ class Browser:
 
         words = [
             command, "--headless=new", "--remote-debugging-pipe", f"--user-data-dir={self.home.name}", "--no-first-run",
-            "--disable-gpu", "--hide-scrollbars", "--force-color-profile=srgb", "--disable-background-networking",
+            "--disable-gpu", "--disable-dev-shm-usage", "--hide-scrollbars", "--force-color-profile=srgb", "--disable-background-networking",
         ]
         if os.geteuid() == 0:
             words.append("--no-sandbox")  # it refuses to run as root with one

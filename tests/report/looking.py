@@ -14,6 +14,7 @@ BLINDNESS = {
     "deuteranopia": ((0.367322, 0.860646, -0.227968), (0.280085, 0.672501, 0.047413), (-0.011820, 0.042940, 0.968881)),
     "tritanopia": ((1.255528, -0.076749, -0.178779), (-0.078411, 0.930809, 0.147602), (0.004733, 0.691367, 0.303900)),
 }
+READ = "p, td, th button, h1, h3, h4, dt, dd, summary, label, .words button, mark, input, select"
 APART = 10  # the least distance of two colours in CIE Lab; 2.3 is what an eye just tells
 
 
@@ -60,8 +61,13 @@ def open_first(window, ending):
 
 def backgrounds(window, kinds):
     """Colour and pattern of each kind of piece."""
-    return window.evaluate(f"{kinds!r}.map((kind) => {{ const piece = make('span', {{ class: kind }}); document.body.append(piece);"
-                           "const { backgroundColor, backgroundImage } = getComputedStyle(piece); piece.remove(); return [backgroundColor, backgroundImage]; })")
+    return window.evaluate(f"""{kinds!r}.map((kind) => {{
+      const piece = make("span", {{ class: kind }});
+      document.body.append(piece);
+      const {{ backgroundColor, backgroundImage }} = getComputedStyle(piece);
+      piece.remove();
+      return [backgroundColor, backgroundImage];
+    }})""")
 
 
 def test_light_and_dark_differ_and_can_be_read(window, page):
@@ -69,11 +75,12 @@ def test_light_and_dark_differ_and_can_be_read(window, page):
     for scheme in ("light", "dark"):
         show(window, page, scheme=scheme)
         open_first(window, "fees")
-        pairs = window.evaluate("""[...document.querySelectorAll("p, td, th button, h1, h3, h4, dt, dd, summary, label, .words button, mark, input, select")].map((element) => {
+        pairs = window.evaluate(f"""[...document.querySelectorAll("{READ}")].map((element) => {{
           let under = element;
           while (under && getComputedStyle(under).backgroundColor === "rgba(0, 0, 0, 0)") under = under.parentElement;
-          return [element.className || element.tagName, getComputedStyle(element).color, getComputedStyle(under ?? document.body).backgroundColor];
-        })""")
+          const {{ backgroundColor }} = getComputedStyle(under ?? document.body);
+          return [element.className || element.tagName, getComputedStyle(element).color, backgroundColor];
+        }})""")
         assert len(pairs) > 60, len(pairs)
         for kind, ink, under in pairs:
             assert contrast(numbers(ink), numbers(under)) >= 4.5, (scheme, kind, ink, under)
@@ -130,17 +137,31 @@ def test_paper_has_every_row(window, page):
          ["none", "rgb(255, 255, 255)"])
 
 
-def test_ten_thousand_rows_are_not_made(window, page):
-    """Of a table of many files only the rows in sight are there, wherever it is scrolled to."""
+def show_ten_thousand(window, page):
     show(window, page)
     window.evaluate("counts.items = Array.from({ length: 10000 }, (_, turn) => ({ ...sound[0], turn })); counts.filter(); soundFold.open = true")
     window.frame()
+
+
+def test_ten_thousand_rows_are_not_made(window, page):
+    """Of a table of many files only the rows in sight are there, wherever it is scrolled to."""
+    show_ten_thousand(window, page)
     for place in ("0", "document.body.scrollHeight / 2", "document.body.scrollHeight"):
         window.evaluate(f"scrollTo(0, {place})")
         window.frame()
         made = window.evaluate("document.querySelectorAll('.counts tr.file').length")
         assert made < 120, (place, made)
     hold(window.evaluate("[...document.querySelectorAll('.counts tr.file')].at(-1).getAttribute('aria-rowindex')"), "10001")
+
+
+def test_paper_says_what_it_leaves_out(window, page):
+    show_ten_thousand(window, page)
+    window.evaluate("""addEventListener("beforeprint", () => {
+      window.printed = [document.querySelectorAll(".counts tr.file").length, counts.rest.checkVisibility(), counts.rest.textContent];
+    })""")
+    window.paper()
+    hold(window.evaluate("printed"), [2000, True, "and 8,000 files more, on the screen alone"])
+    hold(window.evaluate("[counts.rest.checkVisibility(), document.querySelectorAll('.counts tr.file').length < 120]"), [False, True])
 
 
 LOOKS = {

@@ -31,6 +31,11 @@ class Page:
     def texts(self, selector):
         return self.get(f"[...document.querySelectorAll({selector!r})].map((element) => element.textContent)")
 
+    def cells(self, selector):
+        """The texts of each row's cells."""
+        found = f"document.querySelectorAll({json.dumps(selector)})"
+        return self.get(f"[...{found}].map((row) => [...row.cells].map((cell) => cell.textContent))")
+
     def rows(self, table=".damaged"):
         """Every row of a table, as texts of its cells: the window is led from its top to its end."""
         seen = {}
@@ -197,7 +202,7 @@ def hold_origins(page, selector, file, found):
 
 def hold_rows(page, selector, file, found):
     """The rows are those of sill lines, instruction by instruction, and the repair is that of a dry run."""
-    cells = page.get(f"[...document.querySelectorAll(\"{selector} .pair > div:first-child tbody tr\")].map((row) => [...row.cells].map((cell) => cell.textContent))")
+    cells = page.cells(f"{selector} .pair > div:first-child tbody tr")
     shown = []
     for instructions, row, _ in cells:
         first, *last = [number(at) for at in instructions.split(" to ")]
@@ -209,7 +214,7 @@ def hold_rows(page, selector, file, found):
     [plan] = page.command.lines("repair", "--dry-run", "--json", file["path"])[0]["code_objects"]
     [words] = page.texts(f"{selector} .repair")
     assert f"keep {plan['kept']} entr" in words and f"drop {plan['dropped']} byte" in words and f"cover {plan['covered']} instr" in words, words
-    handlers = page.get(f"[...document.querySelectorAll(\"{selector} .pair > div:last-child tbody tr\")].map((row) => [...row.cells].map((cell) => cell.textContent))")
+    handlers = page.cells(f"{selector} .pair > div:last-child tbody tr")
     hold([number(row[2]) for row in handlers], [handler["target"] for handler in told["handlers"] or []])
 
 
@@ -288,7 +293,7 @@ def test_hostile_names_are_text(page):
         if "/q4/" in file["path"]:
             page.open_file(file["path"])
             shown += "\n".join(page.texts(".known"))
-    hold(page.get("[document.querySelectorAll('img, iframe, svg, b b').length, document.scripts.length, String(window.alerted)]"), [0, 2, "undefined"])
+    hold(page.get("[document.querySelectorAll('img, iframe, svg, b b').length, document.scripts.length]"), [0, 2])
     hold([event for event in page.window.events if event.get("method") == "Page.javascriptDialogOpening"], [])
     hold(page.window.complaints(), [])
     for text in ("\\0</script><script>alert(1)</script><img src=x onerror=alert(1)>", "\\u{202e}evil\\u{2066}", "line\\nbreak\\u{7f}.golden",

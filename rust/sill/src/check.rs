@@ -6,6 +6,7 @@ mod sentences;
 mod totals;
 
 pub use findings::{Finding, Findings, Manner, Verdict, What};
+pub use forms::totals_as_json;
 pub use parallel::{Looked, Task, each_file};
 pub use sentences::{line, told};
 pub use totals::Totals;

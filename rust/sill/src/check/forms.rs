@@ -6,6 +6,8 @@ mod junit;
 mod sarif;
 mod text;
 
+pub use json::totals as totals_as_json;
+
 use super::findings::{Findings, Manner, Verdict, What};
 use super::parallel::{Looked, Task};
 use super::totals::Totals;

@@ -54,6 +54,8 @@ const rowsBeside = (rows) => {
 
 // ---- Trees
 
+const treeHead = (word) => make("th", { scope: "col", role: "columnheader" }, word);
+
 class Tree {
   constructor(value) {
     this.lines = value.lines.map(parse);
@@ -64,7 +66,7 @@ class Tree {
     });
     this.body = make("tbody", { role: "rowgroup", keydown: (event) => this.key(event), click: (event) => this.click(event) });
     this.table = make("table", { class: "tree", role: "treegrid", "aria-label": value.title },
-      make("thead", { role: "rowgroup" }, make("tr", { role: "row" }, ...["Where", "A", "B"].map((word) => make("th", { scope: "col", role: "columnheader" }, word)))),
+      make("thead", { role: "rowgroup" }, make("tr", { role: "row" }, ...["Where", ...SIDES].map(treeHead))),
       this.body);
     this.insert(this.visible(0, this.lines.length), null);
     this.lines[0].row.tabIndex = 0;
@@ -107,7 +109,8 @@ class Tree {
     const { depth, state, step } = line;
     const first = make("td", { role: "gridcell", class: "where" });
     first.style.paddingInlineStart = `${0.5 + 1.1 * Math.min(depth, 24)}rem`;
-    const attributes = { class: `line line-${state}`, role: "row", tabindex: -1, "aria-level": depth + 1, "aria-expanded": line.inner ? String(line.open) : null };
+    const expanded = line.inner ? String(line.open) : null;
+    const attributes = { class: `line line-${state}`, role: "row", tabindex: -1, "aria-level": depth + 1, "aria-expanded": expanded };
     if (state === LEFT_OUT) {
       first.append(make("span", { class: "quiet" }, step));
       first.setAttribute("colspan", 3);
@@ -189,7 +192,9 @@ const valueSection = (value) => {
   if (value.same) return make("section", { class: "value" }, make("h2", {}, `${value.title}: the same`, where));
   const section = make("section", { class: "value" }, make("h2", {}, `${value.title}: ${counted(value.differences, "difference")}`, where));
   if (value.note) section.append(make("p", { class: "foreign", dir: "ltr" }, `Compared part by part, not by its written bytes: ${value.note}.`));
-  if (value.differences === 0 && value.written !== undefined) section.append(make("p", {}, `Different: written, from byte ${shown(value.written)} on.`));
+  if (value.differences === 0 && value.written !== undefined) {
+    section.append(make("p", {}, `Different: written, from byte ${shown(value.written)} on.`));
+  }
   const tree = new Tree(value);
   trees.push(tree);
   section.append(tree.table);
@@ -197,7 +202,8 @@ const valueSection = (value) => {
 };
 
 const sections = data.values.map(valueSection);
-const differences = trees.flatMap((tree) => tree.lines.filter((line) => [DIFFERS, ONLY_LEFT, ONLY_RIGHT].includes(line.state)).map((line) => ({ tree, line })));
+const isDifference = (line) => [DIFFERS, ONLY_LEFT, ONLY_RIGHT].includes(line.state);
+const differences = trees.flatMap((tree) => tree.lines.filter(isDifference).map((line) => ({ tree, line })));
 let current = -1;
 const position = make("span", { role: "status", id: "position" });
 const lead = (step) => {
@@ -221,8 +227,8 @@ main.append(...sections);
 for (const refused of data.refused) main.append(refusal(refused, `${SIDES[refused.side]} is refused`));
 if (data.longer) main.append(make("p", { class: "foreign", dir: "ltr" }, data.longer));
 if (data.more > 0) main.append(make("p", {}, `and ${counted(data.more, "value")} more that differ; sill diff --all tells every difference`));
-document.body.append(make("footer", {}, make("p", {}, make("kbd", {}, "n"), " and ", make("kbd", {}, "p"), " lead to the next and the previous difference, ",
-  make("kbd", {}, "\u2191"), " ", make("kbd", {}, "\u2193"), " from line to line, ", make("kbd", {}, "\u2192"), " opens one, ", make("kbd", {}, "\u2190"), " closes it. Places count bytes from a file's start.")));
+document.body.append(footer(["n"], " and ", ["p"], " lead to the next and the previous difference, ", ["\u2191"], " ", ["\u2193"],
+  " from line to line, ", ["\u2192"], " opens one, ", ["\u2190"], " closes it."));
 
 addEventListener("keydown", (event) => {
   if (event.altKey || event.ctrlKey || event.metaKey) return;

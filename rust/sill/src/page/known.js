@@ -5,7 +5,8 @@ const strip = (object) => {
   let at = 0;
   for (let turn = 0; turn < object.strip.length; turn += 2) {
     const [count, origin] = [object.strip[turn], object.strip[turn + 1]];
-    const piece = make("span", { class: `o${origin}`, title: `${count === 1 ? "instruction" : "instructions"} ${spread(at, at + count - 1)}: ${data.origins[origin]}` });
+    const title = `${count === 1 ? "instruction" : "instructions"} ${spread(at, at + count - 1)}: ${data.origins[origin]}`;
+    const piece = make("span", { class: `o${origin}`, title });
     piece.style.flexGrow = count;
     pieces.push(piece);
     at += count;
@@ -14,9 +15,11 @@ const strip = (object) => {
   return make("div", { class: "strip", role: "img", "aria-label": `${counted(object.instructions, "instruction")}: ${told.join(", ")}` }, ...pieces);
 };
 
-const legend = (object) =>
-  make("ul", { class: "legend" }, ...object.counts.flatMap((count, origin) =>
-    count === 0 ? [] : [make("li", { "data-origin": data.origins[origin] }, swatch(`o${origin}`), make("b", {}, shown(count)), data.origins[origin])]));
+const legend = (object) => {
+  const items = object.counts.map((count, origin) => ({ count, origin, word: data.origins[origin] })).filter(({ count }) => count > 0);
+  return make("ul", { class: "legend" }, ...items.map(({ count, origin, word }) =>
+    make("li", { "data-origin": word }, swatch(`o${origin}`), make("b", {}, shown(count)), word)));
+};
 
 const rowsTable = (object) => {
   const rows = [];
@@ -38,14 +41,14 @@ const rowsTable = (object) => {
 
 const handlers = (object) => {
   if (object.handlers === null) return make("p", {}, "The exception table is refused: no handlers are known.");
-  if (object.handlers.length === 0) return make("p", { class: "quiet" }, "It has no handlers.");
+  if (object.handlers.length === 0) return quiet("It has no handlers.");
   const rows = object.handlers.map(([start, length, target, depth, pushed, first, last]) => make("tr", {},
     make("td", { class: "number" }, length === 0 ? "none" : spread(start, start + length - 1)),
     make("td", { class: "number" }, first === null ? "-" : spread(first, last)),
     make("td", { class: "number" }, shown(target)),
     make("td", { class: "number" }, shown(depth)),
     make("td", {}, pushed ? "pushed" : "")));
-  const more = object.more_handlers ? [make("p", { class: "quiet" }, `and ${counted(object.more_handlers, "handler")} more; sill lines has them`)] : [];
+  const more = object.more_handlers ? [quiet(`and ${counted(object.more_handlers, "handler")} more; sill lines has them`)] : [];
   return make("div", {}, scrolled("handlers", small("Handlers", ["Guards", "Sure rows", "Handler at", "Depth", "Last instruction"], rows)), ...more);
 };
 
@@ -70,16 +73,18 @@ const drawing = (object) => [
 
 const codeObject = (object, open) => {
   const title = make("h3", {}, make("span", { class: "foreign", dir: "ltr" }, `code object ${object.name}`),
-    make("span", { class: "quiet foreign", dir: "ltr" }, `${object.file}, first line ${object.first_line}, ${counted(object.instructions, "instruction")}`));
+    make("span", { class: "quiet foreign", dir: "ltr" },
+      `${object.file}, first line ${object.first_line}, ${counted(object.instructions, "instruction")}`));
   const section = make("section", { class: "card object", "data-byte": object.byte }, title,
     ...object.found.map((found) => make("p", { class: "foreign found", dir: "ltr" }, found)),
     facts(["Way to it", foreign(object.way, "code")], ["Place", `byte ${shown(object.byte)}`],
       ["Last row placed", object.last_row === null ? "none" : shown(object.last_row)]));
   if (object.strip) {
-    const each = object.each ? [make("p", { class: "quiet" }, `Each piece stands for ${counted(object.each, "instruction")}, and is coloured by the worst of them.`)] : [];
+    const instructions = counted(object.each ?? 0, "instruction");
+    const each = object.each ? [quiet(`Each piece stands for ${instructions}, and is coloured by the worst of them.`)] : [];
     section.append(strip(object), legend(object), ...each, folded("Rows, handlers and repair", () => drawing(object), open));
   } else {
-    section.append(make("p", { class: "quiet" }, "Not drawn: the page has room for no more. sill lines draws it."));
+    section.append(quiet("Not drawn: the page has room for no more. sill lines draws it."));
   }
   section.append(...object.refused.map((refused) => refusal(refused, "")));
   return section;
@@ -88,8 +93,8 @@ const codeObject = (object, open) => {
 const detail = (file) => {
   const path = make("p", {}, foreign(`${folderOf(file)}/${file.name}`, "code"), file.path_bytes ? ` (bytes ${file.path_bytes})` : "");
   const held = file.counts?.[0] > 0 ? file.counts : null;
-  const counts = held && make("p", { class: "quiet" },
-    `${counted(held[0], "whole value")}, ${counted(held[1], "code object")}, ${counted(held[2], "instruction")}, ${shown(held[3])} of them without a sure row`);
+  const things = held && ["whole value", "code object", "instruction"].map((thing, at) => counted(held[at], thing)).join(", ");
+  const counts = held && quiet(`${things}, ${shown(held[3])} of them without a sure row`);
   const objects = file.objects ?? [];
   const more = (file.damaged ?? 0) - objects.length;
   return make("div", { class: "known" }, path, counts ?? "",

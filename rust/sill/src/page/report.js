@@ -46,8 +46,8 @@ const refusalWord = (number) => `${number} ${data.refusals[number]}`;
 
 const verdictCell = (file, files) => {
   const { kind, word } = VERDICTS[file.verdict];
-  const button = { type: "button", class: "open", "aria-expanded": String(files.opened.has(file)), "aria-label": `${word}: ${folderOf(file)}/${file.name}` };
-  return cell("verdict", make("button", button, swatch(kind), word));
+  const [expanded, label] = [String(files.opened.has(file)), `${word}: ${folderOf(file)}/${file.name}`];
+  return cell("verdict", make("button", { type: "button", class: "open", "aria-expanded": expanded, "aria-label": label }, swatch(kind), word));
 };
 
 const refusalCell = ({ refusals }) =>
@@ -90,7 +90,8 @@ const choose = (verdict) => {
 
 const bar = make("div", { class: "bar", "aria-hidden": "true" }, ...WORST_FIRST.filter((verdict) => total(verdict) > 0).map((verdict) => {
   const { kind, word } = VERDICTS[verdict];
-  const piece = make("button", { type: "button", class: kind, tabindex: -1, title: `${word}: ${shown(total(verdict))}`, click: () => choose(verdict) });
+  const title = `${word}: ${shown(total(verdict))}`;
+  const piece = make("button", { type: "button", class: kind, tabindex: -1, title, click: () => choose(verdict) });
   piece.style.flexGrow = total(verdict);
   return piece;
 }));
@@ -109,12 +110,17 @@ const changed = (name, lower) => (event) => {
   wanted[name] = lower ? event.target.value.toLowerCase() : event.target.value;
   update();
 };
-const textField = make("input", { id: "text", type: "search", autocomplete: "off", spellcheck: "false", input: changed("text", true) });
-const verdictField = make("select", { id: "verdict", change: (event) => { wanted.verdict = event.target.value === "" ? null : Number(event.target.value); update(); } },
+const search = (id, more) => make("input", { id, type: "search", autocomplete: "off", spellcheck: "false", input: changed(id, true), ...more });
+const textField = search("text");
+const verdictChanged = ({ target }) => {
+  wanted.verdict = target.value === "" ? null : Number(target.value);
+  update();
+};
+const verdictField = make("select", { id: "verdict", change: verdictChanged },
   make("option", { value: "" }, "all"), ...WORST_FIRST.map((verdict) => make("option", { value: verdict }, VERDICTS[verdict].word)));
 const refusalField = make("select", { id: "refusal", change: changed("refusal") },
   make("option", { value: "" }, "all"), ...refusalsMet.map((number) => make("option", { value: number }, refusalWord(number))));
-const folderField = make("input", { id: "folder", type: "search", list: "folders", autocomplete: "off", spellcheck: "false", input: changed("folder", true) });
+const folderField = search("folder", { list: "folders" });
 const reset = make("button", { type: "button", id: "reset", click: () => {
   Object.assign(wanted, { text: "", verdict: null, refusal: "", folder: "" });
   for (const field of [textField, refusalField, folderField]) field.value = "";
@@ -147,7 +153,8 @@ const update = () => {
   soundWord.textContent = `${counted(sound.length, "accepted file")}${some}`;
 };
 
-const about = [`made ${data.made} by sill ${data.version}`, `of ${data.paths.slice(0, 8).join(", ")}${data.paths.length > 8 ? `, and ${data.paths.length - 8} more` : ""}`];
+const morePaths = data.more_paths > 0 ? `, and ${shown(data.more_paths)} more` : "";
+const about = [`made ${data.made} by sill ${data.version}`, `of ${data.paths.join(", ")}${morePaths}`];
 if (isLong && !data.paths.includes(common.join("/"))) about.push(`folders below ${common.join("/")}`);
 if (data.strict) about.push("strict");
 if (data.prefix) about.push(`only code objects whose names begin with ${data.prefix}`);
@@ -155,8 +162,8 @@ if (data.undrawn > 0) about.push(`${counted(data.undrawn, "damaged code object")
 document.getElementById("made").append(foreign(about.join("; ")));
 document.body.prepend(make("a", { class: "skip", href: "#files" }, "To the table of files"));
 document.getElementById("main").append(bar, verdictWords, filters, status, make("div", { id: "files" }, files.element), soundFold);
-document.body.append(make("footer", {}, make("p", {}, make("kbd", {}, "/"), " to the text filter, ", make("kbd", {}, "\u2191"), " ", make("kbd", {}, "\u2193"),
-  " from file to file, ", make("kbd", {}, "Enter"), " opens one, ", make("kbd", {}, "Esc"), " in a filter empties it. Places count bytes from a file's start.")));
+document.body.append(footer(["/"], " to the text filter, ", ["\u2191"], " ", ["\u2193"], " from file to file, ", ["Enter"], " opens one, ",
+  ["Esc"], " in a filter empties it."));
 update();
 
 addEventListener("keydown", (event) => {

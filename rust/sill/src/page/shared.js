@@ -17,6 +17,12 @@ const shown = new Intl.NumberFormat("en").format;
 const counted = (count, thing, things = thing + "s") => `${shown(count)} ${count === 1 ? thing : things}`;
 const foreign = (text, kind = "span") => make(kind, { class: "foreign", dir: "ltr" }, text);
 
+const quiet = (text) => make("p", { class: "quiet" }, text);
+
+// The last line: text, and keys, each in brackets of its own.
+const footer = (...parts) =>
+  make("footer", {}, make("p", {}, ...parts.map((part) => (Array.isArray(part) ? make("kbd", {}, ...part) : part)), " Places count bytes from a file's start."));
+
 const facts = (...pairs) =>
   make("dl", {}, ...pairs.filter(Boolean).flatMap(([word, fact]) => [make("dt", {}, word), make("dd", {}, fact)]));
 

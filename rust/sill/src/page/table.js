@@ -11,14 +11,16 @@ class Files {
       make("button", { type: "button", click: () => this.sort(at) }, column.word)));
     this.before = this.space();
     this.behind = this.space();
-    this.body = make("tbody", { role: "rowgroup", keydown: (event) => this.key(event), click: (event) => this.click(event) }, this.before, this.behind);
+    const heard = { keydown: (event) => this.key(event), click: (event) => this.click(event) };
+    this.body = make("tbody", { role: "rowgroup", ...heard }, this.before, this.behind);
     this.table = make("table", { class: `files ${kind}`, role: "table" },
       make("caption", { class: "unseen" }, label),
       make("colgroup", {}, ...columns.map((column) => make("col", { class: column.width }))),
       make("thead", { role: "rowgroup" }, make("tr", { role: "row" }, ...this.heads)),
       this.body);
     this.nothing = make("p", { class: "nothing" }, "No file here matches.");
-    this.element = make("div", {}, this.table, this.nothing);
+    this.rest = make("p", { class: "nothing", hidden: true });
+    this.element = make("div", {}, this.table, this.nothing, this.rest);
     this.sizes = new ResizeObserver((changes) => this.resized(changes));
     addEventListener("scroll", () => this.draw(), { passive: true });
     addEventListener("resize", () => this.remeasure());
@@ -153,6 +155,8 @@ class Files {
     let first = this.at(above - BEYOND, offsets);
     let last = Math.min(this.shown.length, this.at(above + innerHeight + BEYOND, offsets) + 1);
     if (this.all) [first, last] = [0, Math.min(PAPER, this.shown.length)];
+    this.rest.hidden = !this.all || last === this.shown.length;
+    this.rest.textContent = `and ${counted(this.shown.length - last, "file")} more, on the screen alone`;
     for (const item of [...this.made.keys()]) {
       const at = this.place.get(item);
       if (at === undefined || at < first || at >= last) this.remove(item);

@@ -86,12 +86,15 @@ impl Open {
         }
     }
 
-    /// The step as people read it. A key is read by itself where it holds no other value and refers to none.
+    /// The step as people read it: to a dict's value by its key, where that holds no other value and refers to none.
     fn named(&self, input: &[u8]) -> String {
+        let (step, mut reader) = (self.step(), Reader::new());
         let is_alone = input.get(self.key).is_some_and(|header| !b"()[<>:{cr".contains(&(header & 0x7F)));
-        let mut reader = Reader::new();
-        let key = is_alone.then(|| files::read_value(&mut reader, input, self.key).ok()).flatten();
-        named_step(self.step(), key.map(Golden::root))
+        let key = match step {
+            Step::ValueOf(_) if is_alone => files::read_value(&mut reader, input, self.key).ok(),
+            _ => None,
+        };
+        named_step(step, key.map(Golden::root))
     }
 }
 

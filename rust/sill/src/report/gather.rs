@@ -1,7 +1,7 @@
 //! The parts of the page as they come together, in the order of the files, and the page that they make.
 use super::damage::Drawn;
 use super::file::{Entry, Told};
-use crate::check::{Manner, Totals, Verdict};
+use crate::check::{Manner, Totals, Verdict, totals_as_json};
 use crate::json::{self, Object};
 use crate::origins::ORIGINS;
 use crate::page::{Page, made};
@@ -14,6 +14,9 @@ use std::path::Path;
 /// How much is drawn of the first damaged code object of each file, and of the others, in bytes. What is over is told, not drawn.
 const ROOM_FOR_FIRST: usize = 1_200_000;
 const ROOM_FOR_OTHERS: usize = 500_000;
+
+/// How many of the paths that were given the page names.
+const MOST_PATHS: usize = 8;
 
 /// The page's own script: the table of files, what is known of one, and the page.
 const SCRIPT: &str =
@@ -48,13 +51,10 @@ impl Gathered {
 
     fn number_of(&mut self, folder: String) -> usize {
         let next = self.folders.len();
-        match self.numbers.entry(folder) {
-            std::collections::hash_map::Entry::Occupied(known) => *known.get(),
-            std::collections::hash_map::Entry::Vacant(new) => {
-                self.folders.push(new.key().clone());
-                *new.insert(next)
-            }
-        }
+        *self.numbers.entry(folder).or_insert_with_key(|folder| {
+            self.folders.push(folder.clone());
+            next
+        })
     }
 
     /// A code object with its drawing, if there is room for it.
@@ -73,22 +73,20 @@ impl Gathered {
     pub fn page(&self, totals: &Totals, paths: &[OsString], manner: &Manner) -> String {
         let damaged = totals.paths() - totals.of(Verdict::Accepted);
         let title = format!("sill report: {damaged} of {} not accepted", text::count(totals.paths(), "file"));
-        let counted = totals
-            .named()
-            .fold(Object::new().with("files", totals.files()), |object, (name, count)| object.with(name, count));
         let list = |items: &[String]| format!("[\n{}\n]", items.join(",\n"));
-        let strings = |items: &mut dyn Iterator<Item = String>| json::list(items.map(|item| json::string(&item)));
+        let shown = paths.iter().take(MOST_PATHS).map(|path| json::string(&text::path(Path::new(path))));
         let data = Object::new()
             .text("made", &made())
             .text("version", env!("CARGO_PKG_VERSION"))
-            .with("paths", strings(&mut paths.iter().map(|path| text::path(Path::new(path)))))
+            .with("paths", json::list(shown))
+            .with("more_paths", paths.len().saturating_sub(MOST_PATHS))
             .with("strict", manner.strict)
             .text("prefix", &text::short(&manner.scope.prefix))
-            .with("totals", counted.end())
-            .with("origins", strings(&mut ORIGINS.iter().map(ToString::to_string)))
+            .with("totals", totals_as_json(totals))
+            .with("origins", json::list(ORIGINS.map(json::string)))
             .with("refusals", refusals())
             .with("undrawn", self.undrawn)
-            .with("folders", strings(&mut self.folders.iter().cloned()))
+            .with("folders", json::list(self.folders.iter().map(|folder| json::string(folder))))
             .with("damaged", list(&self.damaged))
             .with("sound", list(&self.sound))
             .end();
