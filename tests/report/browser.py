@@ -137,14 +137,25 @@ class Browser:
         self.click_on(f"document.querySelectorAll({json.dumps(selector)})[{nth}]")
 
     def click_on(self, found):
-        """Moves to the middle of the element that an expression gives, and clicks it."""
-        self.evaluate(f"{found}.scrollIntoView({{block: 'center'}})")
-        self.frame()
-        x, y = self.evaluate(f"(() => {{ const box = {found}.getBoundingClientRect();"
-                             "return [box.left + box.width / 2, box.top + box.height / 2]; })()")
+        """Moves to the middle of the element that an expression gives, once it stands still, and clicks it: nothing may cover it."""
+        before = None
+        while before != (place := self.place(found)):
+            before = place
+        x, y, covered = place
+        assert not covered, f"{found} is covered"
         for kind, buttons in (("mouseMoved", 0), ("mousePressed", 1), ("mouseReleased", 0)):
             self.send("Input.dispatchMouseEvent", type=kind, x=x, y=y, button="left", buttons=buttons, clickCount=1)
         self.frame()
+
+    def place(self, found):
+        """Brings an element into the window, and says where its middle is and whether something else is there."""
+        self.evaluate(f"{found}.scrollIntoView({{block: 'center'}})")
+        self.frame()
+        return self.evaluate(f"""(() => {{
+          const [element, box] = [{found}, {found}.getBoundingClientRect()];
+          const [x, y] = [box.left + box.width / 2, box.top + box.height / 2];
+          return [x, y, !element.contains(document.elementFromPoint(x, y))];
+        }})()""")
 
     def press(self, key, times=1, **more):
         for _ in range(times):
