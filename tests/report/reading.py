@@ -206,6 +206,7 @@ def hold_rows(page, selector, file, found):
     shown = []
     for instructions, row, _ in cells:
         first, *last = [number(at) for at in instructions.split(" to ")]
+        hold(first, len(shown))
         shown += [row] * (1 + (last[0] - first if last else 0))
     [told] = page.command.lines("lines", "--json", file["path"])
     if told.get("instructions"):
