@@ -107,6 +107,8 @@ mod tests {
     fn letters_and_sharing_do_not_count() {
         hold(b")\x02i\x05\0\0\0z\x01a", b"(\x02\0\0\0I\x05\0\0\0\0\0\0\0u\x01\0\0\0a");
         hold(b")\x02\xA9\x01Tr\0\0\0\0", b")\x02)\x01T)\x01T");
+        hold(b"[\x01\0\0\0N", b")\x01N");
+        hold(b"<\x01\0\0\0N", b">\x01\0\0\0N");
         hold(b"[\x01\0\0\0g\0\0\0\0\0\0\0\x80", b")\x01g\0\0\0\0\0\0\0\0");
     }
 
