@@ -1,20 +1,24 @@
-//! `sill check`: what each file comes to, and totals.
+//! `sill check`: what each file comes to, and totals. `sill report` shows the same findings as a page.
 mod findings;
 mod forms;
 mod parallel;
 mod sentences;
 mod totals;
 
+pub use findings::{Finding, Findings, Manner, Verdict, What};
+pub use forms::totals_as_json;
+pub use parallel::{Looked, Task, each_file};
+pub use sentences::{line, told};
+pub use totals::Totals;
+
 use crate::files;
 use crate::glob::Filter;
 use crate::options::Arguments;
 use crate::settings::{self, Scope};
-use crate::terminal::{Colours, Progress};
+use crate::terminal::Colours;
 use crate::{Outcome, complaints};
-use findings::{Manner, Verdict};
 use forms::{Form, SoFar, Teller};
 use std::io::{self, Write};
-use totals::Totals;
 
 pub fn run(arguments: &Arguments, out: &mut dyn Write) -> io::Result<Outcome> {
     let Some(scope) = settings::scope(arguments) else { return Ok(Outcome::Trouble) };
@@ -25,23 +29,15 @@ pub fn run(arguments: &Arguments, out: &mut dyn Write) -> io::Result<Outcome> {
             return Ok(Outcome::Trouble);
         }
     };
-    let items = files::find(arguments.operands(), &Filter::of(arguments));
-    let (mut totals, mut progress, mut so_far) = (Totals::default(), Progress::new(items.len()), SoFar::default());
+    let (items, mut so_far) = (files::find(arguments.operands(), &Filter::of(arguments)), SoFar::default());
     teller.begin(out)?;
-    parallel::check_all(&items, &teller, |item, checked| {
-        if let Some(error) = item.trouble.as_ref().or(checked.error.as_ref()) {
-            progress.clear();
-            complaints::about(&item.path, error);
+    let totals = each_file(&items, &teller, |part: Vec<u8>, progress| {
+        if part.is_empty() {
+            return Ok(());
         }
-        totals.add(checked.answer.verdict);
-        if !checked.answer.part.is_empty() {
-            progress.make_way();
-            teller.put(out, &mut so_far, &checked.answer.part)?;
-        }
-        progress.show(totals.paths());
-        Ok(())
+        progress.make_way();
+        teller.put(out, &mut so_far, &part)
     })?;
-    progress.clear();
     teller.end(out, &so_far, &totals)?;
     Ok(totals.outcome())
 }

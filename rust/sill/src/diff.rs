@@ -1,7 +1,13 @@
 //! `sill diff`: whether two files, or the files of two folders, hold the same values, and where they differ.
+mod beside;
+mod classes;
+mod page;
 mod places;
 mod rows;
+mod tree;
 mod values;
+
+pub use places::named_step;
 
 use crate::files::{self, Item, is_stdin};
 use crate::glob::Filter;
@@ -20,14 +26,20 @@ struct Asked {
     /// Every difference, not only the first.
     all: bool,
     pyc: bool,
+    /// As a page.
+    html: bool,
 }
 
 pub fn run(arguments: &Arguments, out: &mut dyn Write) -> io::Result<Outcome> {
     let [one, other] = [0, 1].map(|at| PathBuf::from(&arguments.operands()[at]));
+    let asked = Asked { all: arguments.has("all"), pyc: arguments.has("pyc"), html: arguments.has("html") };
+    if asked.html && (arguments.has("settings") || one.is_dir() && other.is_dir()) {
+        complaints::say("diff: --html is of two files, and takes no --settings; sill diff --help says how to call it");
+        return Ok(Outcome::Trouble);
+    }
     if arguments.has("settings") {
         return settings::diff(arguments, [&one, &other], out);
     }
-    let asked = Asked { all: arguments.has("all"), pyc: arguments.has("pyc") };
     let below = |folder: &Path, file: &Path| folder.join(file.file_name().unwrap_or(OsStr::new("")));
     match (one.is_dir(), other.is_dir()) {
         (true, true) => folders([&one, &other], &Filter::of(arguments), asked, out),
@@ -43,6 +55,9 @@ pub fn run(arguments: &Arguments, out: &mut dyn Write) -> io::Result<Outcome> {
 
 /// Two files, or a value of each.
 fn pair(paths: [&Path; 2], asked: Asked, out: &mut dyn Write) -> io::Result<Outcome> {
+    if asked.html {
+        return sides(paths, asked).map_or(Ok(Outcome::Trouble), |mut sides| page::show(&mut sides, out));
+    }
     let [one, other] = paths.map(text::path);
     Ok(match compared(paths, asked, out)? {
         Compared::Same { values, by_bytes } => {
@@ -56,14 +71,16 @@ fn pair(paths: [&Path; 2], asked: Asked, out: &mut dyn Write) -> io::Result<Outc
 }
 
 fn compared(paths: [&Path; 2], asked: Asked, out: &mut dyn Write) -> io::Result<Compared> {
+    sides(paths, asked).map_or(Ok(Compared::Trouble), |mut sides| compare(&mut sides, asked, out))
+}
+
+/// Both files; nothing where one cannot be read, which is told.
+fn sides(paths: [&Path; 2], asked: Asked) -> Option<[Side; 2]> {
     let [one, other] = paths.map(|path| {
         let (file, value) = file_and_value(path);
         files::read(&file).map(|input| Side::new(path, input, value, asked.pyc))
     });
-    match (one, other) {
-        (Some(one), Some(other)) => compare(&mut [one, other], asked, out),
-        _ => Ok(Compared::Trouble),
-    }
+    one.zip(other).map(|(one, other)| [one, other])
 }
 
 /// `FILE#2` is the second value of FILE, unless there is a file of that very name.

@@ -4,12 +4,14 @@ mod completions;
 mod making;
 mod manual;
 mod pages;
+mod report;
 mod settings;
 
 pub use completions::completions;
 pub use making::{COMPLETIONS, MANUAL, REPAIR, WRITE};
 pub use manual::{man, manual};
 pub use pages::{CHECK, DIFF, LINES, ROW, SHOW, TOTALS};
+pub use report::REPORT;
 pub use settings::SETTINGS;
 
 /// A command's page.
@@ -48,7 +50,7 @@ written (one line on standard error each; the other files are still done).";
 
 /// Every page, in the order in which they are listed.
 pub const PAGES: &[&Page] =
-    &[&CHECK, &SHOW, &LINES, &ROW, &WRITE, &REPAIR, &DIFF, &TOTALS, &SETTINGS, &MANUAL, &COMPLETIONS];
+    &[&CHECK, &REPORT, &SHOW, &LINES, &ROW, &WRITE, &REPAIR, &DIFF, &TOTALS, &SETTINGS, &MANUAL, &COMPLETIONS];
 
 /// The longest line of a usage.
 const WIDTH: usize = 110;

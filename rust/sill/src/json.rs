@@ -40,6 +40,11 @@ impl Object {
         Self(format!("{}{comma}{fields}", self.0))
     }
 
+    /// How many bytes its fields have so far.
+    pub fn size(&self) -> usize {
+        self.0.len() - 1
+    }
+
     pub fn end(self) -> String {
         self.0 + "}"
     }

@@ -2,6 +2,8 @@
 mod json;
 mod table;
 
+pub use table::sure_rows;
+
 use crate::files::{self, Item};
 use crate::glob::Filter;
 use crate::options::Arguments;
@@ -88,14 +90,14 @@ fn head(unheaded: &mut bool, path: &Path, out: &mut dyn Write) -> io::Result<()>
 
 /// Why the row that is shown is not one that an entry gave.
 #[derive(Clone, Copy, PartialEq, Eq)]
-enum Why {
+pub enum Why {
     LeftOver,
     CutEntry,
     NoPlace,
     BelowOne,
 }
 
-fn why_not_sure(located: Located) -> Option<Why> {
+pub fn why_not_sure(located: Located) -> Option<Why> {
     match located.source() {
         source if source.is_sure() => None,
         source if !source.is_from_entry() => Some(Why::LeftOver),
@@ -120,7 +122,7 @@ impl Why {
 }
 
 /// Lines as they are stored, where one of them is shown as 1.
-fn stored(code: &Code, locations: sillgarland::Locations) -> Option<Vec<(i64, i64)>> {
+pub fn stored(code: &Code, locations: sillgarland::Locations) -> Option<Vec<(i64, i64)>> {
     let below = locations.iter().any(|located| why_not_sure(located) == Some(Why::BelowOne));
     if below { code.stored_lines(&mut Records::default()) } else { None }
 }

@@ -11,10 +11,16 @@ mod json;
 mod lines;
 mod looks;
 mod options;
+mod origins;
+mod page;
 mod repair;
+mod report;
 mod row;
+#[cfg(test)]
+mod samples;
 mod settings;
 mod show;
+mod spans;
 mod terminal;
 mod text;
 mod totals;
@@ -48,6 +54,7 @@ type Command = fn(&Arguments, &mut dyn Write) -> io::Result<Outcome>;
 
 const COMMANDS: &[(&Page, Command)] = &[
     (&help::CHECK, check::run),
+    (&help::REPORT, report::run),
     (&help::SHOW, show::run),
     (&help::LINES, lines::run),
     (&help::ROW, row::run),

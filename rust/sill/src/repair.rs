@@ -69,6 +69,12 @@ struct Change {
     bytes: Vec<u8>,
 }
 
+/// What a repair of a file would do with each code object whose table is not whole, by its number among those of the file, as `--json`
+/// tells it; or why nothing would be written.
+pub fn planned(input: &[u8]) -> Result<BTreeMap<usize, String>, String> {
+    Ok(repaired(input)?.told.into_iter().map(|(at, told)| (at, told.as_json())).collect())
+}
+
 /// Everything is decided by value: tables, and what else names them, lie within one.
 fn repaired(input: &[u8]) -> Result<Report, String> {
     let (mut told, mut changes, mut objects) = (ByNumber::new(), Vec::new(), 0);

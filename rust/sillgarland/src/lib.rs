@@ -67,7 +67,7 @@ pub use pieces::{Ended, Pieces};
 pub use reader::Reader;
 pub use refusal::{Place, Refusal, Refused};
 pub use salvage::{Salvaged, salvage};
-pub use same::{Difference, Path, Step, What, each_difference, first_difference};
+pub use same::{Difference, Path, Step, What, differences_at, each_difference, first_difference};
 pub use settings::{
     EDITION, FromFile, MOST_CONTENTS, Setting, edition, rewrite_settings, save_edition, setting, settings_field,
     settings_fields,

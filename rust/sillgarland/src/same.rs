@@ -186,8 +186,9 @@ fn same_kind(left: Value, right: Value) -> bool {
     left.children().len() == 0 || kind(left) == kind(right)
 }
 
-/// In what two values differ themselves, their children aside: one thing, or several numbers of two code objects.
-fn differences_at(left: Value, right: Value) -> impl Iterator<Item = What> {
+/// In what two values differ themselves, their children aside: one thing, or several numbers of two code objects. Children are compared
+/// one by one unless it is [`What::Content`].
+pub fn differences_at(left: Value, right: Value) -> impl Iterator<Item = What> {
     let codes = left.as_code().zip(right.as_code());
     let numbers = codes.map(|(left, right)| numbers_that_differ(&left, &right)).into_iter().flatten();
     numbers.map(What::Number).chain(if codes.is_some() { None } else { difference_at(left, right) })

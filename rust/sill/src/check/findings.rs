@@ -162,6 +162,11 @@ impl Findings {
         self.found.iter().map(|finding| finding.what.verdict()).max().unwrap_or(Verdict::Accepted)
     }
 
+    /// Values, code objects, instructions, and how many of these have no sure row.
+    pub fn counts(&self) -> [usize; 4] {
+        [self.values, self.code_objects, self.instructions, self.not_sure]
+    }
+
     fn add_value(&mut self, start: usize, golden: Golden, manner: &Manner, records: &mut Records) {
         self.values += 1;
         for code in golden.code_objects().filter(|code| manner.scope.covers(code)) {

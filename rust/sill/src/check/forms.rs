@@ -6,8 +6,10 @@ mod junit;
 mod sarif;
 mod text;
 
+pub use json::totals as totals_as_json;
+
 use super::findings::{Findings, Manner, Verdict, What};
-use super::parallel::Task;
+use super::parallel::{Looked, Task};
 use super::totals::Totals;
 use crate::terminal::Colours;
 use std::io::{self, Write};
@@ -34,12 +36,6 @@ pub struct Teller {
     pub colours: Colours,
 }
 
-/// A file's verdict, and its part of the output.
-pub struct Told {
-    pub verdict: Verdict,
-    pub part: Vec<u8>,
-}
-
 /// What has come together: whether a part was put, and the parts that wait for the totals.
 #[derive(Default)]
 pub struct SoFar {
@@ -47,29 +43,27 @@ pub struct SoFar {
     kept: Vec<u8>,
 }
 
+/// A file's answer is its part of the output.
 impl Task for Teller {
-    type Answer = Told;
+    type Answer = Vec<u8>;
 
     fn manner(&self) -> &Manner {
         &self.manner
     }
 
-    fn answer(&self, path: &Path, checked: Result<Findings, &io::Error>) -> Told {
-        let verdict = checked.as_ref().map_or(Verdict::Trouble, Findings::verdict);
-        let part = if self.leaves_out(verdict, &checked) {
-            Vec::new()
-        } else {
-            match (&self.form, &checked) {
-                (Form::List(..), _) => listed(path),
-                (Form::Text, Ok(findings)) => text::part(path, findings, self.all, self.colours).into_bytes(),
-                (Form::Text, Err(_)) => Vec::new(), // told on standard error
-                (Form::Json, _) => json::part(path, verdict, &checked).into_bytes(),
-                (Form::Junit, _) => junit::part(path, verdict, &checked).into_bytes(),
-                (Form::Sarif, _) => sarif::part(path, &checked).into_bytes(),
-                (Form::Github, _) => github::part(path, &checked).into_bytes(),
-            }
-        };
-        Told { verdict, part }
+    fn answer(&self, Looked { path, verdict, checked, .. }: Looked) -> Vec<u8> {
+        if self.leaves_out(verdict, &checked) {
+            return Vec::new();
+        }
+        match (&self.form, &checked) {
+            (Form::List(..), _) => listed(path),
+            (Form::Text, Ok(findings)) => text::part(path, findings, self.all, self.colours).into_bytes(),
+            (Form::Text, Err(_)) => Vec::new(), // told on standard error
+            (Form::Json, _) => json::part(path, verdict, &checked).into_bytes(),
+            (Form::Junit, _) => junit::part(path, verdict, &checked).into_bytes(),
+            (Form::Sarif, _) => sarif::part(path, &checked).into_bytes(),
+            (Form::Github, _) => github::part(path, &checked).into_bytes(),
+        }
     }
 }
 

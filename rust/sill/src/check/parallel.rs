@@ -1,6 +1,9 @@
 //! Files in parallel, and what each came to in the order of the files.
-use super::findings::{Findings, Manner};
+use super::findings::{Findings, Manner, Verdict};
+use super::totals::Totals;
+use crate::complaints;
 use crate::files::{self, Item};
+use crate::terminal::Progress;
 use sillgarland::{Reader, Records};
 use std::collections::BTreeMap;
 use std::io;
@@ -12,15 +15,25 @@ use std::thread;
 /// The deepest nesting is read on less than half of this.
 const WORKERS_STACK: usize = 4 << 20;
 
-/// What is done with each file, by whichever worker has it: what was found, or why it could not be read, becomes an answer.
+/// What is done with each file, by whichever worker has it: its bytes and what was found in them, or why it could not be read,
+/// becomes an answer.
 pub trait Task: Sync {
     type Answer: Send;
     fn manner(&self) -> &Manner;
-    fn answer(&self, path: &Path, checked: Result<Findings, &io::Error>) -> Self::Answer;
+    fn answer(&self, file: Looked) -> Self::Answer;
+}
+
+/// A file that was looked at.
+pub struct Looked<'a> {
+    pub path: &'a Path,
+    /// Its bytes; none where it could not be read.
+    pub input: &'a [u8],
+    pub verdict: Verdict,
+    pub checked: Result<Findings, &'a io::Error>,
 }
 
 /// Checks files in parallel, and hands on each answer in the order of the files.
-pub fn check_all<T: Task>(
+fn check_all<T: Task>(
     items: &[Item],
     task: &T,
     mut act: impl FnMut(&Item, Checked<T::Answer>) -> io::Result<()>,
@@ -50,10 +63,40 @@ pub fn check_all<T: Task>(
     })
 }
 
-/// An answer, and the error where the file could not be read only now.
+/// Does the task with every file: troubles are told, a person who watches sees how far it is, and each answer is handed on in the
+/// order of the files. Gives the totals.
+pub fn each_file<T: Task>(
+    items: &[Item],
+    task: &T,
+    mut act: impl FnMut(T::Answer, &mut Progress) -> io::Result<()>,
+) -> io::Result<Totals> {
+    let (mut totals, mut progress) = (Totals::default(), Progress::new(items.len()));
+    check_all(items, task, |item, checked| {
+        if let Some(error) = item.trouble.as_ref().or(checked.error.as_ref()) {
+            progress.clear();
+            complaints::about(&item.path, error);
+        }
+        totals.add(checked.verdict);
+        act(checked.answer, &mut progress)?;
+        progress.show(totals.paths());
+        Ok(())
+    })?;
+    progress.clear();
+    Ok(totals)
+}
+
+/// A file's verdict and the answer, and the error where it could not be read only now.
 pub struct Checked<A> {
+    pub verdict: Verdict,
     pub answer: A,
     pub error: Option<io::Error>,
+}
+
+impl<A> Checked<A> {
+    fn of(path: &Path, input: &[u8], found: Result<Findings, &io::Error>, task: &impl Task<Answer = A>) -> Self {
+        let verdict = found.as_ref().map_or(Verdict::Trouble, Findings::verdict);
+        Self { verdict, answer: task.answer(Looked { path, input, verdict, checked: found }), error: None }
+    }
 }
 
 /// A worker: one buffer, one reader, one store of locations for all the files it takes. It stops when nobody listens.
@@ -77,13 +120,16 @@ struct Worker {
 impl Worker {
     fn check<T: Task>(&mut self, item: &Item, task: &T) -> Checked<T::Answer> {
         if let Some(trouble) = &item.trouble {
-            return Checked { answer: task.answer(&item.path, Err(trouble)), error: None };
+            return Checked::of(&item.path, &[], Err(trouble), task);
         }
         match files::read_into(&item.path, &mut self.buffer) {
-            Err(error) => Checked { answer: task.answer(&item.path, Err(&error)), error: Some(error) },
+            Err(error) => {
+                let checked = Checked::of(&item.path, &[], Err(&error), task);
+                Checked { error: Some(error), ..checked }
+            }
             Ok(()) => {
                 let found = Findings::of(&self.buffer, task.manner(), &mut self.reader, &mut self.records);
-                Checked { answer: task.answer(&item.path, Ok(found)), error: None }
+                Checked::of(&item.path, &self.buffer, Ok(found), task)
             }
         }
     }

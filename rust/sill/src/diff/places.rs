@@ -13,10 +13,18 @@ pub fn path_in(root: Value, path: &Path) -> String {
             Step::ValueOf(at) => value.children().nth(2 * at),
             _ => None,
         };
-        let told = key.map_or(step.to_string(), |key| format!("[{}]", shown_key(key)));
+        let told = named_step(*step, key);
         value = child(value, *step).unwrap_or(value);
         shown + &told
     })
+}
+
+/// A step, that to a dict's value by its key, where that is known.
+pub fn named_step(step: Step, key: Option<Value>) -> String {
+    match (step, key) {
+        (Step::ValueOf(_), Some(key)) => format!("[{}]", shown_key(key)),
+        _ => step.to_string(),
+    }
 }
 
 /// The child that a step leads to.

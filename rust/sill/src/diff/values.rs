@@ -4,18 +4,18 @@ use super::{Asked, rows};
 use crate::by_bytes::{self, Told};
 use crate::{complaints, files, looks, text, words};
 use sillgarland::{
-    Content, Difference, Golden, NUMBERS, Reader, Refused, Value, What, each_difference, first_difference,
+    Code, Content, Difference, Golden, NUMBERS, Reader, Refused, Value, What, each_difference, first_difference,
 };
 use std::io::{self, Write};
 use std::path::{Path, PathBuf};
 
 /// A file, how far it has been compared, and whether only one of its values is.
 pub struct Side {
-    path: PathBuf,
-    input: Vec<u8>,
+    pub path: PathBuf,
+    pub input: Vec<u8>,
     /// Where the next value begins, and its number.
-    at: usize,
-    value: usize,
+    pub at: usize,
+    pub value: usize,
     only: Option<usize>,
     done: bool,
 }
@@ -38,23 +38,23 @@ impl Side {
     }
 
     /// Whether a value follows. An empty file has a first value to be asked for too: the answer is a refusal.
-    fn has_more(&self) -> bool {
+    pub fn has_more(&self) -> bool {
         !self.done && (self.at < self.input.len() || self.value == 1)
     }
 
-    fn read<'r>(&'r self, reader: &'r mut Reader) -> Result<Golden<'r>, Refused> {
+    pub fn read<'r>(&'r self, reader: &'r mut Reader) -> Result<Golden<'r>, Refused> {
         files::read_value(reader, &self.input, self.at)
     }
 
     /// Behind a value of so many bytes.
-    fn go_on(&mut self, consumed: usize) {
+    pub fn go_on(&mut self, consumed: usize) {
         self.at += consumed;
         self.value += 1;
         self.done = self.only.is_some();
     }
 
     /// Up to the value that alone is asked for; false where there is none.
-    fn skip(&mut self, reader: &mut Reader) -> Result<bool, Refused> {
+    pub fn skip(&mut self, reader: &mut Reader) -> Result<bool, Refused> {
         let only = self.only.unwrap_or(1);
         while self.value < only && self.has_more() {
             let consumed = self.read(reader)?.consumed();
@@ -62,6 +62,12 @@ impl Side {
             self.value += 1;
         }
         Ok(self.value == only && self.has_more())
+    }
+
+    /// Tells that there is no value of the number that is asked for.
+    pub fn complain(&self) {
+        let told = format!("has no value {}", self.only.unwrap_or(1));
+        complaints::about(&self.path, &io::Error::other(told));
     }
 
     fn tell_refused(&self, refused: &Refused, out: &mut dyn Write) -> io::Result<()> {
@@ -76,8 +82,7 @@ pub fn compare(sides: &mut [Side; 2], asked: Asked, out: &mut dyn Write) -> io::
         match side.skip(reader) {
             Ok(true) => {}
             Ok(false) => {
-                let told = format!("has no value {}", side.only.unwrap_or(1));
-                complaints::about(&side.path, &io::Error::other(told));
+                side.complain();
                 return Ok(Compared::Trouble);
             }
             Err(refused) => return side.tell_refused(&refused, out).map(|()| Compared::Different),
@@ -171,7 +176,7 @@ fn tell_differences(goldens: [Golden; 2], sides: &[Side; 2], asked: Asked, out: 
 }
 
 /// Which values are compared.
-fn number(sides: &[Side; 2]) -> String {
+pub fn number(sides: &[Side; 2]) -> String {
     match [sides[0].value, sides[1].value] {
         [one, other] if one == other => format!("value {one}"),
         [one, other] => format!("values {one} and {other}"),
@@ -206,16 +211,20 @@ fn tell(
 fn shown(value: Value, what: What) -> String {
     match (what, value.as_code()) {
         (What::Number(name), Some(code)) => {
-            let at = NUMBERS.iter().position(|number| *number == name);
-            let number = at.map_or(i64::from(code.first_line()), |at| i64::from(code.numbers()[at]));
-            format!("code object {}, {name} {number}", text::name(code.qualified_name()))
+            format!("code object {}, {name} {}", text::name(code.qualified_name()), number_named(&code, name))
         }
         _ => text::holds(value),
     }
 }
 
+/// A number of a code object, its first line among them.
+pub fn number_named(code: &Code, name: &str) -> i64 {
+    let at = NUMBERS.iter().position(|number| *number == name);
+    at.map_or(i64::from(code.first_line()), |at| i64::from(code.numbers()[at]))
+}
+
 /// Of two texts, or two lots of bytes: a long one is not shown whole, so this says where to look.
-fn first_different_byte(left: Value, right: Value) -> Option<usize> {
+pub fn first_different_byte(left: Value, right: Value) -> Option<usize> {
     let (left, right) = match (left.content(), right.content()) {
         (Content::Bytes(left), Content::Bytes(right)) => (left, right),
         (Content::Text(left), Content::Text(right)) => (left.bytes(), right.bytes()),

@@ -4,26 +4,29 @@ use super::{HELP, Known, Page};
 
 const JSON: Known = Known { short: None, long: "json", word: None, text: "as JSON, for machines" };
 
-const EXT: Known = Known {
+pub const EXT: Known = Known {
     short: None,
     long: "ext",
     word: Some("EXT"),
     text: "of folders, only names that end in .EXT (may be repeated)",
 };
 
-const GLOB: Known = Known {
+pub const GLOB: Known = Known {
     short: None,
     long: "glob",
     word: Some("PATTERN"),
     text: "of folders, only what matches: * ? [a-z], and ** across folders (may be repeated)",
 };
 
-const PYC: Known = Known {
+pub const PYC: Known = Known {
     short: None,
     long: "pyc",
     word: None,
     text: "skip the first 16 bytes of a file that begins as a .pyc does",
 };
+
+pub const STRICT: Known =
+    Known { short: None, long: "strict", word: None, text: "a code object that ends without a line is a fault" };
 
 const COLOR: Known = Known {
     short: None,
@@ -92,7 +95,7 @@ Files are read in parallel. Each reader holds one file at a time, its stores and
 have 16 MiB, and a file as many values as there are, up to 1 GiB.",
     options: &[
         Known { short: Some('q'), long: "quiet", word: None, text: "leave out accepted files" },
-        Known { short: None, long: "strict", word: None, text: "a code object that ends without a line is a fault" },
+        STRICT,
         Known { short: Some('a'), long: "all", word: None, text: "a line for every damaged code object" },
         Known {
             short: Some('l'),
@@ -220,11 +223,16 @@ A or B may be - for standard input, or FILE#2 for the second value of FILE alone
 folders are compared file by file, by their paths below the folder: only differences are shown, then files that only one
 has, then the totals. Of a folder and a file, the file of that name in the folder is taken.
 
+--html prints a page for a browser, of two files: each pair of values that differ as one tree with both sides, what is the same
+folded, each part with the bytes that it takes in its file, and line tables as rows beside rows. It tells the differences that
+--all tells, as far as 3,000 lines go, and says where there are more.
+
 With --settings, of two files, only code objects whose qualified names begin with the prefix are compared, in their order, or
 whole values where the prefix is empty; by value or by the bytes that they are written as, as the mode says. Where no name
 begins so, nothing is compared, and the exit status is 1.",
     options: &[
         Known { short: Some('a'), long: "all", word: None, text: "every difference, not only the first" },
+        Known { short: None, long: "html", word: None, text: "a page for a browser, on standard output" },
         EXT,
         GLOB,
         PYC,
