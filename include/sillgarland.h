@@ -419,9 +419,20 @@ typedef struct {
     uint64_t second; /* two floats: the second's bits; else 0 */
 } sill_leaf_t;
 
-/* Reads the value at the input's start. The input has at most SILL_MOST_BYTES (14). nodes holds five numbers a node: letter,
- * place, size, first entry, count; entries two an entry: node, next entry; slots one a slot: 0 while open, else node + 1. No
- * entry is SILL_NOTHING. Each capacity counts as at most SILL_MOST_RECORDS records, nesting as at most SILL_MOST_NESTING. A
+typedef struct {
+    uint32_t refusal; /* 14 at 0; 16: place is the node number where its record is not sound, its header would stand before the
+                         input, or its end before its contents' end or beyond the input; or the number of a container whose chain
+                         fails on the way, or with which more entries would have been walked than are used */
+    uint32_t place;
+    uint32_t start;        /* the byte of its header */
+    uint32_t end;          /* the byte behind its last */
+    uint32_t closed;       /* whether every reference in these bytes names a slot reserved in them: 0 or 1 */
+    uint32_t slots_before; /* how many slots were reserved before its header */
+} sill_span_t;
+
+/* Reads the value at the input's start. The input has at most SILL_MOST_BYTES (14). nodes holds six numbers a node: letter,
+ * place, size, first entry, count, and the place after its last byte; entries two an entry: node, next entry; slots one a slot:
+ * 0 while open, else node + 1. No entry is SILL_NOTHING. Each capacity counts as at most SILL_MOST_RECORDS records, nesting as at most SILL_MOST_NESTING. A
  * record of each kind for every byte of the input is always enough; fewer do for most inputs, and 11, 12 and 13 ask for
  * more. The root is node 0. A nesting of 2,000 needs less than 1 MiB of stack. */
 sill_read_t sill_read(const uint8_t *input, size_t input_len, uint32_t *nodes, size_t nodes_len, uint32_t *entries,
@@ -437,6 +448,12 @@ sill_written_t sill_write(const uint8_t *input, size_t input_len, const uint32_t
 /* What a node holds that has no children. Any node store may be asked, of which so many nodes count as used. */
 sill_leaf_t sill_leaf(const uint8_t *input, size_t input_len, const uint32_t *nodes, size_t nodes_len, uint32_t used,
                       uint32_t node);
+
+/* The bytes of a node, from its header to its end; of one that is shared by reference, where it stands itself. Any stores may be
+ * asked, of which so many nodes and entries count as used. Of stores that a reading left: where closed is 1, the bytes alone, each
+ * reference's index in them lowered by slots_before, read as the same value. */
+sill_span_t sill_span(const uint8_t *input, size_t input_len, const uint32_t *nodes, size_t nodes_len, const uint32_t *entries,
+                      size_t entries_len, uint32_t used_nodes, uint32_t used_entries, uint32_t node);
 
 /* The line table that is a bytes node's contents, as sill_locate reads it: 14 at 0, then 16 at the node number where its
  * record is not sound or it is not bytes. Places of 18 count from the table's start. */

@@ -98,6 +98,42 @@ class Value:
                 return out.raw[: accepted(answer).written]
             room = min(lib.MOST_BYTES, 4 * room)
 
+    @property
+    def span(self) -> Tuple[int, int]:
+        """The bytes of the input that it takes, from its header to the one behind its last; of a shared value, where it stands itself.
+
+        >>> [value.span for value in read(b")\\x02\\xe9\\x05\\0\\0\\0r\\0\\0\\0\\0")[0].walk()]
+        [(0, 12), (2, 7)]
+        """
+        reading = self._reading
+        return reading.start + reading.header(self.node), reading.start + reading.end_of(self.node)
+
+    def alone(self) -> Optional[Bytes]:
+        """Its bytes as a value of their own, the indices of references in them lowered by the slots reserved before; None where a
+        reference in them names a value outside.
+
+        >>> pair = read(b")\\x02\\xe9\\x05\\0\\0\\0)\\x02\\xcer\\x01\\0\\0\\0")[0].children()[1]
+        >>> pair.alone()
+        b')\\x02\\xcer\\x00\\x00\\x00\\x00'
+        """
+        reading = self._reading
+        told = accepted(
+            lib.sill_span(
+                *reading.input(), reading.nodes, NODE * reading.used_nodes, reading.entries, 2 * reading.used_entries,
+                reading.used_nodes, reading.used_entries, self.node,
+            )
+        )
+        if not told.closed:
+            return None
+        found = bytearray(reading.data[reading.start + told.start : reading.start + told.end])
+        node = self.node
+        while node < reading.used_nodes and reading.header(node) < told.end:
+            for at, _ in reading.references(node):
+                index = slice(at + 1 - told.start, at + 5 - told.start)
+                found[index] = struct.pack("<I", struct.unpack("<I", found[index])[0] - told.slots_before)
+            node += 1
+        return bytes(found)
+
     def leaf(self) -> Any:
         """What a value without children holds, by the library's own answer; TypeError where it has children or is a string or bytes."""
         reading = self._reading

@@ -51,6 +51,7 @@ def _numbers(*names: str) -> List[Tuple[str, Any]]:
 
 Read = _answer("Read", *_numbers("consumed", "nodes", "entries", "slots"))
 Leaf = _answer("Leaf", *_numbers("kind", "pad"), ("first", c_uint64), ("second", c_uint64))
+Span = _answer("Span", *_numbers("start", "end", "closed", "slots_before"))
 Written = _answer("Written", *_numbers("written"))
 Located = _answer("Located", *_numbers("from_entries", "whole"))
 Sourced = _answer("Sourced", *_numbers("from_entries", "with_line", "with_columns", "sure"))
@@ -74,6 +75,7 @@ def _function(name: str, answer: Type[Structure], parameters: str) -> Any:
 sill_read = _function("sill_read", Read, "ssssu")
 sill_write = _function("sill_write", Written, "sssuuuus")
 sill_leaf = _function("sill_leaf", Leaf, "ssuu")
+sill_span = _function("sill_span", Span, "sssuuu")
 sill_locate = _function("sill_locate", Located, "sius")
 sill_sources = _function("sill_sources", Sourced, "sius")
 sill_read_exceptions = _function("sill_read_exceptions", Exceptions, "ss")

@@ -3,17 +3,21 @@
 import ctypes
 import threading
 from ctypes import c_uint32
-from typing import Any, List, Optional, Tuple, Union
+from typing import Any, Iterator, List, Optional, Tuple, Union
 
 from . import _library as lib
 from ._refused import Refused, refusal_of
 
 Buffer = Union[bytes, bytearray, memoryview]
 
-NODE = 5  # numbers a node: letter, place, size, first entry, count
+NODE = 6  # numbers a node: letter, place, size, first entry, count, end
 ENTRY = 2  # numbers an entry: node, next entry
 _NUMBER = 4  # bytes a number
 _GROWTH = 4
+_LEADS = {**dict.fromkeys("sutaA", 5), "z": 2, "Z": 2}  # bytes from the header to the place, where they are not one
+_CODE_NUMBERS = 20  # bytes of a code object before its parts
+_LINE_TABLE, _FIRST_LINE = 8, 4  # before this part stands the first line, of so many bytes
+_REFERENCE = 5  # bytes of a reference
 
 
 class _Stores(threading.local):
@@ -75,6 +79,30 @@ class Reading:
             found.append(entries[ENTRY * entry])
             entry = entries[ENTRY * entry + 1]
         return found
+
+
+    def header(self, node: int) -> int:
+        """Where a node's header stands: before its place, and before a string's length."""
+        letter, place = self.numbers[0][NODE * node : NODE * node + 2]
+        return place - _LEADS.get(chr(letter), 1)
+
+    def end_of(self, node: int) -> int:
+        """The byte behind a node's last."""
+        return self.numbers[0][NODE * node + 5]
+
+    def references(self, node: int) -> Iterator[Tuple[int, int]]:
+        """A node's children by reference: where each stands, and the node that it names. A child that does not begin where the one
+        before it ends is one."""
+        letter, place, size = self.numbers[0][NODE * node : NODE * node + 3]
+        is_code = letter == ord("c")
+        at = place + (_CODE_NUMBERS if is_code else size)
+        for part, child in enumerate(self.children(node)):
+            at += _FIRST_LINE if is_code and part == _LINE_TABLE else 0
+            if self.header(child) == at:
+                at = self.end_of(child)
+            else:
+                yield at, child
+                at += _REFERENCE
 
 
 def read_one(data: bytes, start: int, room: int, nesting: int = lib.MOST_NESTING) -> Union[Reading, Refused]:

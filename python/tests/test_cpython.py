@@ -96,6 +96,27 @@ class BesideCPython(unittest.TestCase):
             ours = sillgarland.loads(marshal.dumps(value))
             self.assertTrue(same(ours, value), value)
 
+    def test_every_span_that_stands_alone_loads_to_an_equal_object(self):
+        values = [marshal.loads(data) for path in modules()[::40] if (data := marshalled(path)) is not None]
+        shared = ["x" * 40, (1, "x" * 40), 2**70]
+        values += [shared, [shared, (1, shared)], {"a": (1.5, "a"), "b": [b"x"] * 3}, frozenset(map(str, range(20)))]
+        asked = alone = 0
+        for value in values:
+            root = sillgarland.read(marshal.dumps(value))[0]
+            nodes = list(root.walk())
+            for node in nodes[:: 1 + len(nodes) // 300]:
+                found = node.alone()
+                asked += 1
+                if found is None:
+                    continue
+                alone += 1
+                again = sillgarland.read(found)
+                self.assertEqual((len(again), again[0].span), (1, (0, len(found))))
+                theirs, ours = marshal.loads(found), node.object()
+                self.assertTrue(same(theirs, ours) or theirs != theirs, (node, theirs, ours))
+        self.assertTrue(0 < alone <= asked)
+        print(f"{alone} of {asked} nodes stand alone, and CPython loads each to an equal object")
+
     def test_leaves_are_what_the_library_answers(self):
         values = [None, True, ..., StopIteration, 7, -7, 2**40, -(2**63), 2**70, 1.5, -2.5j]
         for value in sillgarland.read(marshal.dumps(values))[0].children():

@@ -100,6 +100,14 @@ class Reading(unittest.TestCase):
         self.assertEqual(sillgarland.read(once).canonical(), once)
         self.assertEqual(refused(sillgarland.read(forty_tuples())[0].canonical), (17, "NoRoom", _library.MOST_BYTES))
 
+    def test_spans(self):
+        data = b"N)\x02\xe9\x05\0\0\0)\x02\xfa\x01ar\0\0\0\0"
+        root = sillgarland.read(data)[1]
+        self.assertEqual([value.span for value in root.walk()], [(1, 18), (3, 8), (8, 18), (10, 13)])
+        self.assertEqual([value.alone() for value in root.walk()], [data[1:], data[3:8], None, data[10:13]])
+        inner = sillgarland.read(b")\x02\xe9\x05\0\0\0\xa9\x02\xceR\x02\0\0\0".replace(b"R", b"r"))[0].children()[1]
+        self.assertEqual(inner.alone(), b"\xa9\x02\xcer\x01\0\0\0")
+
     def test_no_copies(self):
         data = golden("rates")
         value = sillgarland.read(data)[0]
@@ -208,7 +216,7 @@ class Held(unittest.TestCase):
         for name in ("MOST_BYTES", "MOST_RECORDS", "MOST_NESTING", "NOTHING", "COUNTERS"):
             self.assertIn(f"#define SILL_{name} {getattr(_library, name)}\n", header)
         plain = re.sub(r"/\*.*?\*/", "", header, flags=re.S)
-        for answer in ("Read", "Leaf", "Written", "Located", "Sourced", "Exceptions", "Split", "Salvaged", "Totalled"):
+        for answer in ("Read", "Leaf", "Span", "Written", "Located", "Sourced", "Exceptions", "Split", "Salvaged", "Totalled"):
             fields, = re.findall(r"typedef struct \{([^}]*)\} sill_%s_t;" % answer.lower(), plain)
             self.assertEqual([name for name, _ in getattr(_library, answer)._fields_], re.findall(r"(\w+);", fields))
 

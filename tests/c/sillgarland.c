@@ -55,33 +55,34 @@ static void test_varints(void)
 
 /* ---- values */
 
-static sill_read_t read_with(const void *input, size_t length, uint32_t nodes[15], uint32_t nesting)
+static sill_read_t read_with(const void *input, size_t length, uint32_t nodes[18], uint32_t nesting)
 {
     uint32_t entries[4], slots[1];
-    return sill_read((const uint8_t *)input, length, nodes, 15, entries, LENGTH(entries), slots, LENGTH(slots), nesting);
+    return sill_read((const uint8_t *)input, length, nodes, 18, entries, LENGTH(entries), slots, LENGTH(slots), nesting);
 }
 
 static void expect_refused(const char *input, size_t length, uint32_t nesting, uint32_t refusal, uint32_t place)
 {
-    uint32_t nodes[15];
+    uint32_t nodes[18];
     memset(nodes, 7, sizeof nodes);
     sill_read_t read = read_with(input, length, nodes, nesting);
     expect(read.refusal == refusal && read.place == place, "refused with its number and place");
-    expect(read.consumed == 0 && read.nodes == 0 && all_zero(nodes, 15), "and nothing is left behind");
+    expect(read.consumed == 0 && read.nodes == 0 && all_zero(nodes, 18), "and nothing is left behind");
 }
 
 /* P1 to P12 of document 01. */
 static void test_sheets(void)
 {
-    uint32_t nodes[15], entries[4], slots[1];
+    uint32_t nodes[18], entries[4], slots[1];
     sill_read_t read = read_with("N", 1, nodes, 2000);
     expect(read.refusal == 0 && read.consumed == 1 && read.nodes == 1, "P1");
 
     read = read_with(")\x02i\x01\0\0\0T", 8, nodes, 2000);
     expect(read.refusal == 0 && read.consumed == 8 && read.nodes == 3 && read.entries == 2, "P4");
-    expect(nodes[0] == ')' && nodes[4] == 2 && nodes[5] == 'i' && nodes[6] == 3 && nodes[7] == 4, "P4's nodes");
+    expect(nodes[0] == ')' && nodes[4] == 2 && nodes[5] == 8 && nodes[6] == 'i' && nodes[7] == 3 && nodes[8] == 4 && nodes[11] == 7,
+           "P4's nodes");
 
-    read = sill_read((const uint8_t *)")\x02\xE9\x05\0\0\0r\0\0\0\0", 12, nodes, 15, entries, 4, slots, 1, 2000);
+    read = sill_read((const uint8_t *)")\x02\xE9\x05\0\0\0r\0\0\0\0", 12, nodes, 18, entries, 4, slots, 1, 2000);
     expect(read.refusal == 0 && read.nodes == 2 && read.slots == 1, "P6");
     expect(entries[0] == 1 && entries[1] == 1 && entries[2] == 1 && entries[3] == NONE, "P6: both entries name node 1");
 
@@ -101,7 +102,7 @@ static void test_sheets(void)
 static void test_leaves(void)
 {
     static const uint8_t input[] = ")\x02i\xFE\xFF\xFF\xFFT";
-    uint32_t nodes[15];
+    uint32_t nodes[18];
     sill_read_t read = read_with(input, 8, nodes, 2000);
     sill_leaf_t leaf = sill_leaf(input, 8, nodes, LENGTH(nodes), read.nodes, 1);
     expect(leaf.refusal == 0 && leaf.kind == 5 && (int64_t)leaf.first == -2 && leaf.pad == 0, "a whole number");
@@ -113,24 +114,43 @@ static void test_leaves(void)
     expect(leaf.refusal == 16 && leaf.place == 3, "a number beyond the used ones");
 }
 
+/* A reference's span is the original's; one that leaves a span is told. */
+static void test_spans(void)
+{
+    const uint8_t *input = (const uint8_t *)")\x02\xE9\x05\0\0\0)\x01r\0\0\0\0";
+    uint32_t nodes[18], entries[6], slots[1];
+    sill_read_t read = sill_read(input, 14, nodes, 18, entries, 6, slots, 1, 2000);
+    sill_span_t span = sill_span(input, 14, nodes, 18, entries, 6, read.nodes, read.entries, 0);
+    expect(span.refusal == 0 && span.start == 0 && span.end == 14 && span.closed == 1 && span.slots_before == 0, "the root's span");
+    span = sill_span(input, 14, nodes, 18, entries, 6, read.nodes, read.entries, 1);
+    expect(span.refusal == 0 && span.start == 2 && span.end == 7 && span.closed == 1 && span.slots_before == 0, "a shared number's");
+    span = sill_span(input, 14, nodes, 18, entries, 6, read.nodes, read.entries, 2);
+    expect(span.refusal == 0 && span.start == 7 && span.end == 14 && span.closed == 0 && span.slots_before == 1, "one with a reference out of it");
+    span = sill_span(input, 14, nodes, 18, entries, 6, read.nodes, read.entries, 3);
+    expect(span.refusal == 16 && span.place == 3 && span.end == 0, "a node that is not there");
+    nodes[17] = 15;
+    span = sill_span(input, 14, nodes, 18, entries, 6, read.nodes, read.entries, 2);
+    expect(span.refusal == 16 && span.place == 2, "an end beyond the input");
+}
+
 /* A shared integer is written out twice; what is refused leaves the output all zero. */
 static void test_writing(void)
 {
     static const uint8_t input[] = ")\x02\xE9\x05\0\0\0r\0\0\0\0";
-    uint32_t nodes[10], entries[4], slots[1];
+    uint32_t nodes[12], entries[4], slots[1];
     uint8_t out[16];
-    sill_read_t read = sill_read(input, 12, nodes, 10, entries, 4, slots, 1, 2000);
+    sill_read_t read = sill_read(input, 12, nodes, 12, entries, 4, slots, 1, 2000);
     memset(out, 7, sizeof out);
-    sill_written_t written = sill_write(input, 12, nodes, 10, entries, 4, read.nodes, read.entries, 0, 2, out, 16);
+    sill_written_t written = sill_write(input, 12, nodes, 12, entries, 4, read.nodes, read.entries, 0, 2, out, 16);
     expect(written.refusal == 0 && written.written == 15, "P6 in its canonical form");
     expect(memcmp(out, "(\x02\0\0\0i\x05\0\0\0i\x05\0\0\0\0", 16) == 0, "its bytes, and zeros follow");
 
-    written = sill_write(input, 12, nodes, 10, entries, 4, read.nodes, read.entries, 0, 1, out, 16);
+    written = sill_write(input, 12, nodes, 12, entries, 4, read.nodes, read.entries, 0, 1, out, 16);
     expect(written.refusal == 10 && written.place == 1 && written.written == 0, "too deep at the child");
-    written = sill_write(input, 12, nodes, 10, entries, 4, read.nodes, read.entries, 2, 2, out, 16);
+    written = sill_write(input, 12, nodes, 12, entries, 4, read.nodes, read.entries, 2, 2, out, 16);
     expect(written.refusal == 16 && written.place == 2, "no such node to write");
     memset(out, 7, sizeof out);
-    written = sill_write(input, 12, nodes, 10, entries, 4, read.nodes, read.entries, 0, 2, out, 14);
+    written = sill_write(input, 12, nodes, 12, entries, 4, read.nodes, read.entries, 0, 2, out, 14);
     expect(written.refusal == 17 && written.place == 14, "one byte short");
     expect(memcmp(out, "\0\0\0\0\0\0\0\0\0\0\0\0\0\0\x07\x07", 16) == 0, "and the fourteen lent bytes are zero");
 }
@@ -405,10 +425,10 @@ static void test_salvage(void)
 static void test_lines(void)
 {
     static const uint8_t input[] = "s\x02\0\0\0\xE9\x02";
-    uint32_t nodes[5], records[13], flat[12];
+    uint32_t nodes[6], records[13], flat[12];
     sill_location_t locations[3];
-    sill_read_t read = sill_read(input, 7, nodes, 5, NULL, 0, NULL, 0, 1);
-    sill_located_t located = sill_locate_node(input, 7, nodes, 5, read.nodes, 0, 10, 3, records, LENGTH(records));
+    sill_read_t read = sill_read(input, 7, nodes, 6, NULL, 0, NULL, 0, 1);
+    sill_located_t located = sill_locate_node(input, 7, nodes, 6, read.nodes, 0, 10, 3, records, LENGTH(records));
     expect(located.refusal == 0 && located.from_entries == 2 && located.whole == 0, "two of three, and not whole");
     expect(records[0] == 11 && records[4] == 11 && records[8] == 10 && records[12] == 0, "11, 11 and then the first line");
 
@@ -421,7 +441,7 @@ static void test_lines(void)
     located = sill_locate(input + 5, 2, 10, 4, records, LENGTH(records));
     expect(located.refusal == 17 && located.place == 3 && all_zero(records, LENGTH(records)), "no room for four");
 
-    located = sill_locate_node(input, 7, nodes, 5, read.nodes, 1, 10, 3, records, LENGTH(records));
+    located = sill_locate_node(input, 7, nodes, 6, read.nodes, 1, 10, 3, records, LENGTH(records));
     expect(located.refusal == 16 && located.place == 1, "no such node");
 }
 
@@ -442,7 +462,7 @@ static void test_split(void)
 enum { DEEPEST = 2000, MOST_BYTES = 1 << 20, MOST_NODES = 1 << 14, STACK = 1 << 20 };
 
 static uint8_t deep_input[MOST_BYTES], deep_output[2 * MOST_BYTES];
-static uint32_t deep_nodes[5 * MOST_NODES], deep_entries[2 * MOST_NODES], deep_slots[1];
+static uint32_t deep_nodes[6 * MOST_NODES], deep_entries[2 * MOST_NODES], deep_slots[1];
 
 static size_t deep_tuples(void)
 {
@@ -511,6 +531,7 @@ int main(void)
     test_varints();
     test_sheets();
     test_leaves();
+    test_spans();
     test_writing();
     test_exceptions();
     test_totals();

@@ -63,7 +63,7 @@ static reading read_with(const uint8_t *data, size_t len, const size_t room[3], 
     r.entries = lend_words(&entries_a, room[1]);
     r.slots = lend_words(&slots_a, room[2]);
     r.answer = sill_read(r.input, len, r.nodes, room[0], r.entries, room[1], r.slots, room[2], nesting);
-    size_t used[3] = {5 * (size_t)r.answer.nodes, 2 * (size_t)r.answer.entries, r.answer.slots};
+    size_t used[3] = {6 * (size_t)r.answer.nodes, 2 * (size_t)r.answer.entries, r.answer.slots};
     for (int i = 0; i < 3; i++) {
         uint32_t *store = i == 0 ? r.nodes : i == 1 ? r.entries : r.slots;
         hold(used[i] <= room[i], "more is used than is lent");
@@ -300,18 +300,32 @@ static void hold_totals(const uint8_t *data, size_t len) {
     hold(c.refusal == 17 && c.place == w.written - 1 && all_zero(cut, w.written - 1), "totals one byte short are not 17");
 }
 
+/* The bytes of a node lie within what was read, hold what it names itself, and the root's are all of it. */
+static void hold_span(const reading *r, uint32_t n) {
+    sill_read_t a = r->answer;
+    sill_span_t span = sill_span(r->input, r->len, r->nodes, r->room[0], r->entries, r->room[1], a.nodes, a.entries, n);
+    if (n == a.nodes) {
+        hold(span.refusal == 16 && span.place == n, "a span of no node");
+        return;
+    }
+    hold(!span.refusal && span.start < span.end && span.end == r->nodes[6 * n + 5] && span.end <= a.consumed, "a span");
+    hold((r->input[span.start] & 0x7F) == r->nodes[6 * n] && span.slots_before <= a.slots, "a span's header");
+    hold(n || (span.start == 0 && span.end == a.consumed && span.closed && !span.slots_before), "the root's span");
+}
+
 /* The leaf of each node, the line table of each node of bytes, on stores that a reading made. */
 static void ask_nodes(const reading *r) {
     uint32_t used = r->answer.nodes, most = used < 64 ? used : 64;
     for (uint32_t n = 0; n <= most; n++) {
         sill_leaf_t leaf = sill_leaf(r->input, r->len, r->nodes, r->room[0], used, n);
         hold((leaf.refusal != 0) == (n == used), "a leaf");
-        if (n == used || r->nodes[5 * n] != 's') continue;
-        uint32_t count = r->nodes[5 * n + 2] % 64;
+        hold_span(r, n);
+        if (n == used || r->nodes[6 * n] != 's') continue;
+        uint32_t count = r->nodes[6 * n + 2] % 64;
         uint32_t *records = lend_words(&records_a, 4 * (size_t)count);
         sill_located_t l =
             sill_locate_node(r->input, r->len, r->nodes, r->room[0], used, n, 7, count, records, 4 * (size_t)count);
-        hold_lines(r->input + r->nodes[5 * n + 1], r->nodes[5 * n + 2], 7, count, &l);
+        hold_lines(r->input + r->nodes[6 * n + 1], r->nodes[6 * n + 2], 7, count, &l);
     }
 }
 
@@ -338,30 +352,32 @@ static void write_back(const reading *r) {
     sill_written_t short_of = write_into(r, 0, NESTING, &outs, w.written - 1, &out);
     hold(short_of.refusal == 17 && short_of.place == w.written - 1, "one byte short is not 17");
     if (w.written > MOST) return;
-    size_t room[3] = {5 * (size_t)w.written, 2 * (size_t)w.written, w.written};
+    size_t room[3] = {6 * (size_t)w.written, 2 * (size_t)w.written, w.written};
     reading again = read_with(kept, w.written, room, NESTING);
     hold(!again.answer.refusal || again.answer.refusal == 8, "what was written does not read");
     if (again.answer.refusal) return;
     hold(again.answer.consumed == w.written && again.answer.slots == 0, "what was written reads otherwise");
     sill_written_t same = write_into(&again, 0, NESTING, &outs, ample, &out);
     int has_code = 0;
-    for (uint32_t n = 0; n < again.answer.nodes; n++) has_code |= again.nodes[5 * n] == 'c';
+    for (uint32_t n = 0; n < again.answer.nodes; n++) has_code |= again.nodes[6 * n] == 'c';
     hold(!same.refusal && (has_code || !memcmp(kept, out, w.written)), "what was written is written otherwise the second time");
 }
 
 /* Stores that no reading made: the input's own bytes. */
 static void hostile(const uint8_t *data, size_t len) {
-    size_t words = len / 4, nodes = words / 2 / 5 * 5, entries = (words - nodes) / 2 * 2;
+    size_t words = len / 4, nodes = words / 2 / 6 * 6, entries = (words - nodes) / 2 * 2;
     reading r = {.input = lend_bytes(&inputs, data, len), .len = len, .room = {nodes, entries, 0}};
     r.nodes = lend_words(&nodes_a, nodes);
     r.entries = lend_words(&entries_a, entries);
-    for (size_t i = 0; i < nodes; i++) r.nodes[i] = i % 5 ? data[4 * i] : data[4 * i] & 0x7F;
+    for (size_t i = 0; i < nodes; i++) r.nodes[i] = i % 6 ? data[4 * i] : data[4 * i] & 0x7F;
     for (size_t i = 0; i < entries; i++) r.entries[i] = data[4 * (nodes + i)] % 8;
-    r.answer.nodes = nodes / 5;
+    r.answer.nodes = nodes / 6;
     r.answer.entries = entries / 2;
     for (uint32_t n = 0; n <= r.answer.nodes && n < 16; n++) {
         uint8_t *out;
         sill_leaf(r.input, len, r.nodes, nodes, r.answer.nodes, n);
+        sill_span_t span = sill_span(r.input, len, r.nodes, nodes, r.entries, entries, r.answer.nodes, r.answer.entries, n);
+        hold(span.refusal ? span.refusal == 16 : span.start < span.end && span.end <= len, "a span of any stores");
         write_into(&r, n, 12, &outs, 512, &out);
     }
 }
@@ -404,18 +420,18 @@ int LLVMFuzzerTestOneInput(const uint8_t *data, size_t len) {
     static int made;
     static uint8_t longer[MOST + 8];
     if (!made++) {
-        inputs = arena_of(64 * MOST), nodes_a = arena_of(20 * MOST), entries_a = arena_of(8 * MOST), slots_a = arena_of(4 * MOST);
+        inputs = arena_of(64 * MOST), nodes_a = arena_of(24 * MOST), entries_a = arena_of(8 * MOST), slots_a = arena_of(4 * MOST);
         outs = arena_of(64 * MOST), outs2 = arena_of(64 * MOST), records_a = arena_of(16 * MOST);
         for (int i = 0; i < 5; i++) lists[i] = arena_of(4 * MOST);
     }
     if (len > MOST - 8) return 0;
-    size_t ample[3] = {5 * len + 3, 2 * len + 1, len};
+    size_t ample[3] = {6 * len + 3, 2 * len + 1, len};
     reading r = read_with(data, len, ample, NESTING);
     sill_read_t plain = r.answer;
     if (!plain.refusal) {
         ask_nodes(&r);
         write_back(&r);
-        size_t exact[3] = {5 * (size_t)plain.nodes, 2 * (size_t)plain.entries, plain.slots};
+        size_t exact[3] = {6 * (size_t)plain.nodes, 2 * (size_t)plain.entries, plain.slots};
         hold(same_answer(plain, read_with(data, len, exact, NESTING)), "in just enough room");
         for (int i = 0; i < 3; i++) {
             if (!exact[i]) continue;

@@ -42,4 +42,5 @@ pub mod Writenames
 pub mod Writevalue
 pub mod Writer
 pub mod Locate
+pub mod Nodespan
 pub mod Sillgarland

@@ -17,6 +17,9 @@ use Rattle.agreement.proofs.Same.{one, in-models}
 pub sill-leaf-agrees : Agree sillgarland.leaves.sill_leaf.ended sillgarland.leaves.sill_leaf.Reads.Asked sillgarland.leaves.sill_leaf.Reads.Learnt
 sill-leaf-agrees κs a asked r r′ ws ws′ p p′ = (one p p′, refl)
 
+pub sill-span-agrees : Agree sillgarland.spans.sill_span.ended sillgarland.spans.sill_span.Reads.Asked sillgarland.spans.sill_span.Reads.Learnt
+sill-span-agrees κs a asked r r′ ws ws′ p p′ = (one p p′, refl)
+
 pub sill-locate-node-agrees : Agree sillgarland.leaves.sill_locate_node.ended sillgarland.leaves.sill_locate_node.Reads.Asked sillgarland.leaves.sill_locate_node.Reads.Learnt
 sill-locate-node-agrees κs a asked r r′ ws ws′ p p′ = (one (p .0) (p′ .0), λ i. (tt, (tt, (tt, (tt, (tt, (tt, (one (p .1) (p′ .1) i, tt))))))))
 

@@ -9,7 +9,7 @@ use Rattle.agreement.proofs.Same.{one, retold}
 
 -- a node's numbers, from the grammar's words back
 abbrev nodeFrom : state.Node → Node
-nodeFrom n = record { letter = n .letter; place = n .place; size = n .size; first = n .first; count = n .count }
+nodeFrom n = record { letter = n .letter; place = n .place; size = n .size; first = n .first; count = n .count; end = n .end }
 
 pub at-most-agrees : Agree stores.at_most.ended stores.at_most.Reads.Asked stores.at_most.Reads.Learnt
 at-most-agrees κs a asked r r′ ws ws′ p p′ = (one p p′, refl)
@@ -44,6 +44,9 @@ node-of-agrees κs a asked r r′ ws ws′ p p′ = (retold nodeOf nodeFrom (λ 
 pub letter-of-agrees : Agree stores.letter_of.ended stores.letter_of.Reads.Asked stores.letter_of.Reads.Learnt
 letter-of-agrees κs a asked r r′ ws ws′ p p′ = (one p p′, refl)
 
+pub place-of-agrees : Agree stores.place_of.ended stores.place_of.Reads.Asked stores.place_of.Reads.Learnt
+place-of-agrees κs a asked r r′ ws ws′ p p′ = (one p p′, refl)
+
 pub size-of-agrees : Agree stores.size_of.ended stores.size_of.Reads.Asked stores.size_of.Reads.Learnt
 size-of-agrees κs a asked r r′ ws ws′ p p′ = (one p p′, refl)
 
@@ -52,6 +55,9 @@ first-of-agrees κs a asked r r′ ws ws′ p p′ = (one p p′, refl)
 
 pub count-of-agrees : Agree stores.count_of.ended stores.count_of.Reads.Asked stores.count_of.Reads.Learnt
 count-of-agrees κs a asked r r′ ws ws′ p p′ = (one p p′, refl)
+
+pub end-of-agrees : Agree stores.end_of.ended stores.end_of.Reads.Asked stores.end_of.Reads.Learnt
+end-of-agrees κs a asked r r′ ws ws′ p p′ = (one p p′, refl)
 
 pub child-of-agrees : Agree stores.child_of.ended stores.child_of.Reads.Asked stores.child_of.Reads.Learnt
 child-of-agrees κs a asked r r′ ws ws′ p p′ = (one p p′, refl)

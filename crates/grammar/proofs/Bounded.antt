@@ -44,7 +44,7 @@ first-used-or-none {s} {r} a n l =
     let f = a .finished n l in
     linked-first (r .1 .entries) (getD (r .1 .nodes) n blank .first) (f .kids) (f .linked)
 
-abbrev none-claimed : Need
+abbrev pub none-claimed : Need
 none-claimed = record { levels = 0; nodes = 0; entries = 0; slots = 0 }
 
 module _ (s : List ℕ) (small : length s ≤ mostBytes) where
@@ -54,7 +54,7 @@ module _ (s : List ℕ) (small : length s ≤ mostBytes) where
   abbrev C : ℕ → Type 0
   C p = p ≤ length s
 
-  at-start : Holds s none-claimed start
+  pub at-start : Holds s none-claimed start
   at-start =
       record {
         within = omega arith;

@@ -163,7 +163,7 @@ both : (a b : Bool) → a ≡ true → b ≡ true → a && b ≡ true
 both true b p q = q
 both false b p q = p
 
-plain-size : (ch : Children) (place size line : ℕ) → NotParts ch → sizeOf ch place size line ≡ size
+pub plain-size : (ch : Children) (place size line : ℕ) → NotParts ch → sizeOf ch place size line ≡ size
 plain-size (items k) place size line h = refl
 plain-size pairs place size line h = refl
 plain-size parts place size line h = absurd h

@@ -16,7 +16,7 @@ use Rattle.grammar.specs.Fields.{Fields, Children, items, pairs, parts, 
 use Rattle.grammar.specs.State.{State, start, blank, movedTo}
 use Rattle.grammar.specs.Steps.{Front, known, opens, stored, reference, reserving, opened, header, front, Chain, fresh, attach, Rule, whatever, suits, Reader, child, kids, passed, couples, codeParts, rules, codePart, localsPart, kindsPart, linePart, lined, firstLine, partsFrom, faultOf, ended, body, enter, after, one, value}
 use Rattle.grammar.proofs.Following.{Need, raise, Follows, FollowsA, follows-bind, follows-cond, follows-reads}
-use Rattle.grammar.proofs.Standing.{Holds, Valued, Chained, since-refl, attached, Claimed, entered, started, closed}
+use Rattle.grammar.proofs.Standing.{Holds, Valued, Chained, attached, Claimed, entered, started, closed}
 use Rattle.grammar.proofs.Fielding.{ofInput, Own, NotParts, Said, field-in, fields-in, codeFields-in, contained-in, Filled, closing-sound, said-ahead, said-within, ownClass, class-own}
 
 -- A node is known, or its letter, flag and fields are, and its node and slot are claimed.
@@ -62,10 +62,10 @@ claims-both (suc g) h =
     record { nodes = omega (arith, h .claimed-nodes); entries = h .claimed-entries; slots = omega (arith, h .claimed-slots) }
 
 module _ (s : List ℕ) (small : length s ≤ mostBytes) where
-  abbrev Q : ℕ → ℕ → Type 0
+  abbrev pub Q : ℕ → ℕ → Type 0
   Q n p = Own s n p
 
-  abbrev C : ℕ → Type 0
+  abbrev pub C : ℕ → Type 0
   C p = p ≤ length s
 
   -- Before the children.
@@ -117,7 +117,7 @@ module _ (s : List ℕ) (small : length s ≤ mostBytes) where
 
   -- The children.
 
-  abbrev Keeps : Reader → Type 0
+  abbrev pub Keeps : Reader → Type 0
   Keeps f = (t : Need) (st : State) → Holds s t st → Follows Q C (Valued s st) t (f st)
 
   -- one child more
@@ -127,7 +127,7 @@ module _ (s : List ℕ) (small : length s ≤ mostBytes) where
     pub one-more : length (d .kids) ≡ length (c .kids) + 1
     pub line : d .line ≡ c .line
 
-  child-keeps : (rule : Rule) (f : Reader) → Keeps f → (b : State) (t : Need) (c : Chain) → Chained s b t c → Follows Q C (Childed b c) t (child rule f c)
+  pub child-keeps : (rule : Rule) (f : Reader) → Keeps f → (b : State) (t : Need) (c : Chain) → Chained s b t c → Follows Q C (Childed b c) t (child rule f c)
   unfolding child attach
   child-keeps rule f ok b t c k =
       follows-bind Q C (Valued s (c .st)) (Childed b c) t (f (c .st)) _ (ok t (c .st) (k .holds))
@@ -135,10 +135,10 @@ module _ (s : List ℕ) (small : length s ≤ mostBytes) where
       (λ e. (k .holds .within, record { chained = attached small k v; past = v .past; one-more = length-append (c .kids) (r .0 ∷ []); line = refl }))
       (λ e. (refl, k .holds .within)))
 
-  abbrev Counting : State → ℕ → Need → Chain → Type 0
+  abbrev pub Counting : State → ℕ → Need → Chain → Type 0
   Counting b n t c = Chained s b t c × (length (c .kids) ≡ n)
 
-  kids-keeps : (f : Reader) → Keeps f → (b : State) (k n : ℕ) (t : Need) (c : Chain) → Chained s b t c → length (c .kids) + k ≡ n → Follows Q C (Counting b n) t (kids f k c)
+  pub kids-keeps : (f : Reader) → Keeps f → (b : State) (k n : ℕ) (t : Need) (c : Chain) → Chained s b t c → length (c .kids) + k ≡ n → Follows Q C (Counting b n) t (kids f k c)
   unfolding kids
   kids-keeps f ok b zero n t c h e = (h, omega arith)
   kids-keeps f ok b (suc k) n t c h e =
@@ -146,7 +146,7 @@ module _ (s : List ℕ) (small : length s ≤ mostBytes) where
       (λ t′ d q. kids-keeps f ok b k n t′ d (q .chained) (omega (arith, q .one-more)))
 
   -- bytes are passed between children
-  moved : {b : State} {t : Need} {c : Chain} (size : ℕ) (line : ℕ) → c .st .at + size ≤ length s → Chained s b t c
+  pub moved : {b : State} {t : Need} {c : Chain} (size : ℕ) (line : ℕ) → c .st .at + size ≤ length s → Chained s b t c
       → Chained s b t (record { kids = c .kids; first = c .first; last = c .last; line = line; st = movedTo (c .st .at + size) (c .st) })
   moved {b} {t} {c} size line l k =
       let h = k .holds in
@@ -169,10 +169,10 @@ module _ (s : List ℕ) (small : length s ≤ mostBytes) where
         finished = k .finished;
       }
 
-  abbrev Even : State → Need → Chain → Type 0
+  abbrev pub Even : State → Need → Chain → Type 0
   Even b t c = Chained s b t c × (length (c .kids) % 2 ≡ 0)
 
-  couples-keeps : (f : Reader) → Keeps f → (b : State) (fuel : ℕ) (t : Need) (c : Chain) → Chained s b t c → length (c .kids) % 2 ≡ 0 → Follows Q C (Even b) t (couples f s fuel c)
+  pub couples-keeps : (f : Reader) → Keeps f → (b : State) (fuel : ℕ) (t : Need) (c : Chain) → Chained s b t c → length (c .kids) % 2 ≡ 0 → Follows Q C (Even b) t (couples f s fuel c)
   unfolding couples
   couples-keeps f ok b zero t c h e = (refl, omega arith)
   couples-keeps f ok b (suc fuel) t c h e =
@@ -199,7 +199,7 @@ module _ (s : List ℕ) (small : length s ≤ mostBytes) where
     pub count : length (c .kids) ≡ i
     pub lined : Lined b (i + 1) c
 
-  firstLine-keeps : (b : State) (i : ℕ) (t : Need) (c : Chain) → Parts b i t c → Follows Q C (Ready b i) t (firstLine s i c)
+  pub firstLine-keeps : (b : State) (i : ℕ) (t : Need) (c : Chain) → Parts b i t c → Follows Q C (Ready b i) t (firstLine s i c)
   unfolding firstLine
   firstLine-keeps b i t c p =
       follows-cond Q C (Ready b i) t (eqb i linePart) _ (done c)
@@ -215,7 +215,7 @@ module _ (s : List ℕ) (small : length s ≤ mostBytes) where
           go true e = ltb-true linePart i e
           go false e = absurd (q (omega (arith, ltb-false linePart i e)))
 
-  partsFrom-keeps : (f : Reader) → Keeps f → (b : State) (k i n : ℕ) (t : Need) (c : Chain) → i + k ≡ n → Parts b i t c → Follows Q C (Parts b n) t (partsFrom f s k i c)
+  pub partsFrom-keeps : (f : Reader) → Keeps f → (b : State) (k i n : ℕ) (t : Need) (c : Chain) → i + k ≡ n → Parts b i t c → Follows Q C (Parts b n) t (partsFrom f s k i c)
   unfolding partsFrom
   partsFrom-keeps f ok b zero i n t c e p =
       let z : i ≡ n = omega arith in
@@ -245,10 +245,10 @@ module _ (s : List ℕ) (small : length s ≤ mostBytes) where
       go true false z e = let w : _≡_ {A = ℕ} 0 1 = cc in absurd (omega arith)
       go false y z e = let w : _≡_ {A = ℕ} 0 1 = cc in absurd (omega arith)
 
-  abbrev Filling : State → ℕ → Children → Need → Chain → Type 0
+  abbrev pub Filling : State → ℕ → Children → Need → Chain → Type 0
   Filling b at ch t c = Chained s b t c × Filled s (at + 1) ch c
 
-  ended-keeps : (b : State) (at : ℕ) (t : Need) (c : Chain) → at ≤ length s → at + 1 + codeNumbers ≤ b .at → Parts b codeParts t c → Follows Q C (Filling b at parts) t (ended s at c)
+  pub ended-keeps : (b : State) (at : ℕ) (t : Need) (c : Chain) → at ≤ length s → at + 1 + codeNumbers ≤ b .at → Parts b codeParts t c → Follows Q C (Filling b at parts) t (ended s at c)
   unfolding ended
   ended-keeps b at t c l start p =
       follows-cond Q C (Filling b at parts) t (eqb (faultOf s at c) accepted) (done c) (refused (faultOf s at c) at)
@@ -270,12 +270,12 @@ module _ (s : List ℕ) (small : length s ≤ mostBytes) where
       count k = getD (c .st .nodes) (getD (c .kids) k 0) blank .count
 
   -- a code's children begin behind its numbers
-  abbrev Behind : ℕ → ℕ → Children → Type 0
+  abbrev pub Behind : ℕ → ℕ → Children → Type 0
   Behind at from (items k) = Unit
   Behind at from pairs = Unit
   Behind at from parts = at + 1 + codeNumbers ≤ from
 
-  body-keeps : (g : ℕ → Reader) → ((d : ℕ) → Keeps (g d)) → (b : State) (fuel depth at : ℕ) (ch : Children) (t : Need) → at ≤ length s → Behind at (b .at) ch → Chained s b t (fresh b)
+  pub body-keeps : (g : ℕ → Reader) → ((d : ℕ) → Keeps (g d)) → (b : State) (fuel depth at : ℕ) (ch : Children) (t : Need) → at ≤ length s → Behind at (b .at) ch → Chained s b t (fresh b)
       → Follows Q C (Filling b at ch) t (body g s fuel depth at ch (fresh b))
   unfolding body
   body-keeps g ok b fuel depth at (items k) t l h c = kids-keeps (g (depth + 1)) (ok (depth + 1)) b k k t (fresh b) c (omega arith)
@@ -288,7 +288,7 @@ module _ (s : List ℕ) (small : length s ≤ mostBytes) where
 
   -- A value, whole.
 
-  said-behind : (c : Class) (at : ℕ) (f : Fields) → Said s c (at + 1) f → Behind at (f .place + f .size) (f .children)
+  pub said-behind : (c : Class) (at : ℕ) (f : Fields) → Said s c (at + 1) f → Behind at (f .place + f .size) (f .children)
   said-behind refers at f h = absurd h
   said-behind (refuses n) at f h = absurd h
   said-behind (keeps form) at f h = plain (f .children) (h .children)
@@ -318,7 +318,7 @@ module _ (s : List ℕ) (small : length s ≤ mostBytes) where
               entries-in = q .entries-in;
               slots-in = q .slots-in;
             };
-        since = since-refl st at (omega (arith, k .past));
+        since = record { on = omega (arith, k .past); more-nodes = omega arith; same-nodes = λ i q. refl; entries = record { longer = omega arith; entry = λ i q. refl } };
         past = k .past;
         spent = omega (arith, k .past);
         named = k .named;

@@ -28,12 +28,13 @@ pub node-at : (ns : List Node) (rest : List ℕ) (n : ℕ) → n < length ns →
 node-at [] rest n h = absurd (omega arith)
 node-at (x ∷ ns) rest zero h = refl
 node-at (x ∷ ns) rest (suc n) h =
-    let a : suc n * nodeWidth ≡ suc (suc (suc (suc (suc (n * nodeWidth))))) = omega arith in
-    let b : suc n * nodeWidth + 1 ≡ suc (suc (suc (suc (suc (n * nodeWidth + 1))))) = omega arith in
-    let c : suc n * nodeWidth + 2 ≡ suc (suc (suc (suc (suc (n * nodeWidth + 2))))) = omega arith in
-    let d : suc n * nodeWidth + 3 ≡ suc (suc (suc (suc (suc (n * nodeWidth + 3))))) = omega arith in
-    let e : suc n * nodeWidth + 4 ≡ suc (suc (suc (suc (suc (n * nodeWidth + 4))))) = omega arith in
-    rw (b, c, d, e, a) (node-at ns rest n (omega arith))
+    let a : suc n * nodeWidth ≡ suc (suc (suc (suc (suc (suc (n * nodeWidth)))))) = omega arith in
+    let b : suc n * nodeWidth + 1 ≡ suc (suc (suc (suc (suc (suc (n * nodeWidth + 1)))))) = omega arith in
+    let c : suc n * nodeWidth + 2 ≡ suc (suc (suc (suc (suc (suc (n * nodeWidth + 2)))))) = omega arith in
+    let d : suc n * nodeWidth + 3 ≡ suc (suc (suc (suc (suc (suc (n * nodeWidth + 3)))))) = omega arith in
+    let e5 : suc n * nodeWidth + 5 ≡ suc (suc (suc (suc (suc (suc (n * nodeWidth + 5)))))) = omega arith in
+    let e : suc n * nodeWidth + 4 ≡ suc (suc (suc (suc (suc (suc (n * nodeWidth + 4)))))) = omega arith in
+    rw (b, c, d, e, e5, a) (node-at ns rest n (omega arith))
 
 pub entry-at : (es : List Entry) (rest : List ℕ) (e : ℕ) → e < length es → entryAt (entryCells es ++ rest) e ≡ getD es e unlinked
 entry-at [] rest e h = absurd (omega arith)
@@ -56,7 +57,7 @@ chain-read t es at few e v (w ∷ ws) l c m =
     rw (lt-ltb e (entriesIn (t .entries) (t .usedEntries)) (omega arith), q, p)
     (ap (put v) (chain-read t es at few (nextOf es e) w ws (m .1) (m .2) (m .3)))
 
-linked-read : (t : Tables) (es : List Entry) → ((e : ℕ) → e < length es → entryAt (t .entries) e ≡ getD es e unlinked) → length es ≤ entriesIn (t .entries) (t .usedEntries)
+pub linked-read : (t : Tables) (es : List Entry) → ((e : ℕ) → e < length es → entryAt (t .entries) e ≡ getD es e unlinked) → length es ≤ entriesIn (t .entries) (t .usedEntries)
     → (e : ℕ) (vs : List ℕ) → Linked es e vs → chain t (length vs) e ≡ some vs
 unfolding chain
 linked-read t es at few e [] h = refl
@@ -75,13 +76,13 @@ module _ (s : List ℕ) (bytes : Bytes s) (nodes entries slots nesting : ℕ) (r
   fits = records-fit s nodes entries slots nesting r e
 
   -- as many as are used are within the store and the cap
-  all-nodes : length (r .1 .nodes) ≤ nodesIn (nodesHeld nodes (gives r)) (length (r .1 .nodes))
+  pub all-nodes : length (r .1 .nodes) ≤ nodesIn (nodesHeld nodes (gives r)) (length (r .1 .nodes))
   all-nodes =
       let w = gives-within s nodes entries slots nesting r e in
       let m = most-fits (roomsOf nodes entries slots nesting) (claimsOf s) (fits-unless-of-room (roomsOf nodes entries slots nesting) (plain s) (λ n p q. gives-not-of-room r n p (sym (w .1) ∙ q))) node in
       rw (length-padded nodes (nodeCells (r .1 .nodes)) (fits .in-nodes)) (omega (arith, accepted .needed-nodes, m))
 
-  all-entries : length (r .1 .entries) ≤ entriesIn (entriesHeld entries (gives r)) (length (r .1 .entries))
+  pub all-entries : length (r .1 .entries) ≤ entriesIn (entriesHeld entries (gives r)) (length (r .1 .entries))
   all-entries =
       let w = gives-within s nodes entries slots nesting r e in
       let m = most-fits (roomsOf nodes entries slots nesting) (claimsOf s) (fits-unless-of-room (roomsOf nodes entries slots nesting) (plain s) (λ n p q. gives-not-of-room r n p (sym (w .1) ∙ q))) entry in

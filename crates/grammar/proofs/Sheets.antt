@@ -73,21 +73,21 @@ Leafs s used n l = leafOf s (readOf s 20 20 20 2000 .nodes) used n ≡ gives l
 
 pub sheets :
     -- P1: "none, consumed 1, one node"
-    (Reads p1 2000 (counts 1 1 0 0) (0x4E ∷ 1 ∷ 0 ∷ nothing ∷ 0 ∷ []) [] [] × Leafs p1 1 0 nothingness)
+    (Reads p1 2000 (counts 1 1 0 0) (0x4E ∷ 1 ∷ 0 ∷ nothing ∷ 0 ∷ 1 ∷ []) [] [] × Leafs p1 1 0 nothingness)
     -- P2: "1 at 0"
     × Refuses p2 2000 eofObject 0
     -- P3: "4 at 0"
     × Refuses p3 2000 nullObject 0
     -- P4: "(1, true), 3 nodes, 2 entries"
     × (Reads p4 2000 (counts 8 3 2 0)
-    (0x29 ∷ 1 ∷ 1 ∷ 0 ∷ 2 ∷ 0x69 ∷ 3 ∷ 4 ∷ nothing ∷ 0 ∷ 0x54 ∷ 8 ∷ 0 ∷ nothing ∷ 0 ∷ []) (1 ∷ 1 ∷ 2 ∷ nothing ∷ []) []
+    (0x29 ∷ 1 ∷ 1 ∷ 0 ∷ 2 ∷ 8 ∷ 0x69 ∷ 3 ∷ 4 ∷ nothing ∷ 0 ∷ 7 ∷ 0x54 ∷ 8 ∷ 0 ∷ nothing ∷ 0 ∷ 8 ∷ []) (1 ∷ 1 ∷ 2 ∷ nothing ∷ []) []
     × Leafs p4 3 1 (whole 1) × Leafs p4 3 2 (truth true))
     -- P5: "5 at 3"
     × Refuses p5 2000 invalidRef 3
     -- P6: "both entries name node 1; one slot"
-    × Reads p6 2000 (counts 12 2 2 1) (0x29 ∷ 1 ∷ 1 ∷ 0 ∷ 2 ∷ 0x69 ∷ 3 ∷ 4 ∷ nothing ∷ 0 ∷ []) (1 ∷ 1 ∷ 1 ∷ nothing ∷ []) (2 ∷ [])
+    × Reads p6 2000 (counts 12 2 2 1) (0x29 ∷ 1 ∷ 1 ∷ 0 ∷ 2 ∷ 12 ∷ 0x69 ∷ 3 ∷ 4 ∷ nothing ∷ 0 ∷ 7 ∷ []) (1 ∷ 1 ∷ 1 ∷ nothing ∷ []) (2 ∷ [])
     -- P7: "empty dict, no slot"
-    × Reads p7 2000 (counts 2 1 0 0) (0x7B ∷ 1 ∷ 0 ∷ nothing ∷ 0 ∷ []) [] []
+    × Reads p7 2000 (counts 2 1 0 0) (0x7B ∷ 1 ∷ 0 ∷ nothing ∷ 0 ∷ 2 ∷ []) [] []
     -- P8: "8 at 5"
     × Refuses p8 2000 invalidBytecode 5
     -- P9: "6 at 1"

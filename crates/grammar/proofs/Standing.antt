@@ -71,11 +71,11 @@ pub record Chained (s : List ℕ) (b : State) (t : Need) (c : Chain) : Type 0 wh
   pub built : Built (length (b .entries)) (c .st .entries) (c .kids) (c .first) (c .last)
   pub finished : FinishedFrom s (length (b .nodes)) (c .st)
 
-kept-trans : (a b c : List Entry) → Kept a b → Kept b c → Kept a c
+pub kept-trans : (a b c : List Entry) → Kept a b → Kept b c → Kept a c
 kept-trans a b c p q =
     record { longer = omega (arith, p .longer, q .longer); entry = λ i h. q .entry i (omega (arith, p .longer)) ∙ p .entry i h }
 
-since-trans : {a b c : State} → Since a b → Since b c → Since a c
+pub since-trans : {a b c : State} → Since a b → Since b c → Since a c
 since-trans {a} {b} {c} p q =
     record {
       on = omega arith;
@@ -88,10 +88,10 @@ pub since-refl : (st : State) (at : ℕ) → st .at ≤ at → Since st (movedTo
 since-refl st at h = record { on = h; more-nodes = omega arith; same-nodes = λ i q. refl; entries = record { longer = omega arith; entry = λ i q. refl } }
 
 -- the entries stay few enough that none has the number that stands for none
-few : {s : List ℕ} {t : Need} {st : State} → length s ≤ mostBytes → Holds s t st → length (st .entries) ≤ nothing
+pub few : {s : List ℕ} {t : Need} {st : State} → length s ≤ mostBytes → Holds s t st → length (st .entries) ≤ nothing
 few small h = omega (arith, h .within, h .few-entries)
 
-finished-grows : {s : List ℕ} {es es′ : List Entry} {n n′ : Node} → Grows es es′ → length es ≤ nothing → n′ ≡ n → Finished s es n → Finished s es′ n′
+pub finished-grows : {s : List ℕ} {es es′ : List Entry} {n n′ : Node} → Grows es es′ → length es ≤ nothing → n′ ≡ n → Finished s es n → Finished s es′ n′
 finished-grows {s} {es} {es′} {n} {n′} g l e f =
     record {
       kids = f .kids;
@@ -266,7 +266,7 @@ started {s} {t} {b} h =
 
 -- the node's own record, when its last child is read
 abbrev pub closing : (letter : ℕ) → Fields → Chain → Node
-closing l f c = record { letter = l; place = f .place; size = sizeOf (f .children) (f .place) (f .size) (c .line); first = c .first; count = length (c .kids) }
+closing l f c = record { letter = l; place = f .place; size = sizeOf (f .children) (f .place) (f .size) (c .line); first = c .first; count = length (c .kids); end = c .st .at }
 
 pub closed : {s : List ℕ} {t₀ t : Need} {st : State} {c : Chain} (l g at : ℕ) (f : Fields) → Holds s t₀ st → st .at < at → Chained s (enter st at g) t c
     → (Bytes s → sound s (closing l f c) ≡ true) → Valued s st t (length (st .nodes), close st l g f c)

@@ -5,16 +5,18 @@ use mathlib.Core.List.{List, [], _∷_}
 use lib.ListN.{getD}
 use Rattle.refusals.specs.Limits.{mostRecords}
 
--- "Node: five numbers: type letter without the flag, place, size, first entry, count. Capacity is length / 5."
+-- "Node: [..] type letter without the flag, place, size, first entry, count", and by 02, K7, "a sixth number [..]: the place after its last
+-- byte, set when complete [..]. Capacity becomes length / 6".
 pub record Node : Type 0 where
   pub letter : ℕ
   pub place : ℕ
   pub size : ℕ
   pub first : ℕ
   pub count : ℕ
+  pub end : ℕ
 
 abbrev pub nodeWidth : ℕ
-nodeWidth = 5
+nodeWidth = 6
 
 -- "Entry: two numbers: node, next entry. Capacity is length / 2."
 pub record Entry : Type 0 where
@@ -26,30 +28,35 @@ entryWidth = 2
 
 -- a node that is claimed and not yet complete, and what stands where there is no node and no entry
 abbrev pub blank : Node
-blank = record { letter = 0; place = 0; size = 0; first = 0; count = 0 }
+blank = record { letter = 0; place = 0; size = 0; first = 0; count = 0; end = 0 }
 
 abbrev pub unlinked : Entry
 unlinked = record { child = 0; next = 0 }
 
 -- Bytes read so far; "Nodes are numbered from 0 as their headers come. Entries are numbered as children finish."
--- "Slot: one number: 0 while open, else node + 1."
+-- "Slot: one number: 0 while open, else node + 1." In no store: the places of the reference indices met so far, the last first; K7 asks of them.
 pub record State : Type 0 where
   pub at : ℕ
   pub nodes : List Node
   pub entries : List Entry
   pub slots : List ℕ
+  pub met : List ℕ
 
 abbrev pub start : State
-start = record { at = 0; nodes = []; entries = []; slots = [] }
+start = record { at = 0; nodes = []; entries = []; slots = []; met = [] }
 
 -- the same, read up to another place
 abbrev pub movedTo : ℕ → State → State
-movedTo at st = record { at = at; nodes = st .nodes; entries = st .entries; slots = st .slots }
+movedTo at st = record { at = at; nodes = st .nodes; entries = st .entries; slots = st .slots; met = st .met }
+
+-- the same, behind a reference: its index stands behind its header
+abbrev pub referred : ℕ → State → State
+referred at st = record { at = at; nodes = st .nodes; entries = st .entries; slots = st .slots; met = (st .at + 1) ∷ st .met }
 
 -- The records' numbers, in order.
 abbrev pub nodeCells : List Node → List ℕ
 nodeCells [] = []
-nodeCells (n ∷ ns) = n .letter ∷ n .place ∷ n .size ∷ n .first ∷ n .count ∷ nodeCells ns
+nodeCells (n ∷ ns) = n .letter ∷ n .place ∷ n .size ∷ n .first ∷ n .count ∷ n .end ∷ nodeCells ns
 
 abbrev pub entryCells : List Entry → List ℕ
 entryCells [] = []
@@ -64,6 +71,7 @@ nodeAt store n =
       size = getD store (n * nodeWidth + 2) 0;
       first = getD store (n * nodeWidth + 3) 0;
       count = getD store (n * nodeWidth + 4) 0;
+      end = getD store (n * nodeWidth + 5) 0;
     }
 
 abbrev pub entryAt : List ℕ → ℕ → Entry

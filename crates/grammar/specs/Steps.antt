@@ -11,7 +11,7 @@ use Rattle.refusals.specs.Limits.{nothing}
 use Rattle.grammar.specs.Reading.{level, node, entry, slot, Reading, done, refused, claim, bind, reads, Answer, gives, stops}
 use Rattle.grammar.specs.Letters.{Class, refers, keeps, contains, codes, refuses, flagOf, letterOf, classOf, isBytes, isTuple, isString, endsDict}
 use Rattle.grammar.specs.Fields.{Fields, Children, items, pairs, parts, field, fields, contained, codeFields, le32, sumAt, codeFault}
-use Rattle.grammar.specs.State.{Node, Entry, State, blank, unlinked, movedTo}
+use Rattle.grammar.specs.State.{Node, Entry, State, blank, unlinked, movedTo, referred}
 
 -- Before the children: the header and the fields behind it.
 
@@ -95,6 +95,7 @@ attach c v st =
         nodes = st .nodes;
         entries = follow (c .last) (length (st .entries)) (st .entries ++ record { child = v; next = nothing } ∷ []);
         slots = st .slots;
+        met = st .met;
       };
     }
 
@@ -216,7 +217,7 @@ fill (suc f) k v slots = set slots k (v + 1)
 
 -- in front of the first child: the slot open, the node blank
 unfoldable pub enter : State → (at flag : ℕ) → State
-enter st at flag = record { at = at; nodes = st .nodes ++ blank ∷ []; entries = st .entries; slots = reserve flag (st .slots) }
+enter st at flag = record { at = at; nodes = st .nodes ++ blank ∷ []; entries = st .entries; slots = reserve flag (st .slots); met = st .met }
 
 -- "code, place of the argument count and distance to the first line number".
 abbrev pub sizeOf : Children → (place size line : ℕ) → ℕ
@@ -231,13 +232,14 @@ close st letter flag f c =
       at = c .st .at;
       nodes =
           set (c .st .nodes) (length (st .nodes))
-          (record { letter = letter; place = f .place; size = sizeOf (f .children) (f .place) (f .size) (c .line); first = c .first; count = length (c .kids) });
+          (record { letter = letter; place = f .place; size = sizeOf (f .children) (f .place) (f .size) (c .line); first = c .first; count = length (c .kids); end = c .st .at });
       entries = c .st .entries;
       slots = fill flag (length (st .slots)) (length (st .nodes)) (c .st .slots);
+      met = c .st .met;
     }
 
 unfoldable pub after : (ℕ → Reader) → List ℕ → (fuel depth : ℕ) → State → Front → Reading (ℕ × State)
-after g s fuel depth st (known v at) = done (v, movedTo at st)
+after g s fuel depth st (known v at) = done (v, referred at st)
 after g s fuel depth st (opens letter flag f) =
     bind (body g s fuel depth (st .at) (f .children) (fresh (enter st (f .place + f .size) flag)))
     (λ c. done (length (st .nodes), close st letter flag f c))

@@ -15,6 +15,7 @@ use Rattle.grammar.specs.Reading.{Answer, gives, stops}
 use Rattle.grammar.specs.State.{State}
 use Rattle.grammar.specs.Answer.{outcomeOf, reading, readOf}
 use Rattle.grammar.specs.Leaf.{Leaf, leafOf}
+use Rattle.grammar.specs.Record.{tablesOf}
 use Rattle.leaf.specs.Answers.{toldOf, answeredOf}
 use Rattle.leaf.specs.declared.Answered.the-variants as leaf
 use Rattle.linetable.specs.Answer.{located, firstLine}
@@ -60,6 +61,8 @@ use Rattle.promises.proofs.Settings.{setting-ends, rewrite-ends, save-e
 use Rattle.promises.proofs.Piecewise.{pieced-ends}
 use Rattle.cuttings.proofs.Answered.{begin-ends, piece-ends, end-ends}
 use Rattle.promises.proofs.RowStarts.{index-ends, before-ends, at-ends}
+use Rattle.nodespan.specs.Span.{spanOf}
+use Rattle.promises.proofs.Spans.{span-in-table, span-ends}
 use Rattle.promises.proofs.Nightly.{totals-in-table, added-in-table, totalled-ends, printed-in-table, printed-ends}
 use Rattle.promises.proofs.Numbers.{Tabled, reading-in-table, leaf-in-table, located-in-table, located-at-in-table, TabledSplit, split-in-table, TabledStore, stored-in-table, signed-in-table, told-in-table, written-in-table}
 
@@ -132,6 +135,16 @@ demand-1 =
                 λ c.
                 let a = c .args in
                 leaf-ends (leafOf (now (a .0)) (now (a .1 .0)) (a .1 .1 .0) (a .1 .1 .1 .0)) (leaf-in-table (now (a .0)) (now (a .1 .0)) (a .1 .1 .0) (a .1 .1 .1 .0)) (c .result) (c .meets);
+          };
+      sill-span =
+          record {
+            asks-nothing = λ κs a. tt;
+            returns = λ M. sillgarland.spans.sill_span.Met.met;
+            ends =
+                λ c.
+                let a = c .args in
+                let t = tablesOf (now (a .0)) (now (a .1 .0)) (now (a .1 .1 .0)) (a .1 .1 .1 .0) (a .1 .1 .1 .1 .0) in
+                span-ends (spanOf t (a .1 .1 .1 .1 .1 .0)) (span-in-table t (a .1 .1 .1 .1 .1 .0)) (c .result) (c .meets);
           };
       sill-locate =
           record {

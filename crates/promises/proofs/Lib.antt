@@ -5,6 +5,7 @@ pub mod LineEnds
 pub mod Exceptions
 pub mod Joins
 pub mod Settings
+pub mod Spans
 pub mod Piecewise
 pub mod Nightly
 pub mod Demand1

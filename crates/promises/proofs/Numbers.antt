@@ -61,7 +61,7 @@ pub either : {A : Type 0} (P : A → Type 0) (b : Bool) (x y : A) → P x → P 
 either P true x y h k = h
 either P false x y h k = k
 
-if-tabled : {A : Type 0} (b : Bool) (x y : Answer A) → Tabled x → Tabled y → Tabled (cond b x y)
+pub if-tabled : {A : Type 0} (b : Bool) (x y : Answer A) → Tabled x → Tabled y → Tabled (cond b x y)
 if-tabled b x y h k = either Tabled b x y h k
 
 -- The reading.

@@ -7,6 +7,7 @@ use Rattle.cuttings.proofs.Promised.{pieces-keep-their-promises}
 use Rattle.join.proofs.Promised.{join-keeps-its-promises}
 use Rattle.join.proofs.Reading.{line-keeps-its-promises}
 use Rattle.starts.proofs.Promised.{starts-keep-their-promises}
+use Rattle.alone.proofs.Promised.{spans-keep-their-promises}
 use Rattle.taggedfields.proofs.Promised.{fields-keep-their-promises}
 use Rattle.settings.proofs.Promised.{settings-keep-their-promises}
 use Rattle.editions.proofs.Promised.{editions-keep-their-promises}
@@ -23,6 +24,7 @@ requests-promised =
       join = join-keeps-its-promises;
       line = line-keeps-its-promises;
       row-starts = starts-keep-their-promises;
+      spans = spans-keep-their-promises;
       totals = totals-keep-their-promises;
       printed-totals = printed-totals-keep-their-promises;
       tagged-fields = fields-keep-their-promises;

@@ -21,6 +21,7 @@ use Rattle.refusals.specs.Numbers.{accepted, lastNumber}
 use Rattle.clearing.specs.Lent.{zeros}
 use Rattle.grammar.specs.Reading.{gives, stops}
 use Rattle.leaf.specs.declared.Answered.the-variants as leaf
+use Rattle.nodespan.specs.declared.Answered.the-variants as span
 use Rattle.linetable.specs.declared.Located.the-variants as lines
 use Rattle.linetable.specs.Answer.{blank}
 use Rattle.localsplus.specs.declared.Split.the-variants as split
@@ -50,6 +51,7 @@ use Rattle.sillgarland.specs.Locations.{locatedStruct}
 use Rattle.sillgarland.specs.Salvage.{salvagedStruct}
 use Rattle.sillgarland.specs.Settingfiles.{settingStruct, rewrittenStruct, keptStruct, editionStruct}
 use Rattle.sillgarland.specs.Sources.{sourcedStruct}
+use Rattle.sillgarland.specs.Spans.{spanStruct}
 use Rattle.sillgarland.specs.Starts.{indexedStruct, startStruct}
 use Rattle.sillgarland.specs.Values.{readStruct, wroteStruct}
 use Rattle.sillgarland.specs.Varints.{writtenStruct, foundStruct}
@@ -154,6 +156,9 @@ pub record Demand1 : Type 2 where
   pub sill-leaf :
       EachCall sillgarland.leaves.sill_leaf.ended sillgarland.leaves.sill_leaf.Reads.Asked sillgarland.leaves.sill_leaf.Reads.Learnt sillgarland.leaves.sill_leaf.Statement.statement
       (λ c. Ends (c .result) (λ told. leafStruct (leaf.Told told)) (λ number place. leafStruct (leaf.Refused number place)) Unit)
+  pub sill-span :
+      EachCall sillgarland.spans.sill_span.ended sillgarland.spans.sill_span.Reads.Asked sillgarland.spans.sill_span.Reads.Learnt sillgarland.spans.sill_span.Statement.statement
+      (λ c. Ends (c .result) (λ found. spanStruct (span.Told found)) (λ number place. spanStruct (span.Refused number place)) Unit)
   pub sill-locate :
       EachCall sillgarland.locations.sill_locate.ended sillgarland.locations.sill_locate.Reads.Asked sillgarland.locations.sill_locate.Reads.Learnt sillgarland.locations.sill_locate.Statement.statement
       (λ c. LocateEnds (c .result) (Zero (now (c .args .1 .1 .1 .0)) (c .last .1 .1 .1 .0)))

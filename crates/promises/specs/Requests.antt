@@ -12,6 +12,7 @@ use Rattle.editions.specs.Promised.{Promised as EditionsPromised}
 use Rattle.sources.specs.Beside.{BesideLocated}
 use Rattle.sources.specs.Repaired.{Repaired}
 use Rattle.starts.specs.Promised.{Promised as StartsPromised}
+use Rattle.alone.specs.Promised.{Promised as SpansPromised}
 
 pub record Requests : Type 0 where
   -- K1: "Write the same entries back in shortest form .. a written table reads as the same entries."
@@ -26,6 +27,8 @@ pub record Requests : Type 0 where
   pub line : LinePromised
   -- K4: "how many starts lie before instruction n, and where is the k-th start .. Both equal a count over the locations themselves."
   pub row-starts : StartsPromised
+  -- K7: "On yes, the span read alone gives the same value once each index in it is lowered by the slots reserved before the node."
+  pub spans : SpansPromised
   -- K14: "Accepted plus refused is inputs", and totals of parts add up
   pub totals : TotalsPromised
   -- K14: "print exact counts in this form and order"

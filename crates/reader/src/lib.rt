@@ -82,6 +82,7 @@ fn value(
                         size,
                         first: l.first,
                         count: l.count,
+                        end: l.walk.at,
                     };
                     stores::write_node(nodes, node, record);
                     stores::fill_slot(slots, byte / 128, slot, node);

@@ -10,7 +10,7 @@ use Rattle.grammar.specs.Reading.{gives, bind}
 use Rattle.grammar.specs.Room.{run}
 use Rattle.grammar.specs.Letters.{letterOf, flagOf}
 use Rattle.grammar.specs.Fields.{Fields}
-use Rattle.grammar.specs.State.{State, movedTo}
+use Rattle.grammar.specs.State.{State, referred}
 use Rattle.grammar.specs.Steps.{known, opens, front, body, enter, close, fresh, fill, sizeOf, after, one, value}
 use Rattle.fields.specs.Behind.{childrenOf}
 use Rattle.fields.specs.declared.Kids.{Kids}
@@ -67,7 +67,7 @@ module _ {s : List ℕ} {room : Room} {allowance : ℕ} {w : Walk} {ns es ss : L
         moved = omega (arith, safe, ahead);
         exact = λ fuel depth st h l.
             let u = unroll s fuel depth st (omega (arith, h .at)) in (
-              movedTo at st,
+              referred at st,
               ap (run (rooms room (depth + allowance))) (u .1)
                   ∙ bind-gives (rooms room (depth + allowance)) _ (after (value (u .0) s) s (u .0) depth st) (known v at) (front-at front depth st h ∙ ap frontOf is),
               holds-known w ns es ss st h at,
@@ -136,7 +136,7 @@ module _ {s : List ℕ} {room : Room} {allowance : ℕ} {w : Walk} {ns es ss : L
         }
 
     pub value-whole : {l : Line} {size : ℕ} {ns″ ss″ : List ℕ} → r ≡ linked.Line l → size ≡ sizeOf (childrenOf kids) (hd .place) (hd .size) (l .line)
-        → ns″ ≡ nodeWritten ns′ (w .nodes) (record { letter = hd .letter; place = hd .place; size = size; first = l .first; count = l .count })
+        → ns″ ≡ nodeWritten ns′ (w .nodes) (record { letter = hd .letter; place = hd .place; size = size; first = l .first; count = l .count; end = l .walk .at })
         → ss″ ≡ fill (hd .flag) (w .slots) (w .nodes) ss′
         → ReadsValue s room allowance w ns es ss (step.Value (w .nodes) (l .walk)) ns″ es′ ss″
     unfolding after run
@@ -159,10 +159,10 @@ module _ {s : List ℕ} {room : Room} {allowance : ℕ} {w : Walk} {ns es ss : L
 
     -- the same where letter and flag are read from the header byte again
     pub value-closed : {l : Line} {size byte : ℕ} {ns″ ss″ : List ℕ} → r ≡ linked.Line l → size ≡ sizeOf (childrenOf kids) (hd .place) (hd .size) (l .line) → byte ≡ getD s (w .at) 0
-        → ns″ ≡ nodeWritten ns′ (w .nodes) (record { letter = letterOf byte; place = hd .place; size = size; first = l .first; count = l .count })
+        → ns″ ≡ nodeWritten ns′ (w .nodes) (record { letter = letterOf byte; place = hd .place; size = size; first = l .first; count = l .count; end = l .walk .at })
         → ss″ ≡ fill (flagOf byte) (w .slots) (w .nodes) ss′
         → ReadsValue s room allowance w ns es ss (step.Value (w .nodes) (l .walk)) ns″ es′ ss″
     value-closed {l} {size} q ez is en ek =
         value-whole q ez
-        (en ∙ ap (λ x. nodeWritten ns′ (w .nodes) (record { letter = x; place = hd .place; size = size; first = l .first; count = l .count })) (ap letterOf is ∙ sym (ahead .lettered)))
+        (en ∙ ap (λ x. nodeWritten ns′ (w .nodes) (record { letter = x; place = hd .place; size = size; first = l .first; count = l .count; end = l .walk .at })) (ap letterOf is ∙ sym (ahead .lettered)))
         (ek ∙ ap (λ x. fill x (w .slots) (w .nodes) ss′) (ap flagOf is ∙ sym (ahead .flagged)))

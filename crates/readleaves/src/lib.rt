@@ -158,6 +158,7 @@ fn leaf(
                 size: h.size,
                 first: refusals::NOTHING,
                 count: 0,
+                end: after.at,
             };
             stores::write_node(nodes, node, record);
             stores::fill_slot(slots, h.flag, w.slots, node);

@@ -14,7 +14,7 @@ use Rattle.refusals.specs.Numbers.{eofObject}
 use Rattle.grammar.specs.Reading.{level, refused, claim, reads}
 use Rattle.grammar.specs.Fields.{Fields, field, le32, sumAt, codeFault}
 use Rattle.grammar.specs.Letters.{Class, refers, keeps, contains, codes, refuses, flagOf, letterOf, classOf, isBytes, isTuple, isString}
-use Rattle.grammar.specs.State.{Node, Entry, State, blank, unlinked, movedTo, nodeWidth, entryWidth, nodeCells, entryCells, nodeAt, entryAt}
+use Rattle.grammar.specs.State.{Node, Entry, State, blank, unlinked, referred, nodeWidth, entryWidth, nodeCells, entryCells, nodeAt, entryAt}
 use Rattle.grammar.specs.Steps.{Chain, Rule, whatever, asBytes, asTuple, asNames, asString, letterIn, strings, suits, stored, reference, header, front, attach, passed, lined, enter, close, sizeOf, fill, codePart, localsPart, kindsPart, faultOf}
 use Rattle.stores.specs.Written.{Keeps, nodeWritten, entryWritten}
 use Rattle.stores.proofs.Records.{node-claimed, node-written, entry-written, entry-linked, slot-reserved, slot-filled, length-reserve, length-fill}
@@ -46,7 +46,7 @@ front-slots s depth at nodes used ss slots k =
     (header-slots s depth at nodes used ss slots (letterOf (getD s at 0)) (flagOf (getD s at 0)) (classOf (letterOf (getD s at 0))) k)
 
 module _ (w : Walk) (ns es ss : List ℕ) (st : State) (h : Holds w ns es ss st) where
-  pub holds-known : (at : ℕ) → Holds (record { at = at; nodes = w .nodes; entries = w .entries; slots = w .slots }) ns es ss (movedTo at st)
+  pub holds-known : (at : ℕ) → Holds (record { at = at; nodes = w .nodes; entries = w .entries; slots = w .slots }) ns es ss (referred at st)
   holds-known at =
       record {
         at = refl;
@@ -77,15 +77,15 @@ module _ (w : Walk) (ns es ss : List ℕ) (st : State) (h : Holds w ns es ss st)
 pub holds-close : {a : Walk} {ns es ss : List ℕ} {l : Line} {c : Chain} → l .walk ≡ a → HoldsChain l ns es ss c
     → (st : State) (node slot letter flag : ℕ) (f : Fields) (size : ℕ) → node ≡ length (st .nodes) → slot ≡ length (st .slots)
     → size ≡ sizeOf (f .children) (f .place) (f .size) (l .line) → node < a .nodes → slot + flag ≤ a .slots
-    → Holds a (nodeWritten ns node (record { letter = letter; place = f .place; size = size; first = l .first; count = l .count })) es
+    → Holds a (nodeWritten ns node (record { letter = letter; place = f .place; size = size; first = l .first; count = l .count; end = a .at })) es
     (fill flag slot node ss) (close st letter flag f c)
 unfolding close
 holds-close {a} {ns} {es} {ss} {l} {c} wa hc st node slot letter flag f size en es′ ez nl sl =
     let h : Holds a ns es ss (c .st) = subst (λ w. Holds w ns es ss (c .st)) wa (hc .walk) in
-    let r : Node = record { letter = letter; place = f .place; size = size; first = l .first; count = l .count } in
+    let r : Node = record { letter = letter; place = f .place; size = size; first = l .first; count = l .count; end = a .at } in
     let q : size ≡ sizeOf (f .children) (f .place) (f .size) (c .line) = ez ∙ ap (sizeOf (f .children) (f .place) (f .size)) (hc .line) in
-    let e : r ≡ record { letter = letter; place = f .place; size = sizeOf (f .children) (f .place) (f .size) (c .line); first = c .first; count = length (c .kids) } =
-    λ i. record { letter = letter; place = f .place; size = q i; first = hc .first i; count = hc .count i } in
+    let e : r ≡ record { letter = letter; place = f .place; size = sizeOf (f .children) (f .place) (f .size) (c .line); first = c .first; count = length (c .kids); end = c .st .at } =
+    λ i. record { letter = letter; place = f .place; size = q i; first = hc .first i; count = hc .count i; end = h .at i } in
     record {
       at = h .at;
       nodes = h .nodes ∙ sym (length-set (c .st .nodes) (length (st .nodes)) _);

@@ -6,6 +6,7 @@ pub mod Sources
 pub mod Pieces
 pub mod Joins
 pub mod Leaves
+pub mod Spans
 pub mod Values
 pub mod Exceptions
 pub mod Starts

@@ -11,5 +11,6 @@ pub mod piecewise;
 pub mod repairs;
 pub mod rowstarts;
 pub mod settingfiles;
+pub mod spans;
 pub mod values;
 pub mod varints;

@@ -1,6 +1,6 @@
--- 01, 'Writing it back': "Links past the count and bytes before the place are not read." Any two lendings that differ only there are written
--- alike, whatever stores they are: answer and bytes. By induction on the allowance, each node by the record test that both pass alike.
--- Assumes nothing.
+-- 01, 'Writing it back': "Links past the count and bytes before the place are not read"; 02, K7, of the end: "not read by the writer". Any
+-- two lendings that differ only there are written alike, whatever stores they are: answer and bytes. By induction on the allowance, each
+-- node by the record test that both pass alike. Assumes nothing.
 use mathlib.Core.Path.{_≡_, refl, sym, ap, ap₂, _∙_}
 use Prim.Native.Nat.{ℕ, zero, suc, _+_, _≤_, _<_, min}
 use native.Mathlib.Omega.{arith}
@@ -16,7 +16,7 @@ use Rattle.grammar.specs.Reading.{stops}
 use Rattle.grammar.specs.Letters as letter
 use Rattle.grammar.specs.Letters.{Class, refers, keeps, contains, codes, refuses, classOf, isBytes}
 use Rattle.grammar.specs.Fields.{le32, le64}
-use Rattle.grammar.specs.State.{Node, entryAt}
+use Rattle.grammar.specs.State.{Node, nodeAt, entryAt, nodeCapacity}
 use Rattle.grammar.specs.Steps as rule
 use Rattle.grammar.specs.Steps.{rules, kindsPart}
 use Rattle.grammar.specs.Record.{nodesIn, Tables, nodeOf, whole, suited, badPart, Looked, holds, faulty, look}
@@ -72,7 +72,7 @@ module _ (t t′ : Tables) (same : SameRead t t′) where
   same-shape n kids h =
       let l = sound-at t n (whole-some t n kids (h .linked) .0) .0 in
       let d = same .each-node n l in
-      same-classed (t .input) (t′ .input) (same .length-of) (nodeOf t′ n .first) (nodeOf t n) kids (classOf (nodeOf t n .letter)) refl (sound-ruled (t .input) (nodeOf t n) (h .own) .1) (d .bytes)
+      same-classed (t .input) (t′ .input) (same .length-of) (nodeOf t′ n .first) (nodeOf t′ n .end) (nodeOf t n) kids (classOf (nodeOf t n .letter)) refl (sound-ruled (t .input) (nodeOf t n) (h .own) .1) (d .bytes)
       ∙ ap₂ (λ m x. classed (t′ .input) m kids (classOf x)) (sym (relinked t t′ same n l)) (d .letter)
 
   same-looked : (f f′ : ℕ → Writing) (g g′ : ℕ → List ℕ → Writing) (n : ℕ) → ((v : ℕ) → f v ≡ f′ v)
@@ -117,14 +117,16 @@ module _ (t t′ : Tables) (same : SameRead t t′) where
   links-and-bytes-unread root nesting room =
       ap₂ (λ (k : ℕ) w. cond (ltb mostBytes k) (stops inputTooLong 0) (into (min room mostOutput) [] w)) (same .length-of) (same-writing (min nesting mostNesting) root)
 
+-- The same entries are linked alike.
+same-links : (t t′ : Tables) → t .entries ≡ t′ .entries → (count : ℕ) {e e′ : ℕ} → e ≡ e′ → SameLinks t t′ count e e′
+unfolding SameLinks
+same-links t t′ q zero h = tt
+same-links t t′ q (suc count) h =
+    (h, λ l. (ap₂ (λ es x. entryAt es x .child) q h, same-links t t′ q count (ap₂ (λ es x. entryAt es x .next) q h)))
+
 -- The plain form for bytes: inputs of one length that are the same from the first of the stored places on.
 abbrev over : List ℕ → Tables → Tables
 over s t = record { input = s; nodes = t .nodes; entries = t .entries; usedNodes = t .usedNodes; usedEntries = t .usedEntries }
-
-same-links : (t : Tables) (s : List ℕ) (count e : ℕ) → SameLinks t (over s t) count e e
-unfolding SameLinks
-same-links t s zero e = tt
-same-links t s (suc count) e = (refl, λ l. (refl, same-links t s count (entryAt (t .entries) e .next)))
 
 same-from : (s s′ : List ℕ) (n : Node) (from : ℕ) → from ≤ n .place → ((i : ℕ) → from ≤ i → getD s i 0 ≡ getD s′ i 0) → (c : Class) → SameBytes s s′ n c
 same-from s s′ n from l h refers = tt
@@ -148,7 +150,31 @@ bytes-before-unread t s′ from long first h =
             place = refl;
             size = refl;
             count = refl;
-            links = same-links t s′ (nodeOf t n .count) (nodeOf t n .first);
+            links = same-links t (over s′ t) refl (nodeOf t n .count) refl;
             bytes = same-from (t .input) s′ (nodeOf t n) from (first n l) h (classOf (nodeOf t n .letter));
+          };
+    })
+
+-- The plain form for ends: stores of nodes, as long as one another, that differ only in these.
+abbrev recorded : List ℕ → Tables → Tables
+recorded nodes t = record { input = t .input; nodes = nodes; entries = t .entries; usedNodes = t .usedNodes; usedEntries = t .usedEntries }
+
+pub ends-unread : (t : Tables) (nodes : List ℕ) → length (t .nodes) ≡ length nodes → (ends : ℕ → ℕ)
+    → ((n : ℕ) → nodeAt nodes n ≡ linked (nodeOf t n .first) (ends n) (nodeOf t n))
+    → (root nesting room : ℕ) → written t root nesting room ≡ written (recorded nodes t) root nesting room
+ends-unread t nodes long ends but =
+    links-and-bytes-unread t (recorded nodes t)
+    (record {
+      length-of = refl;
+      nodes-in = ap (λ k. min (t .usedNodes) (nodeCapacity k)) long;
+      entries-in = refl;
+      each-node = λ n l.
+          record {
+            letter = ap (λ m. m .letter) (sym (but n));
+            place = ap (λ m. m .place) (sym (but n));
+            size = ap (λ m. m .size) (sym (but n));
+            count = ap (λ m. m .count) (sym (but n));
+            links = same-links t (recorded nodes t) refl (nodeOf t n .count) (ap (λ m. m .first) (sym (but n)));
+            bytes = same-from (t .input) (t .input) (nodeOf t n) 0 (omega arith) (λ i h. refl) (classOf (nodeOf t n .letter));
           };
     })

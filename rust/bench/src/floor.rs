@@ -1,7 +1,7 @@
 //! The floor under any reader that fills the port's stores: it clears them, skips each value of a tuple or a list by its
 //! length and writes the same records, and checks nothing at all. It reads only inputs that are known to be such a row of
 //! plain values, so it is no reader; how near the port comes to it says what its checks cost.
-use crate::read::Stores;
+use crate::read::{NODE, Stores};
 
 /// What stands in a record where there is nothing.
 const NOTHING: u32 = u32::MAX;
@@ -30,12 +30,13 @@ pub fn fill(input: &[u8], stores: &mut Stores) {
                 b'i' => (at + 1, 4),
                 _ => (at + 5, word(input, at + 1)),
             };
-            let node = nodes.add(5 * (entry as usize + 1));
+            let node = nodes.add(NODE * (entry as usize + 1));
             node.write(u32::from(letter));
             node.add(1).write(place as u32);
             node.add(2).write(size);
             node.add(3).write(NOTHING);
             node.add(4).write(0);
+            node.add(5).write(place as u32 + size);
             let cell = entries.add(2 * entry as usize);
             cell.write(entry + 1);
             cell.add(1).write(if entry + 1 == count { NOTHING } else { entry + 1 });
@@ -43,7 +44,7 @@ pub fn fill(input: &[u8], stores: &mut Stores) {
         }
     }
     let first = if count == 0 { NOTHING } else { 0 };
-    stores.nodes[..5].copy_from_slice(&[u32::from(input[0]), 1, 4, first, count]);
+    stores.nodes[..NODE].copy_from_slice(&[u32::from(input[0]), 1, 4, first, count, at as u32]);
 }
 
 /// The little-endian word at a place, which is not checked.

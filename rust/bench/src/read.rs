@@ -75,8 +75,8 @@ pub fn sharing(names: u32) -> Vec<u8> {
 /// CPython 3.11 has opcodes that the Rust refuses: in place of every instruction stands one that it takes.
 pub fn with_plain_instructions(mut module: Vec<u8>) -> Vec<u8> {
     let stores = Stores::just_enough(&module);
-    let node = |number: u32| &stores.nodes[5 * number as usize..][..5];
-    for code in stores.nodes.chunks(5).filter(|node| node[0] == u32::from(b'c')) {
+    let node = |number: u32| &stores.nodes[NODE * number as usize..][..NODE];
+    for code in stores.nodes.chunks(NODE).filter(|node| node[0] == u32::from(b'c')) {
         let bytes = node(stores.entries[2 * code[3] as usize]);
         let (place, size) = (bytes[1] as usize, bytes[2] as usize);
         module[place..place + size].chunks_mut(2).for_each(|unit| unit.copy_from_slice(&[PLAIN, 0]));
@@ -86,6 +86,9 @@ pub fn with_plain_instructions(mut module: Vec<u8>) -> Vec<u8> {
 
 /// An opcode that the Rust keeps as it is.
 const PLAIN: u8 = 30;
+
+/// How many numbers a node is.
+pub const NODE: usize = 6;
 
 pub struct Stores {
     pub nodes: Vec<u32>,
@@ -97,9 +100,9 @@ impl Stores {
     /// Lengths that fit the value exactly, filled with its reading.
     pub fn just_enough(input: &[u8]) -> Self {
         let most = input.len().min(MEBIBYTE);
-        let mut stores = Self { nodes: vec![0; 5 * most], entries: vec![0; 2 * most], slots: vec![0; most] };
+        let mut stores = Self { nodes: vec![0; NODE * most], entries: vec![0; 2 * most], slots: vec![0; most] };
         let counts = stores.read(input);
-        stores.nodes.truncate(5 * counts.nodes as usize);
+        stores.nodes.truncate(NODE * counts.nodes as usize);
         stores.entries.truncate(2 * counts.entries as usize);
         stores.slots.truncate(counts.slots as usize);
         stores
@@ -119,7 +122,7 @@ impl Stores {
 fn compare(title: &str, inputs: &[Vec<u8>]) {
     let bytes: usize = inputs.iter().map(Vec::len).sum();
     let mut stores: Vec<_> = inputs.iter().map(|input| Stores::just_enough(input)).collect();
-    let nodes: usize = stores.iter().map(|stores| stores.nodes.len() / 5).sum();
+    let nodes: usize = stores.iter().map(|stores| stores.nodes.len() / NODE).sum();
     let mut python = Python::loading(inputs);
     let mut floors: Vec<_> = if inputs.iter().all(|input| floor::is_flat(input)) {
         inputs.iter().map(|input| on_the_floor(input)).collect()

@@ -2,7 +2,7 @@
 //! bytes that are kept from one time to the next and so never grow, and into new ones each time; and, for strings, beside the least that 01's rules ask
 //! for: each string checked and copied, with and without the output cleared first. Where there is more than strings, beside the Rust's
 //! serialize_value with each string that it writes checked.
-use crate::read::{NESTING, Stores, sharing, small_integers, strings, text_of, with_plain_instructions};
+use crate::read::{NESTING, NODE, Stores, sharing, small_integers, strings, text_of, with_plain_instructions};
 use crate::timing::{Way, side_by_side, timed};
 use carried::bytecode::{BasicBag, Constant, ConstantData};
 use carried::marshal::{Dumpable, DumpableValue, deserialize_value, serialize_value};
@@ -81,7 +81,7 @@ impl<'a> Source<'a> {
 fn strings_of(written: &[u8]) -> Vec<&[u8]> {
     let is_string = |node: &&[u32]| b"uz".contains(&(node[0] as u8));
     let contents = |node: &[u32]| &written[node[1] as usize..][..node[2] as usize];
-    Stores::just_enough(written).nodes.chunks(5).filter(is_string).map(contents).collect()
+    Stores::just_enough(written).nodes.chunks(NODE).filter(is_string).map(contents).collect()
 }
 
 fn written(input: &[u8], nodes: &[u32], entries: &[u32], out: &mut [u8]) -> Written {
@@ -94,7 +94,7 @@ fn written(input: &[u8], nodes: &[u32], entries: &[u32], out: &mut [u8]) -> Writ
             nodes.len(),
             entries.as_ptr(),
             entries.len(),
-            (nodes.len() / 5) as u32,
+            (nodes.len() / NODE) as u32,
             (entries.len() / 2) as u32,
             0,
             NESTING,

@@ -11,6 +11,7 @@ use crate::pieces;
 use crate::read;
 use crate::salvage;
 use crate::sources;
+use crate::spans;
 use crate::subject::Subject;
 use crate::tally::Tally;
 use crate::text::{of_hex, of_numbers};
@@ -28,6 +29,7 @@ pub fn hold(text: &str) -> bool {
     let mut splits = Tally::new("cpython tables split and joined");
     let mut bytes = Tally::new("cpython tables by piece");
     let mut origins = Tally::new("cpython sources");
+    let mut spans = Tally::new("cpython spans");
     let mut module: Option<Module> = None;
     for row in text.lines().filter(|row| !row.starts_with('#')) {
         let tallied = match row.split(' ').next() {
@@ -54,12 +56,14 @@ pub fn hold(text: &str) -> bool {
                 );
             }),
             Some("module") => Marshalled::of_row(row).map(|marshalled| {
+                spans::of_reading(&mut spans, marshalled.bytes());
                 module = counted(&mut values, "modules, values alike", marshalled);
             }),
             Some("body") => Marshalled::of_row(row).map(|marshalled| {
                 counted(&mut values, ".pyc bodies, values alike", marshalled);
             }),
             Some("value") => Marshalled::of_row(row).map(|marshalled| {
+                spans::of_reading(&mut spans, marshalled.bytes());
                 counted(&mut values, "made values alike, versions 0 to 4", marshalled);
             }),
             _ => None,
@@ -69,7 +73,7 @@ pub fn hold(text: &str) -> bool {
             positions.count("", Err(format!("malformed: {row}")));
         }
     }
-    [positions, cuts, repairs, splits, bytes, origins, names, handlers, values, nodes]
+    [positions, cuts, repairs, splits, bytes, origins, names, handlers, values, nodes, spans]
         .map(Tally::finish)
         .iter()
         .all(|held| *held)

@@ -120,7 +120,7 @@ fn hold_back(name: &str, bytes: &[u8]) -> Result<(), String> {
     }
     let plain = Plain::of(bytes);
     let [nesting, nodes, entries, slots] = plain.counts().map(|count| count as usize);
-    let again = read(&Part::new(bytes), nesting as u32, [5 * nodes, 2 * entries, slots]);
+    let again = read(&Part::new(bytes), nesting as u32, [WIDTHS[0] * nodes, 2 * entries, slots]);
     let (written, out) = Source::of_reading(bytes, &again).write(0, MOST_NESTING, bytes.len());
     if !matches!(plain.end, End::Read { .. }) {
         // Once sharing is written out, more nodes than count.
@@ -146,12 +146,12 @@ fn hold_table(name: &str, table: &[u8]) -> Result<(), String> {
     // By node the input has a header and a length before the table, so the table is a little shorter.
     let (short, count) = (&table[..table.len() - 250], each - instructions(&table[table.len() - 250..]));
     let input = Part::new(&[&headed(b's', short.len()), short].concat());
-    let nodes = [u32::from(b's'), 5, short.len() as u32, u32::MAX, 0];
+    let nodes = [u32::from(b's'), 5, short.len() as u32, u32::MAX, 0, 5 + short.len() as u32];
     let (bytes, mut out) = (input.bytes(), Lent::new(4 * count as usize));
     // SAFETY: input and stores are lent for their lengths.
     let by_node = unsafe {
         let (records, room) = (out.pointer(), out.len());
-        sill_locate_node(bytes.as_ptr(), bytes.len(), nodes.as_ptr(), 5, 1, 0, 1, count, records, room)
+        sill_locate_node(bytes.as_ptr(), bytes.len(), nodes.as_ptr(), nodes.len(), 1, 0, 1, count, records, room)
     };
     if by_node.refusal != ACCEPTED || by_node.from_entries != count {
         return Err(format!("{name} by node: {by_node:?}"));

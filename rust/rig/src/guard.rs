@@ -13,7 +13,7 @@ use crate::subject::{Carried, Subject, held};
 use crate::tally::Tally;
 use crate::totals::{self, NightlyTotals};
 use crate::write::Writes;
-use crate::{hostile, leaf, linetable, localsplus, random::Random, values, varint, write};
+use crate::{hostile, leaf, linetable, localsplus, random::Random, spans, values, varint, write};
 use std::ptr::null;
 use std::sync::atomic::{AtomicPtr, AtomicUsize, Ordering::SeqCst};
 
@@ -80,6 +80,8 @@ pub fn hold() -> bool {
         ask::<Writes>(&mut tally, "values written", write::carried_side::random_asks(22, OF_EACH));
         last_asked("a leaf or a node's line table of a damaged store");
         leaf::ask(&mut tally, |_| "leaves and line tables of damaged stores", 11, values::random_inputs(23, OF_EACH));
+        last_asked("a span of a damaged store");
+        spans::of_any_stores(&mut tally, |_| "spans of damaged stores", 27, OF_EACH);
         last_asked("a writing from a damaged store");
         hostile::ask(&mut tally, |_| "writings from damaged stores", 15, OF_EACH);
     }

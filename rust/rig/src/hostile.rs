@@ -2,7 +2,7 @@
 //! size. Answer and bytes are held to the model of document 01, and what was written is read again.
 use crate::lent::Part;
 use crate::random::Random;
-use crate::reading::{ample, read};
+use crate::reading::{NODE_WIDTH, ample, read};
 use crate::tally::Tally;
 use crate::values::random_inputs;
 use crate::write_model::{self as model, Refused, Store};
@@ -35,12 +35,27 @@ pub fn ask(tally: &mut Tally, counted: fn(&'static str) -> &'static str, seed: u
     }
 }
 
+/// So many stores, damaged, each with a root.
+pub fn cases(random: &mut Random, seed: u64, count: usize) -> impl Iterator<Item = Case> {
+    let mut asks = random_inputs(seed, usize::MAX);
+    let mut made = None;
+    (0..count).map(move |turn| {
+        while made.is_none() || turn % 12 == 0 {
+            made = if random.below(8) == 0 { Some(of_nothing(random)) } else { asks.next().and_then(of_reading) };
+            if made.is_some() {
+                break;
+            }
+        }
+        made.as_ref().map_or_else(|| of_nothing(&mut Random::new(seed)), |made| damaged(random, made))
+    })
+}
+
 /// The stores of a reading, every record used.
 fn of_reading(ask: crate::read::Ask) -> Option<Case> {
     let reading = read(&Part::new(&ask.input), ask.nesting, ample(&ask.input));
     let used = [reading.answer.nodes, reading.answer.entries];
     let [nodes, entries, _] = reading.stores.each_ref().map(|store| store.cells());
-    let (nodes, entries) = (nodes[..5 * used[0] as usize].to_vec(), entries[..2 * used[1] as usize].to_vec());
+    let (nodes, entries) = (nodes[..NODE_WIDTH * used[0] as usize].to_vec(), entries[..2 * used[1] as usize].to_vec());
     let accepted = reading.answer.refusal == refusals::ACCEPTED;
     accepted.then_some(Case { input: ask.input, nodes, entries, used, root: 0, nesting: 0 })
 }
@@ -60,7 +75,7 @@ fn single_records() -> impl Iterator<Item = Case> {
         let (counted, long, negative) = (after(count, 0), after(digits, 1), after(digits.wrapping_neg(), 0x41));
         [counted, long, negative, vec![0xC3; 28]].map(|input| Case {
             input,
-            nodes: vec![letter, 0, size, 0, count, u32::from(b'N'), 0, 0, NOTHING, 0],
+            nodes: vec![letter, 0, size, 0, count, 0, u32::from(b'N'), 0, 0, NOTHING, 0, 0],
             entries: (1..=12).flat_map(|next| [1, if next < 12 { next } else { NOTHING }]).collect(),
             used: [2, 12],
             root: 0,
@@ -95,7 +110,7 @@ fn of_nothing(random: &mut Random) -> Case {
             _ => 0,
         };
         let count = if b"([<>):{c".contains(&letter) { random.below(5) as u32 } else { 0 };
-        let record = [u32::from(letter), any(random, bytes), size, any(random, entries), count];
+        let record = [u32::from(letter), any(random, bytes), size, any(random, entries), count, any(random, bytes)];
         case.nodes.extend_from_slice(&record);
         with_length(&mut case.input, &record);
     }
@@ -104,8 +119,8 @@ fn of_nothing(random: &mut Random) -> Case {
 }
 
 /// Mostly the length field says what the record counts.
-fn with_length(input: &mut [u8], record: &[u32; 5]) {
-    let [_, place, size, _, count] = *record;
+fn with_length(input: &mut [u8], record: &[u32; NODE_WIDTH]) {
+    let [_, place, size, _, count, _] = *record;
     if let Some(field) = input.get_mut(place as usize..(place as usize).saturating_add(size as usize))
         && matches!(size, 1 | 4)
     {
@@ -134,7 +149,7 @@ fn damaged(random: &mut Random, made: &Case) -> Case {
 fn damage(random: &mut Random, case: &mut Case) {
     let any = |random: &mut Random, len: usize| if len == 0 { None } else { Some(random.below(len)) };
     match random.below(16) {
-        0 => case.used[0] = number(random, case, case.nodes.len() / 5),
+        0 => case.used[0] = number(random, case, case.nodes.len() / NODE_WIDTH),
         1 => case.used[1] = number(random, case, case.entries.len() / 2),
         2 => case.nodes.truncate(random.below(case.nodes.len() + 1)),
         3 => case.entries.truncate(random.below(case.entries.len() + 1)),
@@ -147,14 +162,15 @@ fn damage(random: &mut Random, case: &mut Case) {
         }
         7..=10 => {
             if let Some(at) = any(random, case.entries.len()) {
-                let within = if at % 2 == 0 { case.nodes.len() / 5 } else { case.entries.len() / 2 };
+                let within = if at % 2 == 0 { case.nodes.len() / NODE_WIDTH } else { case.entries.len() / 2 };
                 case.entries[at] = number(random, case, within);
             }
         }
         _ => {
             if let Some(at) = any(random, case.nodes.len()) {
-                let within = [0, case.input.len(), case.input.len(), case.entries.len() / 2, 6][at % 5];
-                case.nodes[at] = match at % 5 {
+                let within = [0, case.input.len(), case.input.len(), case.entries.len() / 2, 6, case.input.len()]
+                    [at % NODE_WIDTH];
+                case.nodes[at] = match at % NODE_WIDTH {
                     0 => u32::from(random.one_of(LETTERS)) + 256 * u32::from(random.below(30) == 0),
                     _ if random.below(2) == 0 => {
                         case.nodes[at].wrapping_add(random.one_of(&[1, 2, 4, u32::MAX, u32::MAX - 1]))
@@ -202,7 +218,7 @@ fn hold_one(source: &Source, asked: (u32, u32, usize)) -> Held {
 }
 
 fn has_code(store: &Store) -> bool {
-    store.nodes.chunks(5).any(|node| node[0] == u32::from(b'c'))
+    store.nodes.chunks(NODE_WIDTH).any(|node| node[0] == u32::from(b'c'))
 }
 
 impl Case {

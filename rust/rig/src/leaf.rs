@@ -4,7 +4,7 @@
 use crate::lent::{Lent, Part};
 use crate::random::Random;
 use crate::read::Ask;
-use crate::reading::{ample, read};
+use crate::reading::{NODE_WIDTH, ample, read};
 use crate::record::kind_of;
 use crate::stores::leaf;
 use crate::tally::Tally;
@@ -34,7 +34,7 @@ pub fn ask(tally: &mut Tally, counted: fn(&'static str) -> &'static str, seed: u
             continue;
         }
         let used = reading.answer.nodes;
-        let nodes = reading.stores[0].cells()[..5 * used as usize].to_vec();
+        let nodes = reading.stores[0].cells()[..NODE_WIDTH * used as usize].to_vec();
         let mut store = Store { input: part.bytes(), nodes, used };
         for _ in 0..random.below(4) {
             damage(&mut random, &mut store);
@@ -54,7 +54,7 @@ fn hold_node(part: &Part, store: &Store, node: u32) -> (&'static str, Result<(),
     if answered != expected {
         let (input, nodes) = (hex(store.input), numbers(&store.nodes));
         held = Err(format!("leaf {input} {nodes} {} {node}: {answered:?} and not {expected:?}", store.used));
-    } else if expected.refusal != refusals::ACCEPTED || store.nodes[5 * node as usize] != u32::from(b's') {
+    } else if expected.refusal != refusals::ACCEPTED || store.nodes[NODE_WIDTH * node as usize] != u32::from(b's') {
         held = hold_no_table(part, &lent, store.used, node);
     }
     (if expected.refusal == refusals::ACCEPTED { "nodes answered" } else { "nodes refused 16" }, held)
@@ -84,8 +84,8 @@ fn damage(random: &mut Random, store: &mut Store) {
         1 => store.nodes.truncate(random.below(count + 1)),
         2 => store.nodes.push(7),
         sort => {
-            let at = 5 * random.below(count.max(5) / 5);
-            let cell = if sort < 6 { 0 } else { random.below(5) };
+            let at = NODE_WIDTH * random.below(count.max(NODE_WIDTH) / NODE_WIDTH);
+            let cell = if sort < 6 { 0 } else { random.below(NODE_WIDTH) };
             let Some(old) = store.nodes.get(at + cell).copied() else { return };
             store.nodes[at + cell] = match random.below(4) {
                 _ if cell == 0 => u32::from(random.one_of(letters)) + 256 * u32::from(random.below(30) == 0),
@@ -101,8 +101,8 @@ fn damage(random: &mut Random, store: &mut Store) {
 /// The answer by document 01.
 fn expected(store: &Store, node: u32) -> Leaf {
     let none = Leaf { refusal: refusals::ACCEPTED, place: 0, kind: 0, pad: 0, first: 0, second: 0 };
-    let within = (store.nodes.len() / 5).min(store.used as usize).min(refusals::MOST_RECORDS as usize);
-    let record = store.nodes.chunks(5).take(within).nth(node as usize);
+    let within = (store.nodes.len() / NODE_WIDTH).min(store.used as usize).min(refusals::MOST_RECORDS as usize);
+    let record = store.nodes.chunks(NODE_WIDTH).take(within).nth(node as usize);
     match record.and_then(|record| kind_of(store.input, record)) {
         None => Leaf { refusal: refusals::BAD_TABLE, place: node, ..none },
         Some((kind, first, second)) => Leaf { kind, first, second, ..none },

@@ -1,7 +1,7 @@
 //! The limits of document 01, at them and one past them: bytes, records of each store, nesting; and the stack that the
 //! deepest reading takes.
 use crate::lent::{Lent, Part};
-use crate::reading::{Reading, read};
+use crate::reading::{Reading, WIDTHS, read};
 use crate::stores::leaf;
 use crate::tally::Tally;
 use crate::write_model::{self, Refused, Store};
@@ -25,13 +25,13 @@ pub fn hold() -> bool {
     bytes.push(b'N');
     record(&mut tally, "one byte more", &bytes, Some((refusals::INPUT_TOO_LONG, 0)));
     tally.count("one byte more: the leaf question, a node's line table", too_long(&Part::new(&bytes)));
-    let none = [u32::from(b'N'), 0, 0, NOTHING, 0];
+    let none = [u32::from(b'N'), 0, 0, NOTHING, 0, 0];
     let too_long = Store { input: &bytes, nodes: &none, entries: &[], used: [1, 0] };
     tally.count("one byte more: writing", written(&too_long, 0, Some((refusals::INPUT_TOO_LONG, 0))));
     let nodes = Store { input: &[], nodes: &none.repeat(most + 1), entries: &[], used: [u32::MAX; 2] };
     tally.count("writing the last node that counts", written(&nodes, MOST_RECORDS - 1, None));
     tally.count("one node more: writing", written(&nodes, MOST_RECORDS, Some((refusals::BAD_TABLE, most))));
-    let of_one = |first: u32| [none, [u32::from(b')'), 0, 1, first, 1]].concat();
+    let of_one = |first: u32| [none, [u32::from(b')'), 0, 1, first, 1, 1]].concat();
     let entries = [0, NOTHING].repeat(most + 1);
     for (class, first, refused) in [
         ("writing by the last entry that counts", MOST_RECORDS - 1, None),
@@ -50,7 +50,7 @@ pub fn hold() -> bool {
 /// Reads in stores with room for more records than count, with more nesting than counts.
 fn record(tally: &mut Tally, class: &'static str, input: &[u8], refused: Option<(u32, usize)>) {
     let room = MOST_RECORDS as usize + 9;
-    let Reading { answer, stores } = read(&Part::new(input), u32::MAX, [5 * room, 2 * room, room]);
+    let Reading { answer, stores } = read(&Part::new(input), u32::MAX, [WIDTHS[0] * room, 2 * room, room]);
     let (number, place) = refused.unwrap_or((refusals::ACCEPTED, 0));
     let mut held = Ok(());
     if (answer.refusal, answer.place as usize) != (number, place) {
@@ -72,7 +72,7 @@ fn written(store: &Store, root: u32, refused: Option<(u32, usize)>) -> Result<()
 }
 
 fn too_long(part: &Part) -> Result<(), String> {
-    let nodes = Lent::of(&[u32::from(b's'), 0, 0, refusals::NOTHING, 0]);
+    let nodes = Lent::of(&[u32::from(b's'), 0, 0, refusals::NOTHING, 0, 0]);
     let asked = leaf(part, &nodes, 1, 0);
     let (input, mut records) = (part.bytes(), Lent::new(4));
     // SAFETY: input and stores are lent for their lengths.

@@ -41,6 +41,7 @@ mod shape;
 mod shares;
 mod shrink;
 mod sources;
+mod spans;
 mod stack;
 mod starts;
 mod stores;
@@ -72,6 +73,7 @@ use read::Reads;
 use salvage::Salvages;
 use settings::SettingsFiles;
 use sources::Sources;
+use spans::Spans;
 use starts::Starts;
 use std::process::ExitCode;
 use stores::{Leaves, ReadStores};
@@ -116,6 +118,7 @@ fn run(options: Options) -> Result<bool, String> {
         Task::Joins => joins(&options),
         Task::Settings => Ok(settings::hold(20, SETTINGS)),
         Task::Sources => Ok(sources::hold(17, SOURCES)),
+        Task::Spans => spans(),
         Task::Starts => Ok(starts::hold(19, STARTS)),
         Task::Pieces => Ok(pieces::hold(20, PIECES)),
         Task::Totals => Ok(totals::hold(19, TOTALS)),
@@ -176,6 +179,14 @@ fn joins(options: &Options) -> Result<bool, String> {
 /// How many random line tables, for where places come from.
 const SOURCES: usize = 400_000;
 
+/// How many random values, every node of each, and how many stores that no reading made.
+const SPANS: [usize; 2] = [150_000, 1_000_000];
+
+fn spans() -> Result<bool, String> {
+    let found = corpus::inputs()?.into_iter().map(|input| read::Ask { input, nesting: u32::MAX });
+    Ok(spans::hold(21, values::random_inputs(22, SPANS[0]).chain(found), SPANS[1]))
+}
+
 /// How many random values, each in two forms and changed in one place.
 const EQUAL: usize = 400_000;
 /// How many random settings files, looked up, rewritten, saved and rolled back.
@@ -193,6 +204,7 @@ fn without_the_rust() -> Result<bool, String> {
         hostile::hold(15, 1_500_000),
         salvage::hold(16, 400_000),
         sources::hold(17, SOURCES),
+        spans()?,
         starts::hold(19, STARTS),
         pieces::hold(20, PIECES),
         exceptions::hold(18, EXCEPTIONS),
@@ -221,6 +233,7 @@ fn replay_answers() -> bool {
         replay::<WriteStores>("vectors"),
         replay::<Salvages>("vectors"),
         replay::<Sources>("vectors"),
+        replay::<Spans>("vectors"),
         replay::<Exceptions>("vectors"),
         replay::<Joins>("vectors"),
         replay::<Starts>("vectors"),

@@ -30,6 +30,10 @@ impl Marshalled {
         Some(Self { bytes, len: len.parse().ok()?, crc: crc.parse().ok()? })
     }
 
+    pub fn bytes(&self) -> &[u8] {
+        &self.bytes
+    }
+
     /// The whole of the bytes is read, to CPython's value; in stores just long enough too, and refused in shorter ones.
     pub fn hold(self) -> Result<Module, String> {
         let ask = read::Ask { input: self.bytes, nesting: refusals::MOST_NESTING };

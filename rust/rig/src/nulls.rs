@@ -2,13 +2,13 @@
 use crate::tally::Tally;
 use sillgarland_sys::{
     Edition, Exceptions, Found, Indexed, Joined, Leaf, Line, Located, Read, Rewritten, Salvaged, Saved, Setting,
-    Sourced, Split, Start, Totalled, Written, refusals,
+    Sourced, Span, Split, Start, Totalled, Written, refusals,
 };
 use sillgarland_sys::{sill_add_totals, sill_print_totals, sill_totals};
 use sillgarland_sys::{sill_edition, sill_rewrite_settings, sill_save_edition, sill_setting};
 use sillgarland_sys::{sill_index_starts, sill_start_at, sill_starts_before};
 use sillgarland_sys::{sill_join, sill_line_after, sill_read_exceptions, sill_write_exceptions};
-use sillgarland_sys::{sill_leaf, sill_locate_node, sill_read, sill_salvage, sill_sources, sill_write};
+use sillgarland_sys::{sill_leaf, sill_locate_node, sill_read, sill_salvage, sill_sources, sill_span, sill_write};
 use sillgarland_sys::{sill_locate, sill_locations, sill_read_varint, sill_read_varint_with_start, sill_split};
 use sillgarland_sys::{sill_locate_begin, sill_locate_end, sill_locate_piece};
 use sillgarland_sys::{
@@ -82,6 +82,8 @@ pub fn hold() -> bool {
         let split = sill_split(n, 0, 0, 0, 0, 0, w, 0, w, 0, w, 0, w, 0, w, 0);
         count(&mut tally, "sill_split", split, no_names);
         count(&mut tally, "sill_read", sill_read(n, 0, w, 0, w, 0, w, 0, 1), no_object);
+        let no_span = Span { refusal: refusals::BAD_TABLE, place: 0, start: 0, end: 0, closed: 0, slots_before: 0 };
+        count(&mut tally, "sill_span", sill_span(n, 0, null(), 0, null(), 0, 0, 0, 0), no_span);
         count(&mut tally, "sill_leaf", sill_leaf(n, 0, null(), 0, 0, 0), no_node);
         let bad_table = Written { refusal: refusals::BAD_TABLE, place: 0, written: 0 };
         count(&mut tally, "sill_write", sill_write(n, 0, null(), 0, null(), 0, 0, 0, 0, 1, m, 0), bad_table);

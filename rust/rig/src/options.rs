@@ -11,6 +11,7 @@ usage: rig [--tables FILE]                       compare with the carried Rust, 
        rig --exceptions                          exception tables: the model, and the carried Rust beside it, nothing else
        rig --joins [--tables FILE]               joins of line tables: the model, and the carried Rust beside it, nothing else
        rig --sources                             where instructions' places come from: the model, nothing else
+       rig --spans                               the bytes of nodes: the model, and alone through the reader again, nothing else
        rig --pieces                              line tables by piece: the model, and `sill_locate` of the joined table, nothing else
        rig --starts                              row starts: the model, nothing else
        rig --settings                            settings files and their editions: the model, nothing else
@@ -46,6 +47,7 @@ pub enum Task {
     Joins,
     Settings,
     Sources,
+    Spans,
     Starts,
     Pieces,
     Totals,
@@ -90,6 +92,7 @@ impl Options {
                 "--exceptions" => options.set(Task::Exceptions)?,
                 "--joins" => options.set(Task::Joins)?,
                 "--sources" => options.set(Task::Sources)?,
+                "--spans" => options.set(Task::Spans)?,
                 "--starts" => options.set(Task::Starts)?,
                 "--settings" => options.set(Task::Settings)?,
                 "--pieces" => options.set(Task::Pieces)?,

@@ -1,6 +1,7 @@
 //! The plain reading: what is asked for in reading order, and how the reading ends, where nothing limits nesting, nodes, entries
 //! or slots. Written from document 01 for the rig, apart from the port and from the Rust, so that demand 3 can be held by
 //! running: which answer a reading gives for which room.
+use crate::reading::NODE_WIDTH;
 use sillgarland_sys::refusals::{self, MOST_BYTES, MOST_NESTING, MOST_RECORDS, NOTHING};
 
 /// The four counts, in this order everywhere: levels of nesting, nodes, entries, slots.
@@ -42,6 +43,15 @@ pub struct Plain {
     pub end: End,
     /// The cells of the three stores, as an accepted reading leaves them.
     pub stores: [Vec<u32>; 3],
+    pub met: Met,
+}
+
+/// What was met at which byte: the header of each node, those that reserved a slot, and each reference with its index.
+#[derive(Default)]
+pub struct Met {
+    pub headers: Vec<usize>,
+    pub reserved: Vec<usize>,
+    pub references: Vec<(usize, u32)>,
 }
 
 impl Plain {
@@ -53,7 +63,7 @@ impl Plain {
             Err(Stop::Beyond) => End::Beyond,
         };
         let stores = [reading.nodes.concat(), reading.entries.concat(), reading.slots];
-        Self { claims: reading.claims, end, stores }
+        Self { claims: reading.claims, end, stores, met: reading.met }
     }
 
     /// The four counts, "counted to where it stops".
@@ -95,11 +105,12 @@ struct Chain {
 struct Reading<'a> {
     input: &'a [u8],
     at: usize,
-    nodes: Vec<[u32; 5]>,
+    nodes: Vec<[u32; NODE_WIDTH]>,
     entries: Vec<[u32; 2]>,
     slots: Vec<u32>,
     claims: Vec<Claim>,
     deepest: u32,
+    met: Met,
 }
 
 /// What a code's part must be.
@@ -174,6 +185,7 @@ impl Reading<'_> {
         if byte != letter {
             self.claim(SLOT, slot as u32 + 1, header)?;
             self.slots.push(0);
+            self.met.reserved.push(header);
         }
         match letter {
             b'0' => return refuse(refusals::NULL_OBJECT, header),
@@ -183,9 +195,10 @@ impl Reading<'_> {
         }
         let node = self.nodes.len();
         self.claim(NODE, node as u32 + 1, header)?;
-        self.nodes.push([0; 5]);
+        self.nodes.push([0; NODE_WIDTH]);
+        self.met.headers.push(header);
         let (place, size, chain) = self.fields(letter, depth)?;
-        self.nodes[node] = [u32::from(letter), place as u32, size as u32, chain.first, chain.count];
+        self.nodes[node] = [u32::from(letter), place as u32, size as u32, chain.first, chain.count, self.at as u32];
         if byte != letter {
             self.slots[slot] = node as u32 + 1;
         }
@@ -195,6 +208,7 @@ impl Reading<'_> {
     fn reference(&mut self) -> Step<u32> {
         let place = self.at;
         let index = self.number()?;
+        self.met.references.push((place - 1, index));
         match self.slots.get(index as usize) {
             None | Some(0) => refuse(refusals::INVALID_REF, place),
             Some(filled) => Ok(filled - 1),
@@ -356,7 +370,7 @@ impl Reading<'_> {
     }
 
     fn fits(&self, part: u32, rule: Rule) -> bool {
-        let [letter, _, _, first, count] = self.nodes[part as usize];
+        let [letter, _, _, first, count, _] = self.nodes[part as usize];
         let is_one_of = |letters: &[u8]| letters.contains(&(letter as u8));
         match rule {
             Rule::Bytes => is_one_of(b"s"),

@@ -169,7 +169,7 @@ fn hold_accepted(part: &Part, reading: &Reading, consumed: u32, value: &str) -> 
         return Err(format!("the port holds {}", &held[..held.len().min(2000)]));
     }
     let used = counts(&answer);
-    for ((store, name), used) in reading.stores.iter().zip(STORES).zip([5 * used[0], 2 * used[1], used[2]]) {
+    for ((store, name), used) in reading.stores.iter().zip(STORES).zip([WIDTHS[0] * used[0], 2 * used[1], used[2]]) {
         let written = store.cells().get(..used).ok_or(format!("more {name} than fit: {answer:?}"))?;
         store.holds(name, written)?;
     }

@@ -4,7 +4,9 @@ use crate::value::Text;
 use sillgarland_sys::{self as sys, Leaf, Read, refusals};
 
 pub const STORES: [&str; 3] = ["nodes", "entries", "slots"];
-pub const WIDTHS: [usize; 3] = [5, 2, 1];
+/// How many numbers a node is.
+pub const NODE_WIDTH: usize = 6;
+pub const WIDTHS: [usize; 3] = [NODE_WIDTH, 2, 1];
 
 pub struct Reading {
     pub answer: Read,
@@ -26,7 +28,7 @@ pub fn read(part: &Part, nesting: u32, lens: [usize; 3]) -> Reading {
 /// Lengths with room for whatever the input holds, and a remainder: every node, child and slot has a header of its own.
 pub fn ample(input: &[u8]) -> [usize; 3] {
     let most = input.len().min(refusals::MOST_RECORDS as usize);
-    [5 * most + 3, 2 * most + 1, most]
+    [NODE_WIDTH * most + 3, 2 * most + 1, most]
 }
 
 pub fn counts(answer: &Read) -> [usize; 3] {
@@ -50,6 +52,7 @@ pub struct Node {
     pub size: usize,
     pub first: u32,
     pub count: u32,
+    pub end: usize,
 }
 
 /// An accepted reading, to be asked what it holds.
@@ -62,8 +65,12 @@ type Fault = String;
 
 impl Held<'_> {
     pub fn text(&self, shown: Shown, limit: usize) -> Result<String, Fault> {
+        self.text_of(0, shown, limit)
+    }
+
+    pub fn text_of(&self, node: u32, shown: Shown, limit: usize) -> Result<String, Fault> {
         let mut text = Text::new(limit);
-        self.show(&mut text, 0, shown)?;
+        self.show(&mut text, node, shown)?;
         Ok(text.text)
     }
 
@@ -71,10 +78,13 @@ impl Held<'_> {
         if number >= self.reading.answer.nodes {
             return Err(format!("node {number} is beyond those used"));
         }
-        let at = 5 * number as usize;
-        let [letter, place, size, first, count] = self.reading.stores[0].cells()[at..at + 5] else { unreachable!() };
-        let node = Node { letter: letter as u8, place: place as usize, size: size as usize, first, count };
-        if letter > 0x7F || node.place + node.size > self.input.len() {
+        let at = NODE_WIDTH * number as usize;
+        let [letter, place, size, first, count, end] = self.reading.stores[0].cells()[at..at + NODE_WIDTH] else {
+            unreachable!()
+        };
+        let [place, size, end] = [place, size, end].map(|number| number as usize);
+        let node = Node { letter: letter as u8, place, size, first, count, end };
+        if letter > 0x7F || node.place + node.size > node.end || node.end > self.input.len() {
             return Err(format!("node {number} is {node:?}"));
         }
         Ok(node)

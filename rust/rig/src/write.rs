@@ -2,7 +2,7 @@
 //! compared, and the port's are read and written again. Every writing is held to the model too.
 use crate::lent::Part;
 use crate::read::Ask;
-use crate::reading::{ample, read};
+use crate::reading::{NODE_WIDTH, ample, read};
 use crate::subject::Subject;
 use crate::text::{hex, of_hex, of_numbers};
 use crate::write_model::{self as model, Refused};
@@ -81,7 +81,7 @@ impl Subject for Writes {
 
 fn class_inside(ask: &Ask) -> &'static str {
     let reading = read(&Part::new(&ask.input), ask.nesting, ample(&ask.input));
-    if !reading.stores[0].cells().chunks(5).any(|node| node[0] == u32::from(b'c')) {
+    if !reading.stores[0].cells().chunks(NODE_WIDTH).any(|node| node[0] == u32::from(b'c')) {
         return "in the domain: bytes alike, read again the same value, written again the same bytes";
     }
     match expected_back(&Source::of_reading(&ask.input, &reading).store(), 0) {
@@ -192,7 +192,7 @@ pub mod carried_side {
     use crate::lent::Part;
     use crate::panics::unless_overflow;
     use crate::read::Ask;
-    use crate::reading::{ample, read};
+    use crate::reading::{NODE_WIDTH, ample, read};
     use crate::subject::Carried;
     use crate::trace::Trace;
     use crate::values;
@@ -258,7 +258,7 @@ pub mod carried_side {
         let reading = read(&Part::new(&ask.input), ask.nesting, ample(&ask.input));
         let [nodes, entries, _] = reading.stores.each_ref().map(|store| store.cells());
         let mut changed = ask.clone();
-        for code in nodes.chunks(5).filter(|node| node[0] == u32::from(b'c')) {
+        for code in nodes.chunks(NODE_WIDTH).filter(|node| node[0] == u32::from(b'c')) {
             let bytes = &nodes[5 * entries[2 * code[3] as usize] as usize..][..5];
             let span = bytes[1] as usize..(bytes[1] + bytes[2]) as usize;
             for unit in changed.input[span].chunks_mut(2).filter(|unit| !is_kept(unit)) {

@@ -1,5 +1,6 @@
 //! A model of document 01's 'Writing it back', made from its sentences and not from the port: what writing any stores
 //! answers, and which bytes. Nothing here is quick; each sentence has its place.
+use crate::reading::NODE_WIDTH;
 use crate::record::kind_of;
 use sillgarland_sys::refusals::{self, MOST_BYTES, MOST_NESTING, MOST_RECORDS};
 
@@ -53,10 +54,10 @@ impl<'a> Store<'a> {
         used.min(u32::try_from(records).unwrap_or(u32::MAX)).min(MOST_RECORDS)
     }
 
-    /// The five numbers of a node, unless its number is beyond those used or the store.
+    /// The numbers of a node, unless its number is beyond those used or the store.
     fn cells(&self, number: u32) -> Option<&'a [u32]> {
-        let known = number < Self::within(self.used[0], self.nodes.len() / 5);
-        known.then(|| &self.nodes[5 * number as usize..][..5])
+        let known = number < Self::within(self.used[0], self.nodes.len() / NODE_WIDTH);
+        known.then(|| &self.nodes[NODE_WIDTH * number as usize..][..NODE_WIDTH])
     }
 
     fn entries_known(&self) -> u32 {
@@ -67,7 +68,7 @@ impl<'a> Store<'a> {
     pub fn node(&self, number: u32) -> Option<Node> {
         let cells = self.cells(number)?;
         kind_of(self.input, cells)?;
-        let [letter, place, size, first, count] = *cells else { return None };
+        let [letter, place, size, first, count, _] = *cells else { return None };
         let node = Node { letter: letter as u8, place: place as usize, size: size as usize, first, count };
         // A walk of more steps than there are entries goes round, and so does not end.
         let steps = count.min(self.entries_known() + 1) as usize;

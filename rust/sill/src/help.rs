@@ -8,7 +8,7 @@ mod report;
 mod settings;
 
 pub use completions::completions;
-pub use making::{COMPLETIONS, MANUAL, REPAIR, WRITE};
+pub use making::{BYTES, COMPLETIONS, MANUAL, REPAIR, WRITE};
 pub use manual::{man, manual};
 pub use pages::{CHECK, DIFF, LINES, ROW, SHOW, TOTALS};
 pub use report::REPORT;
@@ -50,7 +50,7 @@ written (one line on standard error each; the other files are still done).";
 
 /// Every page, in the order in which they are listed.
 pub const PAGES: &[&Page] =
-    &[&CHECK, &REPORT, &SHOW, &LINES, &ROW, &WRITE, &REPAIR, &DIFF, &TOTALS, &SETTINGS, &MANUAL, &COMPLETIONS];
+    &[&CHECK, &REPORT, &SHOW, &LINES, &ROW, &BYTES, &WRITE, &REPAIR, &DIFF, &TOTALS, &SETTINGS, &MANUAL, &COMPLETIONS];
 
 /// The longest line of a usage.
 const WIDTH: usize = 110;
@@ -127,6 +127,7 @@ impl Known {
 
     fn in_usage(&self) -> String {
         match (self.long, self.word) {
+            ("output", Some(word)) if self.text.ends_with("not given") => format!("[-o {word}]"),
             ("output", Some(word)) => format!("-o {word}"),
             (long, Some(word)) => format!("[--{long} {word}]"),
             (long, None) => format!("[--{long}]"),

@@ -1,6 +1,7 @@
 //! `sill`: the command for people who keep golden files. Exit status: 0 all is well, 1 a file is refused, not whole or
 //! different, 2 called wrongly, or a file that cannot be read or written.
 mod by_bytes;
+mod bytes;
 mod check;
 mod complaints;
 mod diff;
@@ -20,7 +21,6 @@ mod row;
 mod samples;
 mod settings;
 mod show;
-mod spans;
 mod terminal;
 mod text;
 mod totals;
@@ -58,6 +58,7 @@ const COMMANDS: &[(&Page, Command)] = &[
     (&help::SHOW, show::run),
     (&help::LINES, lines::run),
     (&help::ROW, row::run),
+    (&help::BYTES, bytes::run),
     (&help::WRITE, write::run),
     (&help::REPAIR, repair::run),
     (&help::DIFF, diff::run),

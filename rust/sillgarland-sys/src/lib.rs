@@ -186,6 +186,19 @@ pub struct Leaf {
     pub second: u64,
 }
 
+/// Where a node's bytes begin and end, whether every reference in them names a slot reserved in them, and how many slots were
+/// reserved before them.
+#[repr(C)]
+#[derive(Clone, Copy, Debug, PartialEq, Eq)]
+pub struct Span {
+    pub refusal: u32,
+    pub place: u32,
+    pub start: u32,
+    pub end: u32,
+    pub closed: u32,
+    pub slots_before: u32,
+}
+
 /// What joining two line tables answers: how many bytes were written, for how many instructions, and the line they leave.
 #[repr(C)]
 #[derive(Clone, Copy, Debug, PartialEq, Eq)]
@@ -366,6 +379,17 @@ unsafe extern "C" {
         used: u32,
         node: u32,
     ) -> Leaf;
+    pub fn sill_span(
+        input: *const u8,
+        input_len: usize,
+        nodes: *const u32,
+        nodes_len: usize,
+        entries: *const u32,
+        entries_len: usize,
+        used_nodes: u32,
+        used_entries: u32,
+        node: u32,
+    ) -> Span;
     pub fn sill_locate_node(
         input: *const u8,
         input_len: usize,

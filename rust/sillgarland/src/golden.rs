@@ -1,11 +1,14 @@
 //! One value as it was read: the input and the used part of the stores, lent together.
 use crate::{Code, Value};
 
+/// A node's numbers: letter, place, size, first entry, count, end.
+pub(crate) type Record = [u32; 6];
+
 /// A value that was read. It is a view: the input and the [`Reader`](crate::Reader)'s stores hold everything.
 #[derive(Clone, Copy)]
 pub struct Golden<'a> {
     pub(crate) input: &'a [u8],
-    pub(crate) nodes: &'a [[u32; 5]],
+    pub(crate) nodes: &'a [Record],
     pub(crate) entries: &'a [[u32; 2]],
     pub(crate) consumed: usize,
 }
@@ -24,6 +27,11 @@ impl<'a> Golden<'a> {
     /// The value itself and everything in it, each once, in the order in which their headers stand in the input.
     pub fn values(self) -> impl ExactSizeIterator<Item = Value<'a>> {
         (0..self.used_nodes()).map(move |node| self.value(node))
+    }
+
+    /// The bytes of a [`span`](Value::span), as they stand in the input.
+    pub fn bytes_of(self, span: std::ops::Range<usize>) -> Vec<u8> {
+        self.input[span].to_vec()
     }
 
     /// Every code object, each once, in the order of the input. However values are shared, this takes time in proportion

@@ -47,6 +47,7 @@ mod refusal;
 mod salvage;
 mod same;
 mod settings;
+mod span;
 mod split;
 mod starts;
 mod tables;
@@ -72,6 +73,7 @@ pub use settings::{
     EDITION, FromFile, MOST_CONTENTS, Setting, edition, rewrite_settings, save_edition, setting, settings_field,
     settings_fields,
 };
+pub use span::{NotAlone, Span};
 pub use split::{Split, split};
 pub use starts::Starts;
 pub use totals::{NotTotals, Totals};

@@ -1,4 +1,5 @@
 //! A value that owns its bytes and its stores, to be kept, sent and compared without the input or the reader.
+use crate::golden::Record;
 use crate::{Golden, Value};
 use std::fmt;
 
@@ -19,7 +20,7 @@ use std::fmt;
 #[derive(Clone)]
 pub struct OwnedValue {
     input: Box<[u8]>,
-    nodes: Box<[[u32; 5]]>,
+    nodes: Box<[Record]>,
     entries: Box<[[u32; 2]]>,
     root: u32,
 }

@@ -1,4 +1,5 @@
 //! Reading a value: the stores are owned here, and grow until the value fits or document 01's limits are met.
+use crate::golden::Record;
 use crate::refusal::{Place, Refusal, Refused};
 use crate::{Golden, MOST_NESTING, MOST_RECORDS};
 
@@ -18,7 +19,7 @@ const GROWTH: usize = 4;
 /// ```
 #[derive(Debug)]
 pub struct Reader {
-    nodes: Vec<[u32; 5]>,
+    nodes: Vec<Record>,
     entries: Vec<[u32; 2]>,
     slots: Vec<u32>,
     nesting: u32,

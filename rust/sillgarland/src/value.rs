@@ -1,4 +1,5 @@
 //! A node of a reading: its letter and place, its children, and what it holds.
+use crate::golden::Record;
 use crate::{Code, Golden};
 use std::fmt;
 
@@ -74,7 +75,7 @@ impl<'a> Value<'a> {
     /// Values may share children, so a recursion over them may never end: forty tuples, each of the one before twice, are reached
     /// 2^40 times. [`walk`](Self::walk) meets each value once.
     pub fn children(self) -> Children<'a> {
-        let [.., first, count] = self.record();
+        let [_, _, _, first, count, _] = self.record();
         Children { golden: self.golden, entry: first, left: count }
     }
 
@@ -103,7 +104,7 @@ impl<'a> Value<'a> {
         &self.golden.input[self.place()..][..self.size()]
     }
 
-    fn record(self) -> [u32; 5] {
+    pub(crate) fn record(self) -> Record {
         self.golden.nodes[self.node as usize]
     }
 

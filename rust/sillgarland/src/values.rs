@@ -1,4 +1,5 @@
 //! Values back to back: each read into stores of its own, so that they may be kept side by side.
+use crate::golden::Record;
 use crate::{Golden, OwnedValue, Reader, Refused};
 
 /// The values that stand back to back in an input, as a golden file has a code object and the result expected of it.
@@ -32,7 +33,7 @@ pub struct Values<'a> {
 pub struct ValueAt<'a> {
     start: usize,
     input: &'a [u8],
-    nodes: Box<[[u32; 5]]>,
+    nodes: Box<[Record]>,
     entries: Box<[[u32; 2]]>,
     consumed: usize,
 }

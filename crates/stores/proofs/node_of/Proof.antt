@@ -34,8 +34,22 @@ add-cell-4 c = search needs
 cell-requires-5 : tie.Need-cell-requires-5
 cell-requires-5 c κs = search needs
 
+add-cell-5 : tie.Need-add-cell-5
+add-cell-5 c = search needs
+
+cell-requires-6 : tie.Need-cell-requires-6
+cell-requires-6 c κs = search needs
+
 returns : tie.Need-returns
-returns c = cc (c .before .before .before .before .cell .ensures, c .before .before .before .cell2 .ensures, c .before .before .cell3 .ensures, c .before .cell4 .ensures, c .cell5 .ensures)
+returns c =
+    cc (
+      c .before .before .before .before .before .cell .ensures,
+      c .before .before .before .before .cell2 .ensures,
+      c .before .before .before .cell3 .ensures,
+      c .before .before .cell4 .ensures,
+      c .before .cell5 .ensures,
+      c .cell6 .ensures,
+    )
 
 pub node-of-spec : {M : Type 1} → statement M
 node-of-spec =
@@ -51,4 +65,6 @@ node-of-spec =
     cell-requires-4
     add-cell-4
     cell-requires-5
+    add-cell-5
+    cell-requires-6
     returns)

@@ -11,14 +11,14 @@ use Rattle.stores.proofs.write_node.Tie as tie
 mul-base : tie.Need-mul-base
 mul-base c = search needs
 
+add-nodes : tie.Need-add-nodes
+add-nodes c = search needs
+
 mul-nodes : tie.Need-mul-nodes
 mul-nodes c = search needs
 
 slice-write-nodes : tie.Need-slice-write-nodes
 slice-write-nodes c = search needs
-
-add-nodes : tie.Need-add-nodes
-add-nodes c = search needs
 
 mul-nodes-2 : tie.Need-mul-nodes-2
 mul-nodes-2 c = search needs
@@ -53,6 +53,15 @@ mul-nodes-5 c = search needs
 slice-write-nodes-5 : tie.Need-slice-write-nodes-5
 slice-write-nodes-5 c = simp length-set (omega arith)
 
+add-nodes-5 : tie.Need-add-nodes-5
+add-nodes-5 c = search needs
+
+mul-nodes-6 : tie.Need-mul-nodes-6
+mul-nodes-6 c = search needs
+
+slice-write-nodes-6 : tie.Need-slice-write-nodes-6
+slice-write-nodes-6 c = simp length-set (omega arith)
+
 same-length : tie.Need-same-length
 same-length c = search needs
 
@@ -64,9 +73,9 @@ write-node-spec =
     tie.close
     (tie.spec
     mul-base
+    add-nodes
     mul-nodes
     slice-write-nodes
-    add-nodes
     mul-nodes-2
     slice-write-nodes-2
     add-nodes-2
@@ -78,5 +87,8 @@ write-node-spec =
     add-nodes-4
     mul-nodes-5
     slice-write-nodes-5
+    add-nodes-5
+    mul-nodes-6
+    slice-write-nodes-6
     same-length
     returns)

@@ -1,6 +1,5 @@
 //! Which nodes of two values are the same value. Each node gets a number, and two nodes have the same number exactly if they are the
 //! same value in document 01's sense. However values are shared, this takes time in proportion to the bytes, nodes and entries of both.
-use crate::spans::Spans;
 use sillgarland::{Code, Content, Golden, Value, Wide};
 use std::cmp::Reverse;
 use std::collections::HashMap;
@@ -25,13 +24,13 @@ enum Own<'a> {
 }
 
 impl Classes {
-    pub fn of(goldens: [Golden; 2], spans: &[Spans; 2]) -> Self {
+    pub fn of(goldens: [Golden; 2]) -> Self {
         let mut known = HashMap::new();
         let sides = [0, 1].map(|side: usize| {
             let mut values: Vec<Value> = goldens[side].values().collect();
             let mut classes = vec![0; values.len()];
             // Children end before what they stand in, or with it, and references name what has ended.
-            values.sort_by_key(|value| (spans[side].span_of(*value).end, Reverse(value.node())));
+            values.sort_by_key(|value| (value.span().end, Reverse(value.node())));
             for value in values {
                 let children: Vec<u32> = value.children().map(|child| classes[child.node() as usize]).collect();
                 let next = known.len() as u32;
@@ -78,7 +77,7 @@ mod tests {
         let mut readers = [Reader::new(), Reader::new()];
         let [one, other] = &mut readers;
         let goldens = [one.read(left).unwrap(), other.read(right).unwrap()];
-        let classes = Classes::of(goldens, &goldens.map(Spans::of));
+        let classes = Classes::of(goldens);
         for left in goldens[0].values() {
             for right in goldens[1].values() {
                 let same = first_difference(left, right).is_none();
@@ -121,7 +120,7 @@ mod tests {
         let mut readers = [Reader::new(), Reader::new()];
         let [one, other] = &mut readers;
         let goldens = [one.read(&shared).unwrap(), other.read(&shared).unwrap()];
-        let classes = Classes::of(goldens, &goldens.map(Spans::of));
+        let classes = Classes::of(goldens);
         assert!(classes.are_same(goldens.map(Golden::root)));
     }
 }

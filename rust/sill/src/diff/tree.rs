@@ -4,7 +4,6 @@ use super::classes::Classes;
 use super::places::named_step;
 use super::values::{first_different_byte, number_named};
 use crate::json::{self, Object};
-use crate::spans::Spans;
 use crate::text;
 use sillgarland::{Children, Golden, Step, Value, What, differences_at};
 use std::collections::HashSet;
@@ -36,7 +35,6 @@ pub struct Tree<'a> {
     pub lines: Vec<String>,
     pub differences: usize,
     starts: [usize; 2],
-    spans: [Spans; 2],
     classes: Classes,
     met: HashSet<[u32; 2]>,
     open: Vec<Open<'a>>,
@@ -65,11 +63,10 @@ const A_LINE: usize = 400;
 impl<'a> Tree<'a> {
     /// Of two values that begin at these places of their files.
     pub fn of(goldens: [Golden<'a>; 2], starts: [usize; 2], room: &mut Room) -> Self {
-        let spans = goldens.map(Spans::of);
-        let classes = Classes::of(goldens, &spans);
+        let classes = Classes::of(goldens);
         let same = classes.are_same(goldens.map(Golden::root));
         let (lines, met, open) = (Vec::new(), HashSet::new(), Vec::new());
-        let mut tree = Self { same, lines, differences: 0, starts, spans, classes, met, open };
+        let mut tree = Self { same, lines, differences: 0, starts, classes, met, open };
         tree.enter(goldens.map(Golden::root), String::new(), room);
         while !tree.open.is_empty() && room.different > 0 {
             tree.go_on(room);
@@ -231,7 +228,7 @@ impl<'a> Tree<'a> {
                 parts.extend(["null", "0", "0"].map(String::from));
                 continue;
             };
-            let Range { start, end } = self.spans[side].span_of(value);
+            let Range { start, end } = value.span();
             let is_told = side == 0 || !matches!(state, State::Same);
             parts.push(if is_told { json::string(&text::holds(value)) } else { "null".to_string() });
             parts.extend([start, end].map(|at| (self.starts[side] + at).to_string()));

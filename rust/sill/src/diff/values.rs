@@ -198,7 +198,9 @@ fn tell(
             Some(codes) => rows::summary(&codes[at], side.at),
             None => shown(value, difference.what),
         };
-        writeln!(out, "  {} at byte {}: {shown}", text::path(&side.path), side.at + value.place())?;
+        let (place, span) = (side.at + value.place(), value.span());
+        let bytes = format!("bytes {} to {}", side.at + span.start, side.at + span.end - 1);
+        writeln!(out, "  {} at byte {place}, {bytes}: {shown}", text::path(&side.path))?;
     }
     let same_rows = tables.map_or(Ok(true), |codes| rows::tell(codes, asked.all, out))?;
     match first_different_byte(difference.left, difference.right).filter(|_| same_rows) {

@@ -1,5 +1,27 @@
 //! The pages of the commands that write.
+use super::pages::PYC;
 use super::{HELP, Known, Page};
+
+pub const BYTES: Page = Page {
+    name: "bytes",
+    operands: "FILE PLACE",
+    takes: 2..=2,
+    summary: "give the bytes of one value, as a value of their own",
+    text: "\
+PLACE is a byte of FILE, counted from 0, and the value is the innermost that has it; sill show tells the bytes of each. They are
+given from its header to its last byte. References in them count the shared values from FILE's value on: where each names one
+within these bytes, its index is lowered by the shared values before them, and they read as the same value. Where one names a
+value outside, there are no such bytes: the first such reference is told, nothing is written, and the exit status is 1. With
+--as-is the bytes are given as they stand, whatever they name.
+
+What is told goes to standard output, or beside the bytes to standard error. FILE and OUT may be - as for sill write.",
+    options: &[
+        Known { short: Some('o'), long: "output", word: Some("OUT"), text: "where to write; standard output, where it is not given" },
+        Known { short: None, long: "as-is", word: None, text: "the bytes as they stand, references too" },
+        PYC,
+        HELP,
+    ],
+};
 
 pub const WRITE: Page = Page {
     name: "write",

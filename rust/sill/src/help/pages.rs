@@ -127,20 +127,21 @@ pub const SHOW: Page = Page {
     takes: 1..=1,
     summary: "show the values of a file as a tree",
     text: "\
-A line for each value: its place (the byte at which its contents begin), its type letter, and what it holds, indented below
-the value it belongs to; of a code object also its numbers and its handlers. Long texts and bytes are cut in the tree, never in
-JSON. A value that is shared is shown where it first stands; later lines name that place. FILE may be - for standard input.
+A line for each value: its place (the byte at which its contents begin), its bytes from its header to its last, which sill
+bytes gives alone, its type letter, and what it holds, indented below the value it belongs to; of a code object also its
+numbers and its handlers. Long texts and bytes are cut in the tree, never in JSON. A value that is shared is shown where it
+first stands; later lines name that place. FILE may be - for standard input.
 
 JSON is one list: an object for each value of the file, with its first and last byte (from, to), its size and its nodes, and
 one with the refusal where reading ended early. Nodes are one flat list, a line each, in the order in which they stand in the
-file; each has its number (node), letter, place, size and type, and value, or the numbers of its children: a dict's keys and
-values in turn, a code object's ten parts. A shared value is one node. A float has its bits beside it, a text with surrogates
-its bytes; bytes are hexadecimal, and a whole number outside 64 bits is a string. A code object has its handlers, the entries
-of its exception table: start, length and target in instructions, depth, and whether the last instruction is pushed (lasti).
-Where that table is damaged, handlers is null and handlers_refused says why. Its lines say whether the line table is whole, how
-many instructions there are, how many of them are from entries, have a line, have a line and both columns, and have a sure row,
-the last row placed, and how many at the end have no line; or lines is null, and lines_refused says why. With --depth, a node
-whose children are left out is cut.",
+file; each has its number (node), letter, place, size, first and last byte (from, to) and type, and value, or the numbers of
+its children: a dict's keys and values in turn, a code object's ten parts. A shared value is one node. A float has its bits
+beside it, a text with surrogates its bytes; bytes are hexadecimal, and a whole number outside 64 bits is a string. A code
+object has its handlers, the entries of its exception table: start, length and target in instructions, depth, and whether the
+last instruction is pushed (lasti). Where that table is damaged, handlers is null and handlers_refused says why. Its lines say
+whether the line table is whole, how many instructions there are, how many of them are from entries, have a line, have a line
+and both columns, and have a sure row, the last row placed, and how many at the end have no line; or lines is null, and
+lines_refused says why. With --depth, a node whose children are left out is cut.",
     options: &[
         Known { short: Some('d'), long: "depth", word: Some("N"), text: "show no more than N levels below each value" },
         JSON,
@@ -215,9 +216,9 @@ equal bytes are of the same value if its code objects keep the name order. Where
 than 16 MiB once sharing is written out, or is out of name order, it is compared part by part, and a line says so: that
 comparison is tested and not proved.
 
-Of values that differ the first difference is shown: the path that leads to it (a dict's values by their keys: [\"rows\"][2]), and
-the place and value on both sides. --all shows every difference. Where two line tables differ, so do rows: instruction 33: no
-row / 211, with the first eight instructions whose row or place is another, or with --all every one.
+Of values that differ the first difference is shown: the path that leads to it (a dict's values by their keys: [\"rows\"][2]),
+and the place, bytes and value on both sides. --all shows every difference. Where two line tables differ, so do rows:
+instruction 33: no row / 211, with the first eight instructions whose row or place is another, or with --all every one.
 
 A or B may be - for standard input, or FILE#2 for the second value of FILE alone, unless there is a file of that very name. Two
 folders are compared file by file, by their paths below the folder: only differences are shown, then files that only one

@@ -16,8 +16,8 @@ damaged:
   totals          by verdict, as a bar: a click shows the files of one verdict alone;
   files           that are not accepted: verdict, refusal, folder, name and what was found, to filter and to sort by each;
   refusals        number, name and meaning, the way to the value, and the bytes about the place, with the byte in brackets;
-  code objects    a strip of the instructions by where their rows come from, the rows, the handlers, and what sill repair would
-                  keep and drop;
+  code objects    their bytes, a strip of the instructions by where their rows come from, the rows, the handlers, and what
+                  sill repair would keep and drop;
   accepted files  as counts, with their list folded.
 
 Rows come from seven places: sure (a complete entry has line and columns), line alone, below line 1, no place, cut entry, left

@@ -4,8 +4,6 @@ const [SAME, BELOW_HERE, DIFFERS, ONLY_LEFT, ONLY_RIGHT, AS_ABOVE, LEFT_OUT] = [
 const WORDS = ["the same", "differs below", "different", "only in A", "only in B", "as above", ""];
 const SIDES = ["A", "B"];
 
-const bytes = (from, behind) => (behind - from === 1 ? `byte ${shown(from)}` : `bytes ${shown(from)} to ${shown(behind - 1)}`);
-
 const parse = ([depth, state, step, ...rest]) => {
   const side = (at) => ({ text: rest[at], from: rest[at + 1], behind: rest[at + 2] });
   return { depth, state, step, sides: [side(0), side(3)], more: rest[6] ?? {}, open: state === BELOW_HERE || state === DIFFERS };

@@ -78,6 +78,7 @@ const codeObject = (object, open) => {
   const section = make("section", { class: "card object", "data-byte": object.byte }, title,
     ...object.found.map((found) => make("p", { class: "foreign found", dir: "ltr" }, found)),
     facts(["Way to it", foreign(object.way, "code")], ["Place", `byte ${shown(object.byte)}`],
+      ["Its bytes", bytes(...object.bytes)], ["Its line table's", bytes(...object.table_bytes)],
       ["Last row placed", object.last_row === null ? "none" : shown(object.last_row)]));
   if (object.strip) {
     const instructions = counted(object.each ?? 0, "instruction");

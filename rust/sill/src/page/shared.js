@@ -14,6 +14,7 @@ const make = (name, attributes = {}, ...children) => {
 };
 
 const shown = new Intl.NumberFormat("en").format;
+const bytes = (from, behind) => (behind - from === 1 ? `byte ${shown(from)}` : `bytes ${shown(from)} to ${shown(behind - 1)}`);
 const counted = (count, thing, things = thing + "s") => `${shown(count)} ${count === 1 ? thing : things}`;
 const foreign = (text, kind = "span") => make(kind, { class: "foreign", dir: "ltr" }, text);
 

@@ -123,7 +123,6 @@ mod tests {
     use super::super::ways::Ways;
     use super::*;
     use crate::samples;
-    use crate::spans::Spans;
     use sillgarland::Value;
 
     /// Where nodes are known, the way to a node's header, and to each byte of its own, is the way to the node.
@@ -131,10 +130,10 @@ mod tests {
     fn ways_of_samples() {
         for (path, input) in samples::all() {
             samples::each_value(&input, |start, golden| {
-                let (spans, ways) = (Spans::of(golden), Ways::of(golden));
+                let ways = Ways::of(golden);
                 let values: Vec<Value> = golden.values().collect();
                 for value in &values {
-                    let span = spans.span_of(*value);
+                    let span = value.span();
                     let own = if value.children().len() > 0 { span.start } else { span.end - 1 };
                     let known: Vec<Step> = ways.steps(&values, value.node()).iter().map(|step| step.0).collect();
                     for at in [span.start, own].map(|at| start + at) {

@@ -4,7 +4,7 @@ use crate::check::{Finding, Findings, Manner, Verdict, What, told};
 use crate::json::{self, Object};
 use crate::page::{Ways, refusal, refused_value, way};
 use crate::{files, looks, repair, text};
-use sillgarland::{Records, Value};
+use sillgarland::{Code, Records, Value};
 use std::collections::{BTreeMap, HashMap};
 use std::convert::Infallible;
 
@@ -86,7 +86,8 @@ fn draw(objects: &ByPlace, input: &[u8], manner: &Manner) -> Vec<Drawn> {
                 known.get_or_insert_with(|| (Ways::of(golden), golden.values().collect::<Vec<Value>>()));
             let steps = ways.to(nodes, code.value().node());
             let drawing = drawn(&code, &mut records).and(planned(&plan, codes - 1));
-            first.insert(faults.turn, Drawn { told: told_of(faults, values, &steps, input), drawing });
+            let told = told_of(faults, values, &steps, input).and(spans(&code, start));
+            first.insert(faults.turn, Drawn { told, drawing });
         }
         Ok::<(), Infallible>(())
     });
@@ -115,6 +116,12 @@ fn told_of(faults: &Faults, value: usize, steps: &str, input: &[u8]) -> Object {
         .or_null("last_row", code.last_row)
         .text("way", &way(value, steps))
         .with("refused", json::list(refusals))
+}
+
+/// The bytes of a code object and of its line table: the first of each, and the one behind its last.
+fn spans(code: &Code, start: usize) -> Object {
+    let span = |value: Value| json::list([value.span().start, value.span().end].map(|at| start + at));
+    Object::new().with("bytes", span(code.value())).with("table_bytes", span(code.line_table()))
 }
 
 /// What a repair would do with the code object of this number, or why it would write nothing.

@@ -52,6 +52,7 @@ fn levels(golden: Golden, depth: usize) -> Vec<usize> {
 fn node(value: Value, cut: bool, start: usize) -> String {
     let object = Object::new().with("node", value.node()).text("letter", &value.letter().to_string());
     let object = object.with("place", start + value.place()).with("size", value.size());
+    let object = object.with("from", start + value.span().start).with("to", start + value.span().end - 1);
     let object = holds(value, object, start);
     if !"()[<>:{c".contains(value.letter()) {
         return object.end();

@@ -1,4 +1,4 @@
-//! The tree for people: place, letter, and what the value holds, indented.
+//! The tree for people: place, bytes, letter, and what the value holds, indented.
 use super::Input;
 use super::walk::{Entered, Parted, walk};
 use crate::text;
@@ -23,7 +23,8 @@ pub fn show(input: &Input, depth: usize, out: &mut dyn Write) -> io::Result<bool
 fn show_line(entered: &Entered, start: usize, out: &mut dyn Write) -> io::Result<()> {
     let Entered { value, depth, step, parted } = entered;
     let place = start + value.place();
-    write!(out, "{place:>9}  {}  {:indent$}", value.letter(), "", indent = 2 * depth)?;
+    let span = format!("{} to {}", start + value.span().start, start + value.span().end - 1);
+    write!(out, "{place:>9}  {span:<17}  {}  {:indent$}", value.letter(), "", indent = 2 * depth)?;
     if let Some(step) = step {
         write!(out, "{step}: ")?;
     }

@@ -18,7 +18,7 @@ fn the_first_difference_by_path_and_place() {
     let one = file(&folder, "one.golden", b"N)\x02T)\x01z\x01a");
     let other = file(&folder, "other.golden", b"N)\x02T)\x01u\x01\0\0\0b");
     let shown = format!(
-        "different in value 2, at [1][0]\n  {one} at byte 8: \"a\"\n  {other} at byte 11: \"b\"\n  \
+        "different in value 2, at [1][0]\n  {one} at byte 8, bytes 6 to 8: \"a\"\n  {other} at byte 11, bytes 6 to 11: \"b\"\n  \
          their contents differ from their byte 0 on\n"
     );
     assert_eq!(ended(&["diff", &one, &other]), (1, shown, String::new()));
@@ -97,7 +97,7 @@ fn one_value_of_a_file() {
     assert!(shown.starts_with("different in value 1, at the value itself\n"), "{shown}");
     let (_, shown, _) = ended(&["diff", &format!("{one}#3"), &format!("{one}#1")]);
     assert!(shown.starts_with("different in values 3 and 1, at the value itself\n"), "{shown}");
-    assert!(shown.contains(&format!("  {one}#3 at byte 3: tuple of 1\n")), "{shown}");
+    assert!(shown.contains(&format!("  {one}#3 at byte 3, bytes 2 to 4: tuple of 1\n")), "{shown}");
     let (status, _, complaints) = ended(&["diff", &format!("{one}#4"), &other]);
     assert_eq!((status, complaints), (2, format!("sill: {one}#4: has no value 4\n")));
     file(&folder, "one#2", b"N");
@@ -108,8 +108,8 @@ fn one_value_of_a_file() {
 #[test]
 fn line_tables_as_rows() {
     let (_, shown, _) = ended(&["diff", "goldens/cut-line-table.golden", "goldens/rates.golden"]);
-    let told = "different in value 1, at .line_table\n  goldens/cut-line-table.golden at byte 225: line table of 45 \
-                instructions, NOT WHOLE: it places 33 of them\n  goldens/rates.golden at byte 225: line table of 45 \
+    let told = "different in value 1, at .line_table\n  goldens/cut-line-table.golden at byte 225, bytes 220 to 278: line table of 45 \
+                instructions, NOT WHOLE: it places 33 of them\n  goldens/rates.golden at byte 225, bytes 220 to 303: line table of 45 \
                 instructions, whole\n  instruction 33: no row / 211\n";
     assert!(shown.starts_with(told), "{shown}");
     assert!(shown.ends_with("  instruction 40: no row / 212\n  and 4 instructions more\n"), "{shown}");
@@ -144,7 +144,7 @@ fn folders() {
     let side = |name: &str| folder.join(name).to_str().unwrap().to_string();
     let (status, shown, complaints) = ended(&["diff", &side("a"), &side("b")]);
     let told = format!(
-        "different in value 1, at the value itself\n  {}/deep/x.golden at byte 1: True\n  {}/deep/x.golden at byte 1: False\n\
+        "different in value 1, at the value itself\n  {}/deep/x.golden at byte 1, bytes 0 to 0: True\n  {}/deep/x.golden at byte 1, bytes 0 to 0: False\n\
          only on one side: {}/left.golden\nonly on one side: {}/right.bin\n2 pairs: 1 the same, 1 different, 2 on one side only\n",
         side("a"),
         side("b"),

@@ -10,6 +10,7 @@ mod rows;
 mod sentences;
 mod showing;
 mod side_by_side;
+mod taking_bytes;
 mod totals;
 mod writing;
 mod wrong_files;

@@ -4,11 +4,18 @@ use super::*;
 #[test]
 fn a_tree_with_places() {
     let path = file(&folder("tree"), "tree.golden", b")\x03\xA9\x01i\x05\0\0\0r\0\0\0\0z\x01a");
-    let shown = "value 1, bytes 0 to 16\n        1  )  tuple of 3\n        3  )    [0]: tuple of 1\n        \
-                 5  i      [0]: 5\n        3  )    [1]: the same as at byte 3: tuple of 1\n       \
-                 16  z    [2]: \"a\"\n";
-    assert_eq!(ended(&["show", &path]), (0, shown.to_string(), String::new()));
-    let shown = "value 1, bytes 0 to 16\n        1  )  tuple of 3 …\n";
+    let line = |place: u32, bytes: &str, rest: &str| format!("{place:>9}  {bytes:<17}  {rest}\n");
+    let shown = [
+        "value 1, bytes 0 to 16\n".to_string(),
+        line(1, "0 to 16", ")  tuple of 3"),
+        line(3, "2 to 8", ")    [0]: tuple of 1"),
+        line(5, "4 to 8", "i      [0]: 5"),
+        line(3, "2 to 8", ")    [1]: the same as at byte 3: tuple of 1"),
+        line(16, "14 to 16", "z    [2]: \"a\""),
+    ]
+    .concat();
+    assert_eq!(ended(&["show", &path]), (0, shown, String::new()));
+    let shown = format!("value 1, bytes 0 to 16\n{}", line(1, "0 to 16", ")  tuple of 3 …"));
     assert_eq!(ended(&["show", "--depth", "0", &path]).1, shown);
     let (_, shown, _) = ended(&["show", "--depth", "1", &path]);
     assert_eq!(shown.matches("tuple of 1 …").count(), 2, "{shown}");
@@ -22,9 +29,9 @@ fn json() {
     assert!(shown.starts_with("[\n{\"refused\":{\"number\":9,\"name\":\"InvalidUtf8\",\"byte\":4,"), "{shown}");
     let path = file(&folder("json"), "json.golden", b")\x02z\x02\"\n{0");
     let shown = "[\n{\"from\":0,\"to\":7,\"size\":8,\"nodes\":[\n\
-                 {\"node\":0,\"letter\":\")\",\"place\":1,\"size\":1,\"type\":\"tuple\",\"children\":[1,2]},\n\
-                 {\"node\":1,\"letter\":\"z\",\"place\":4,\"size\":2,\"type\":\"text\",\"value\":\"\\\"\\u000a\"},\n\
-                 {\"node\":2,\"letter\":\"{\",\"place\":7,\"size\":0,\"type\":\"dict\",\"children\":[]}\n]}\n]\n";
+                 {\"node\":0,\"letter\":\")\",\"place\":1,\"size\":1,\"from\":0,\"to\":7,\"type\":\"tuple\",\"children\":[1,2]},\n\
+                 {\"node\":1,\"letter\":\"z\",\"place\":4,\"size\":2,\"from\":2,\"to\":5,\"type\":\"text\",\"value\":\"\\\"\\u000a\"},\n\
+                 {\"node\":2,\"letter\":\"{\",\"place\":7,\"size\":0,\"from\":6,\"to\":7,\"type\":\"dict\",\"children\":[]}\n]}\n]\n";
     assert_eq!(ended(&["show", "--json", &path]), (0, shown.to_string(), String::new()));
     let path = file(&folder("json"), "json.golden", b"z\x06\xED\xA0\xB4\xED\xB4\xA0");
     let (_, shown, _) = ended(&["show", "--json", &path]);
