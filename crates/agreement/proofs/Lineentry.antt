@@ -45,3 +45,21 @@ next-entry-agrees κs a asked r r′ ws ws′ p p′ = (one p p′, refl)
 
 pub in-numbers-agrees : Agree lineentry.quick.in_numbers.ended lineentry.quick.in_numbers.Reads.Asked lineentry.quick.in_numbers.Reads.Learnt
 in-numbers-agrees κs a asked r r′ ws ws′ p p′ = (one p p′, refl)
+
+pub signed-step-agrees : Agree lineentry.quick.signed_step.ended lineentry.quick.signed_step.Reads.Asked lineentry.quick.signed_step.Reads.Learnt
+signed-step-agrees κs a asked r r′ ws ws′ p p′ = (one p p′, refl)
+
+pub bytes-from-agrees : Agree lineentry.quick.bytes_from.ended lineentry.quick.bytes_from.Reads.Asked lineentry.quick.bytes_from.Reads.Learnt
+bytes-from-agrees κs a asked r r′ ws ws′ p p′ = (one p p′, refl)
+
+pub one-byte-agrees : Agree lineentry.quick.one_byte.ended lineentry.quick.one_byte.Reads.Asked lineentry.quick.one_byte.Reads.Learnt
+one-byte-agrees κs a asked r r′ ws ws′ p p′ = (one p p′, refl)
+
+pub is-long-agrees : Agree lineentry.short.is_long.ended lineentry.short.is_long.Reads.Asked lineentry.short.is_long.Reads.Learnt
+is-long-agrees κs a asked r r′ ws ws′ p p′ = (one p p′, refl)
+
+pub short-numbers-agrees : Agree lineentry.short.short_numbers.ended lineentry.short.short_numbers.Reads.Asked lineentry.short.short_numbers.Reads.Learnt
+short-numbers-agrees κs a asked r r′ ws ws′ p p′ = (one p p′, refl)
+
+pub long-entry-agrees : Agree lineentry.short.long_entry.ended lineentry.short.long_entry.Reads.Asked lineentry.short.long_entry.Reads.Learnt
+long-entry-agrees κs a asked r r′ ws ws′ p p′ = (one p p′, refl)

@@ -17,11 +17,11 @@ use Rattle.lineentry.specs.Entry.{location, covers, shortColumn, shortFo
 use Rattle.lineentry.specs.Quick.{isPlain, Plain, plainOf, oneByte, isLongOfFour, LongOfFour, longOf}
 use Rattle.lineentry.proofs.Varints.{varint-last}
 
-and-left : (a b : Bool) → (a && b) ≡ true → a ≡ true
+pub and-left : (a b : Bool) → (a && b) ≡ true → a ≡ true
 and-left true b e = refl
 and-left false b e = e
 
-and-right : (a b : Bool) → (a && b) ≡ true → b ≡ true
+pub and-right : (a b : Bool) → (a && b) ≡ true → b ≡ true
 and-right true b e = e
 and-right false true e = refl
 and-right false false e = e

@@ -2,3 +2,4 @@
 pub mod Varints
 pub mod Entries
 pub mod Bytes
+pub mod Shorts

@@ -8,6 +8,7 @@ ghost use Rattle.lineentry.specs.Line.{asSigned, moved, shown};
 ghost use Rattle.lineentry.specs.Entry.{atLine, shortForm, oneLine, noColumns, longColumns, longForm, entryAt};
 
 pub mod quick;
+pub mod short;
 
 // 0 as a line or a step is kept.
 const ORIGIN: u32 = 0x8000_0000;

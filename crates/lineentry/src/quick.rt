@@ -1,5 +1,5 @@
 // The entries that most of a table's are, read without a call, for the loops over whole tables: codes 0 to 12 by one straight way, and code 14
-// where each of its numbers is one byte. Any other entry is read by `read_entry`.
+// where each of its numbers is one byte, or, as `short` has it, one or two. Any other entry is read by `read_entry`.
 ghost use mathlib.Core.Path.{_≡_};
 ghost use mathlib.Core.Bool.{cond, _&&_};
 ghost use Prim.Native.Nat.{_+_, _-_, _/_, _%_, _<_, _≤_};
@@ -29,7 +29,7 @@ fn pick(first: bool, a: u32, b: u32) -> u32
 }
 
 // How many bytes there are from a place on.
-fn bytes_from(table: &[u8], at: usize) -> usize
+pub fn bytes_from(table: &[u8], at: usize) -> usize
     ensures { λ r. ⌜ r ≡ length (now (table .entry)) - at ⌝ }
 {
     if at < table.len() {
@@ -39,7 +39,7 @@ fn bytes_from(table: &[u8], at: usize) -> usize
     }
 }
 
-fn one_byte(byte: u8) -> bool
+pub fn one_byte(byte: u8) -> bool
     ensures { λ r. ⌜ r ≡ oneByte byte ⌝ }
 {
     byte % 128 < 64
@@ -130,9 +130,8 @@ pub fn plain_entry(table: &[u8], line: u32, at: usize) -> Entry
     )
 }
 
-// A small number as a step from line to line.
-fn signed_step(value: u32) -> u32
-    requires { ⌜ value < 64 ⌝ }
+// A number as a step from line to line.
+pub fn signed_step(value: u32) -> u32
     ensures { λ r. ⌜ r ≡ signedOf value ⌝ }
 {
     if value % 2 == 0 {
@@ -206,7 +205,7 @@ pub fn in_numbers(entry: Entry) -> Entry
 }
 
 // The entry at a place of the table, as `read_entry` tells it. A function of one caller becomes a part of it, so each loop over whole tables is
-// to have its own such three ways.
+// to have its own such ways.
 pub fn next_entry(table: &[u8], line: u32, at: usize) -> Entry
     ensures { λ r. ⌜ r ≡ entryAt (now (table .entry)) line at ⌝ }
 {
@@ -215,6 +214,12 @@ pub fn next_entry(table: &[u8], line: u32, at: usize) -> Entry
     }
     if is_long_of_four(table, at) {
         return long_of_four(table, line, at);
+    }
+    if crate::short::is_long(table, at) {
+        let numbers = crate::short::short_numbers(table, at);
+        if numbers.short {
+            return crate::short::long_entry(table, line, at, numbers);
+        }
     }
     in_numbers(crate::read_entry(table, line, at))
 }

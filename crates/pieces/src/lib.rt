@@ -39,6 +39,22 @@ fn copy(out: &mut [u8], at: usize, s: &[u8], size: usize)
     }
 }
 
+// The entry at a place of the table, by the ways of `quick::next_entry`, which becomes a part of its one caller, as this does.
+fn entry_here(table: &[u8], line: u32, at: usize) -> Entry
+    ensures { λ r. ⌜ r ≡ entryAt (now (table .entry)) line at ⌝ }
+{
+    if lineentry::quick::is_plain(table, at) {
+        return lineentry::quick::plain_entry(table, line, at);
+    }
+    if lineentry::short::is_long(table, at) {
+        let numbers = lineentry::short::short_numbers(table, at);
+        if numbers.short {
+            return lineentry::short::long_entry(table, line, at, numbers);
+        }
+    }
+    lineentry::quick::in_numbers(lineentry::read_entry(table, line, at))
+}
+
 // The row of the bytes, with the records that its entries place.
 fn place_row(table: &[u8], first: u32, count: usize, records: &mut [u32], from: usize) -> RowEnd
     requires { ⌜ (length (now table) ≤ mostBytes) × (4 * (from + count) ≤ length (now records)) ⌝ }
@@ -51,7 +67,7 @@ fn place_row(table: &[u8], first: u32, count: usize, records: &mut [u32], from: 
     let mut entries = 0;
     let mut i = from;
     while 0 < left {
-        match lineentry::read_entry(table, line, at) {
+        match entry_here(table, line, at) {
             Entry::OutOfRange => {
                 return RowEnd {
                     how: rows::REFUSED,
@@ -128,7 +144,7 @@ fn advance(state: &mut [u32], line: u32, placed: u32, at: u32, bytes: u32, statu
 }
 
 // The same with the bytes that are held, and the answer.
-fn go_on(
+pub fn go_on(
     state: &mut [u32],
     line: u32,
     placed: u32,
@@ -151,7 +167,14 @@ fn go_on(
 }
 
 // The same where no bytes are held.
-fn go_bare(state: &mut [u32], line: u32, placed: u32, at: u32, bytes: u32, status: u32) -> Pieced
+pub fn go_bare(
+    state: &mut [u32],
+    line: u32,
+    placed: u32,
+    at: u32,
+    bytes: u32,
+    status: u32,
+) -> Pieced
     requires { ⌜ 40 ≤ length (now state) ⌝ }
     ensures { λ r. ⌜ (r ≡ told 0 0 placed false) × (now (state .exit) ≡ advanced (now (state .entry)) line placed at bytes status []) ⌝ }
 {

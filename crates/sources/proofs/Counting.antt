@@ -1,7 +1,7 @@
 -- Laws on the counts of bytes: of some behind others, of one byte n times; and on the store of bytes, filled from the front.
 -- Assumes nothing.
 use mathlib.Core.Path.{_≡_, refl, sym, ap, _∙_}
-use mathlib.Core.Bool.{Bool, true, false}
+use mathlib.Core.Bool.{Bool, true, false, not}
 use mathlib.Core.List.{List, [], _∷_, _++_, append-assoc}
 use Prim.Native.Nat.{ℕ, zero, suc, _+_, _-_, _≤_, _<_}
 use native.Mathlib.Nat.{add-zero, zero-add}
@@ -11,11 +11,16 @@ use lib.ListN.{length, replicate, set, length-append, length-replicate}
 use lib.Seq.{sets}
 use Rattle.clearing.specs.Lent.{zeros, padded}
 use Rattle.sources.specs.declared.Counts.{Counts}
+use Rattle.sources.specs.declared.Lacks.{Lacks}
 use Rattle.sources.specs.Marks.{isPlaced, isLined, isSpanned, isSure, counts, share, times, plus, countsOf}
+use Rattle.sources.specs.Turns.{lacks, lacking, Few, having}
 
 -- ---- counts
 pub counts-eq : {a b c d a′ b′ c′ d′ : ℕ} → a ≡ a′ → b ≡ b′ → c ≡ c′ → d ≡ d′ → counts a b c d ≡ counts a′ b′ c′ d′
 counts-eq p q r t = cc
+
+lacks-eq : {a b c a′ b′ c′ : ℕ} → a ≡ a′ → b ≡ b′ → c ≡ c′ → lacks a b c ≡ lacks a′ b′ c′
+lacks-eq p q r = cc
 
 pub plus-none : (c : Counts) → plus c (counts 0 0 0 0) ≡ c
 plus-none c = counts-eq (omega arith) (omega arith) (omega arith) (omega arith)
@@ -53,6 +58,32 @@ times-more n byte = counts-eq (share-more n (isPlaced byte)) (share-more n (isLi
 pub counts-replicate : (n byte : ℕ) → countsOf (replicate n byte) ≡ times n byte
 counts-replicate zero byte = sym (times-none byte)
 counts-replicate (suc n) byte = ap (plus (times 1 byte)) (counts-replicate n byte) ∙ times-more n byte
+
+-- ---- counts by what is lacking
+lack-share : (i x m : ℕ) (t : Bool) → x ≤ i → i - x + share m t ≡ i + m - (x + share m (not t))
+lack-share i x m true h = omega arith
+lack-share i x m false h = omega arith
+
+placed-share : (i m : ℕ) (t : Bool) → t ≡ true → i + share m t ≡ i + m
+placed-share i m t e = rw e
+
+-- m more instructions of a byte that an entry gives
+pub having-more : (i m byte : ℕ) (l : Lacks) → Few l i → isPlaced byte ≡ true → plus (having i l) (times m byte) ≡ having (i + m) (lacking l m byte)
+having-more i m byte l f e =
+    counts-eq (placed-share i m (isPlaced byte) e) (lack-share i (l .line) m (isLined byte) (f .few-lines))
+    (lack-share i (l .columns) m (isSpanned byte) (f .few-columns)) (lack-share i (l .sure) m (isSure byte) (f .few-sure))
+
+pub few-more : (i m byte : ℕ) (l : Lacks) → Few l i → Few (lacking l m byte) (i + m)
+few-more i m byte l f =
+    record {
+      few-lines = omega (arith, f .few-lines, share-most m (not (isLined byte)));
+      few-columns = omega (arith, f .few-columns, share-most m (not (isSpanned byte)));
+      few-sure = omega (arith, f .few-sure, share-most m (not (isSure byte)));
+    }
+
+-- a byte that has all that is counted lacks nothing
+pub lacks-nothing : (m byte : ℕ) (l : Lacks) → byte ≡ 31 → l ≡ lacking l m byte
+lacks-nothing m byte l e = rw e (lacks-eq (omega arith) (omega arith) (omega arith))
 
 -- ---- the store
 pub fill-turn : (xs : List ℕ) (j left byte : ℕ) → 0 < left → sets xs j (replicate left byte) ≡ sets (set xs j byte) (j + 1) (replicate (left - 1) byte)

@@ -20,9 +20,14 @@ use Rattle.lineentry.specs.Entry.{entryAt}
 use Rattle.lineentry.proofs.Entries.{entry-places}
 use Rattle.sources.specs.declared.Counts.{Counts}
 use Rattle.sources.specs.declared.Sourced.{Sourced}
+use Rattle.sources.specs.declared.Lacks.{Lacks}
+use Rattle.sources.specs.declared.Mark.{Mark}
 use Rattle.sources.specs.Source.{sourceOf}
-use Rattle.sources.specs.Marks.{Marks, marked, denied, behind, fromEntry, marks, sources, isPlaced, isLined, isSpanned, isSure, counts, times, plus, countsOf, told, answerOf, bytesOf}
-use Rattle.sources.proofs.Counting.{plus-none, share-most, counts-append, counts-replicate, padded-zeros}
+use Rattle.sources.specs.Marks.{Marks, marked, denied, behind, fromEntry, marks, sources, isPlaced, counts, times, plus, countsOf, told, answerOf, bytesOf}
+use Rattle.sources.specs.Turns.{lacks, lacking, Few, having}
+use Rattle.sources.proofs.Counting.{plus-none, counts-append, counts-replicate, having-more, few-more, padded-zeros}
+use Rattle.sources.proofs.Bits.{source-placed}
+use Rattle.sources.proofs.Turning.{Given}
 
 -- ---- one turn
 pub marks-ended : (turns : ℕ) (s : List ℕ) (line p left : ℕ) → left ≡ 0 → marks turns s line p left ≡ marked []
@@ -100,19 +105,16 @@ cleared-behind {xs} {ys} {i} {n} placed rest e l s h q =
     ∙ ap (λ t. placed ++ zeros t) same
 
 -- ---- the loop's invariant
--- The store has n bytes and begins with what is placed; `c` counts that.
-pub record Going (s : List ℕ) (total n : ℕ) (goal : Marks) (xs : List ℕ) (c : Counts) (line at i : ℕ) : Type 0 where
+-- The store has n bytes and begins with what is placed; `c` has what that lacks.
+pub record Going (s : List ℕ) (total n : ℕ) (goal : Marks) (xs : List ℕ) (c : Lacks) (line at i : ℕ) : Type 0 where
   pub placed : List ℕ
   pub count : length placed ≡ i
   pub upto : i ≤ total
   pub room : total ≤ n
   pub same : length xs ≡ n
   pub begins : Begins xs placed
-  pub tallied : c ≡ countsOf placed
-  pub few-entries : c .«from_entries» ≤ i
-  pub few-lines : c .«with_line» ≤ i
-  pub few-columns : c .«with_columns» ≤ i
-  pub few-sure : c .sure ≤ i
+  pub tallied : having i c ≡ countsOf placed
+  pub few : Few c i
   pub turns : ℕ
   pub enough : total - i ≤ turns
   pub comes : goal ≡ behind placed (marks turns s line at (total - i))
@@ -130,7 +132,7 @@ unfolding bytesOf
 ends-zero n e x = rw e x
 
 -- where the loop begins nothing is placed
-pub going-start : (s : List ℕ) (count first : ℕ) (xs : List ℕ) (c : Counts) → count ≤ length xs → c ≡ counts 0 0 0 0
+pub going-start : (s : List ℕ) (count first : ℕ) (xs : List ℕ) (c : Lacks) → count ≤ length xs → c ≡ lacks 0 0 0
     → Going s count (length xs) (marks count s first 0 count) xs c first 0 0
 going-start s count first xs c h q =
     record {
@@ -140,11 +142,8 @@ going-start s count first xs c h q =
       room = omega arith;
       same = refl;
       begins = record { rest = xs; holds = refl };
-      tallied = q;
-      few-entries = rw q (omega arith);
-      few-lines = rw q (omega arith);
-      few-columns = rw q (omega arith);
-      few-sure = rw q (omega arith);
+      tallied = ap (having 0) q;
+      few = record { few-lines = rw q (omega arith); few-columns = rw q (omega arith); few-sure = rw q (omega arith) };
       turns = count;
       enough = omega arith;
       comes =
@@ -152,7 +151,7 @@ going-start s count first xs c h q =
           rw z (sym (behind-none (marks count s first 0 count)));
     }
 
-module _ {s : List ℕ} {total n : ℕ} {goal : Marks} {xs : List ℕ} {c : Counts} {line at i : ℕ} (g : Going s total n goal xs c line at i) where
+module _ {s : List ℕ} {total n : ℕ} {goal : Marks} {xs : List ℕ} {c : Lacks} {line at i : ℕ} (g : Going s total n goal xs c line at i) where
   at-entry : (e : Entry) → i < total → entryAt s line at ≡ e → goal ≡ behind (g .placed) (fromEntry (marks (g .turns - 1) s) s at (total - i) e)
   at-entry e h q =
       g .comes
@@ -162,23 +161,23 @@ module _ {s : List ℕ} {total n : ℕ} {goal : Marks} {xs : List ℕ} {c : Coun
   padded-placed : {ys : List ℕ} → ys ≡ sets xs i (zeros (length xs - i)) → ys ≡ padded n (g .placed)
   padded-placed q = cleared-behind (g .placed) (g .begins .rest) (g .begins .holds) (g .count) (g .same) (omega (arith, g .upto, g .room)) q
 
-  pub ends-stop : {r : Sourced} {ys : List ℕ} → i < total → entryAt s line at ≡ Stop → ys ≡ sets xs i (zeros (length xs - i)) → r ≡ told accepted 0 c → Ends n goal r ys
-  ends-stop h q w e =
-      ends-marked n goal (g .placed ++ zeros (total - i)) c (at-entry Stop h q) e
-      (g .tallied ∙ sym (counts-append (g .placed) (zeros (total - i)) ∙ ap (plus (countsOf (g .placed))) (counts-replicate (total - i) 0) ∙ plus-none (countsOf (g .placed))))
+  pub ends-stop : {r : Sourced} {ys : List ℕ} {d : Counts} → i < total → entryAt s line at ≡ Stop → ys ≡ sets xs i (zeros (length xs - i)) → d ≡ having i c → r ≡ told accepted 0 d → Ends n goal r ys
+  ends-stop {d = d} h q w f e =
+      ends-marked n goal (g .placed ++ zeros (total - i)) d (at-entry Stop h q) e
+      (f ∙ g .tallied ∙ sym (counts-append (g .placed) (zeros (total - i)) ∙ ap (plus (countsOf (g .placed))) (counts-replicate (total - i) 0) ∙ plus-none (countsOf (g .placed))))
       (padded-placed w ∙ padded-zeros n (total - i) (g .placed) (omega (arith, g .count, g .upto, g .room)))
 
   pub ends-refused : {r : Sourced} {ys : List ℕ} → i < total → entryAt s line at ≡ OutOfRange → (r ≡ told numberRange at (counts 0 0 0 0)) × (ys ≡ zeros (length xs)) → Ends n goal r ys
   ends-refused h q e = ends-zero n (at-entry OutOfRange h q) (e .0, e .1 ∙ ap zeros (g .same))
 
-  pub ends-all : {r : Sourced} {ys : List ℕ} → total ≤ i → ys ≡ sets xs i (zeros (length xs - i)) → r ≡ told accepted 0 c → Ends n goal r ys
-  ends-all h w e =
-      ends-marked n goal (g .placed ++ []) c (g .comes ∙ ap (behind (g .placed)) (marks-ended (g .turns) s line at (total - i) (omega arith))) e
-      (g .tallied ∙ ap countsOf (sym (append-nil (g .placed)))) (padded-placed w ∙ ap (padded n) (sym (append-nil (g .placed))))
+  pub ends-all : {r : Sourced} {ys : List ℕ} {d : Counts} → total ≤ i → ys ≡ sets xs i (zeros (length xs - i)) → d ≡ having i c → r ≡ told accepted 0 d → Ends n goal r ys
+  ends-all {d = d} h w f e =
+      ends-marked n goal (g .placed ++ []) d (g .comes ∙ ap (behind (g .placed)) (marks-ended (g .turns) s line at (total - i) (omega arith))) e
+      (f ∙ g .tallied ∙ ap countsOf (sym (append-nil (g .placed)))) (padded-placed w ∙ ap (padded n) (sym (append-nil (g .placed))))
 
-  pub goes-on : (x : Span) (ys : List ℕ) (m byte : ℕ) (d : Counts) → i < total → entryAt s line at ≡ Covers x → m ≡ min (x .instructions) (total - i) → byte ≡ sourceOf s at (x .line) (x .missing)
-      → m ≤ 8 → ys ≡ sets xs i (cond (leb 8 (length xs - i)) (replicate 8 byte) (replicate m byte)) → d ≡ plus c (times m byte) → Going s total n goal ys d (x .line) (x .next) (i + m)
-  goes-on x ys m byte d h q k b most e w =
+  goes : (x : Span) (ys : List ℕ) (m byte : ℕ) (d : Lacks) → i < total → entryAt s line at ≡ Covers x → m ≡ min (x .instructions) (total - i) → byte ≡ sourceOf s at (x .line) (x .missing)
+      → m ≤ 8 → ys ≡ sets xs i (cond (leb 8 (length xs - i)) (replicate 8 byte) (replicate m byte)) → d ≡ lacking c m byte → Going s total n goal ys d (x .line) (x .next) (i + m)
+  goes x ys m byte d h q k b most e w =
       let z : 0 < x .instructions = entry-places s line at x q in
       let l : total - i - x .instructions ≡ total - (i + m) = omega arith in
       let more = replicate m byte in
@@ -189,17 +188,24 @@ module _ {s : List ℕ} {total n : ℕ} {goal : Marks} {xs : List ℕ} {c : Coun
         room = g .room;
         same = ap length e ∙ length-sets xs i (cond (leb 8 (length xs - i)) (replicate 8 byte) (replicate m byte)) ∙ g .same;
         begins = begins-filled m byte (g .placed) (g .begins .rest) (g .begins .holds) (g .count) (omega (arith, g .same, g .upto, g .room)) most e;
-        tallied = w ∙ rw (g .tallied) (sym (counts-append (g .placed) more ∙ ap (plus (countsOf (g .placed))) (counts-replicate m byte)));
-        few-entries = rw w (omega (arith, g .few-entries, share-most m (isPlaced byte)));
-        few-lines = rw w (omega (arith, g .few-lines, share-most m (isLined byte)));
-        few-columns = rw w (omega (arith, g .few-columns, share-most m (isSpanned byte)));
-        few-sure = rw w (omega (arith, g .few-sure, share-most m (isSure byte)));
+        tallied =
+            ap (having (i + m)) w ∙ sym (having-more i m byte c (g .few) (ap isPlaced b ∙ source-placed s at (x .line) (x .missing)))
+            ∙ ap (λ t. plus t (times m byte)) (g .tallied) ∙ sym (counts-append (g .placed) more ∙ ap (plus (countsOf (g .placed))) (counts-replicate m byte));
+        few = subst (λ t. Few t (i + m)) (sym w) (few-more i m byte c (g .few));
         turns = g .turns - 1;
         enough = omega (arith, g .enough);
         comes =
             rw (← k, ← b, behind-twice (g .placed) more (marks (g .turns - 1) s (x .line) (x .next) (total - i - x .instructions)), l)
             at (at-entry (Covers x) h q);
       }
+
+  -- by the turn that was taken
+  pub goes-on : (x : Mark) (ys : List ℕ) (m : ℕ) (d : Lacks) → i < total → (t : Given s line at x) → m ≡ min (x .instructions) (total - i) → m ≤ 8
+      → ys ≡ sets xs i (cond (leb 8 (length xs - i)) (replicate 8 (x .byte)) (replicate m (x .byte))) → d ≡ lacking c m (x .byte) → Going s total n goal ys d (x .line) (x .next) (i + m)
+  goes-on x ys m d h t k most e w =
+      subst (λ a. Going s total n goal ys d a (x .next) (i + m)) (sym (t .line-same))
+      (subst (λ a. Going s total n goal ys d (t .entry .line) a (i + m)) (sym (t .next-same))
+      (goes (t .entry) ys m (x .byte) d h (t .stands) (k ∙ ap (λ a. min a (total - i)) (t .instructions-same)) (t .byte-same) most e w))
 
 -- ---- the answer of a whole table, case by case: 14, 17, then the walk
 module _ (s : List ℕ) (first count capacity : ℕ) where

@@ -4,3 +4,4 @@ pub mod Bits
 pub mod Long
 pub mod Beside
 pub mod Repaired
+pub mod Turning

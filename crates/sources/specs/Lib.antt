@@ -2,3 +2,4 @@ pub mod Source
 pub mod Marks
 pub mod Beside
 pub mod Repaired
+pub mod Turns

@@ -11,13 +11,16 @@ ghost use Rattle.clearing.specs.Lent.{zeros};
 ghost use Rattle.lineentry.specs.Line.{moved, asSigned};
 ghost use Rattle.linetable.specs.Answer.{firstLine};
 ghost use Rattle.lineentry.specs.Varint.{byteAt};
-ghost use Rattle.lineentry.specs.Entry.{entryAt};
-ghost use Rattle.sources.specs.Source.{codeAt, numberAt, longFrom, longAt, LongShown, aboveOne, above, aboveAfter, bit, sum, longSource, sourceOf};
-ghost use Rattle.sources.specs.Marks.{marks, sources, has, share, counts, times, plus, told, answerOf, bytesOf};
+ghost use Rattle.lineentry.specs.Quick.{Plain};
+ghost use Rattle.lineentry.specs.Short.{Long, Read};
+ghost use Rattle.sources.specs.Source.{codeAt, numberAt, longFrom, longAt, LongShown, aboveOne, above, aboveAfter, bit, sum, sourceBy, longSource, sourceOf};
+ghost use Rattle.sources.specs.Marks.{marks, sources, has, share, counts, told, answerOf, bytesOf};
+ghost use Rattle.sources.specs.Turns.{turnAt, lacks, Few, lacking, having};
 use lineentry::Entry;
 use lineentry::Location;
 use lineentry::Moved;
 use lineentry::Varint;
+use lineentry::short::Numbers;
 
 // 0 as a line is kept.
 const ORIGIN: u32 = 0x8000_0000;
@@ -40,6 +43,28 @@ pub struct Counts {
     pub from_entries: u32,
     pub with_line: u32,
     pub with_columns: u32,
+    pub sure: u32,
+}
+
+// An entry as the walk takes it: how many instructions, the line and the place after it, and its byte.
+pub struct Mark {
+    pub instructions: usize,
+    pub line: u32,
+    pub next: usize,
+    pub byte: u8,
+}
+
+// The entry at a place, or a stop, or an entry that is refused.
+pub enum Turn {
+    Gives(Mark),
+    Stops,
+    Refuses,
+}
+
+// How many instructions lack a line, a line with both columns, and a row that is sure.
+pub struct Lacks {
+    pub line: u32,
+    pub columns: u32,
     pub sure: u32,
 }
 
@@ -146,11 +171,10 @@ fn long_source(table: &[u8], at: usize, line: u32, missing: bool, shows: Locatio
     read_long_source(table, at, line, missing)
 }
 
-// Code 14, whose numbers start at a place: each column is there where its number is not 0.
-fn read_long_source(table: &[u8], at: usize, line: u32, missing: bool) -> u8
-    ensures { λ r. ⌜ r ≡ longSource (now (table .entry)) at line missing ⌝ }
+// Code 14 by its numbers: each column is there where its number is not 0.
+fn by_numbers(long: LongForm, line: u32, missing: bool) -> u8
+    ensures { λ r. ⌜ r ≡ sourceBy 14 line long missing ⌝ }
 {
-    let long = long_at(table, at);
     let end = above_after(line, long.end_step);
     let positive = both(is_above(line), end);
     sum_of(
@@ -160,6 +184,13 @@ fn read_long_source(table: &[u8], at: usize, line: u32, missing: bool) -> u8
         positive,
         missing,
     )
+}
+
+// Code 14, whose numbers start at a place.
+fn read_long_source(table: &[u8], at: usize, line: u32, missing: bool) -> u8
+    ensures { λ r. ⌜ r ≡ longSource (now (table .entry)) at line missing ⌝ }
+{
+    by_numbers(long_at(table, at), line, missing)
 }
 
 // The byte for the entry at a place, which has this line, of which a byte was missing or not, and which shows this location.
@@ -194,40 +225,34 @@ fn share_of(n: u32, given: bool) -> u32
     if given { n } else { 0 }
 }
 
-// n instructions of one byte. Most entries have all that is counted.
-fn times_of(n: u32, byte: u8) -> Counts
-    ensures { λ r. ⌜ (r ≡ times n byte) × (r .«from_entries» ≤ n) × (r .«with_line» ≤ n) × (r .«with_columns» ≤ n) × (r .sure ≤ n) ⌝ }
+// n more instructions of one byte, which have an entry. Most have all that is counted, and then nothing is added.
+fn lack_more(before: Lacks, i: usize, n: u32, byte: u8) -> Lacks
+    requires { ⌜ (i + n < 0x100000000) × Few before i ⌝ }
+    ensures { λ r. ⌜ r ≡ lacking before n byte ⌝ }
 {
     if byte == 31 {
-        return Counts {
-            from_entries: n,
-            with_line: n,
-            with_columns: n,
-            sure: n,
-        };
+        return before;
     }
     let line = has_bit(2, byte);
     let columns = both(has_bit(4, byte), has_bit(8, byte));
     let sure = both(has_bit(16, byte), !has_bit(32, byte));
-    Counts {
-        from_entries: share_of(n, has_bit(1, byte)),
-        with_line: share_of(n, line),
-        with_columns: share_of(n, both(line, columns)),
-        sure: share_of(n, both(line, sure)),
+    Lacks {
+        line: before.line + share_of(n, !line),
+        columns: before.columns + share_of(n, !both(line, columns)),
+        sure: before.sure + share_of(n, !both(line, sure)),
     }
 }
 
-// Counts of i instructions, and n more of one byte.
-fn count_more(before: Counts, i: usize, n: u32, byte: u8) -> Counts
-    requires { ⌜ (i + n < 0x100000000) × (before .«from_entries» ≤ i) × (before .«with_line» ≤ i) × (before .«with_columns» ≤ i) × (before .sure ≤ i) ⌝ }
-    ensures { λ r. ⌜ r ≡ plus before (times n byte) ⌝ }
+// The counts of i instructions that have an entry, by what they lack.
+fn have(i: u32, lacks: Lacks) -> Counts
+    requires { ⌜ Few lacks i ⌝ }
+    ensures { λ r. ⌜ r ≡ having i lacks ⌝ }
 {
-    let more = times_of(n, byte);
     Counts {
-        from_entries: before.from_entries + more.from_entries,
-        with_line: before.with_line + more.with_line,
-        with_columns: before.with_columns + more.with_columns,
-        sure: before.sure + more.sure,
+        from_entries: i,
+        with_line: i - lacks.line,
+        with_columns: i - lacks.columns,
+        sure: i - lacks.sure,
     }
 }
 
@@ -319,6 +344,16 @@ fn none() -> Counts
     }
 }
 
+fn nothing() -> Lacks
+    ensures { λ r. ⌜ r ≡ lacks 0 0 0 ⌝ }
+{
+    Lacks {
+        line: 0,
+        columns: 0,
+        sure: 0,
+    }
+}
+
 // A refusal leaves every byte zero.
 fn refuse(bytes: &mut [u8], number: u32, place: u32) -> Sourced
     ensures { λ r. ⌜ (r ≡ told number place (counts 0 0 0 0)) × (now (bytes .exit) ≡ zeros (length (now (bytes .entry)))) ⌝ }
@@ -333,17 +368,80 @@ fn smaller(a: usize, b: usize) -> usize
     if a <= b { a } else { b }
 }
 
-// The entry at a place of the table: the ways of `quick::next_entry`, which becomes a part of its one caller, as this does.
-fn entry_here(table: &[u8], line: u32, at: usize) -> Entry
-    ensures { λ r. ⌜ r ≡ entryAt (now (table .entry)) line at ⌝ }
+// An entry of codes 0 to 12.
+fn plain_turn(table: &[u8], line: u32, at: usize) -> Turn
+    requires { ⌜ Plain (now table) at ⌝ }
+    ensures { λ r. ⌜ r ≡ turnAt (now (table .entry)) line at ⌝ }
+{
+    match lineentry::quick::plain_entry(table, line, at) {
+        Entry::OutOfRange => Turn::Refuses,
+        Entry::Stop => Turn::Stops,
+        Entry::Covers(span) => Turn::Gives(Mark {
+            instructions: span.instructions,
+            line: span.line,
+            next: span.next,
+            byte: sum_of(true, true, true, is_above(span.line), span.missing),
+        }),
+    }
+}
+
+// An entry of code 14 whose numbers were read.
+fn long_turn(table: &[u8], line: u32, at: usize, x: Numbers) -> Turn
+    requires { ⌜ Long (now table) at × Read (now table) (at + 1) x ⌝ }
+    ensures { λ r. ⌜ r ≡ turnAt (now (table .entry)) line at ⌝ }
+{
+    match lineentry::short::long_entry(table, line, at, x) {
+        Entry::OutOfRange => Turn::Refuses,
+        Entry::Stop => Turn::Stops,
+        Entry::Covers(span) => {
+            let long = LongForm {
+                end_step: x.end_step,
+                column: x.column,
+                end_column: x.end_column,
+            };
+            Turn::Gives(Mark {
+                instructions: span.instructions,
+                line: span.line,
+                next: span.next,
+                byte: by_numbers(long, span.line, span.missing),
+            })
+        }
+    }
+}
+
+// Any entry.
+fn other_turn(table: &[u8], line: u32, at: usize) -> Turn
+    ensures { λ r. ⌜ r ≡ turnAt (now (table .entry)) line at ⌝ }
+{
+    match lineentry::read_entry(table, line, at) {
+        Entry::OutOfRange => Turn::Refuses,
+        Entry::Stop => Turn::Stops,
+        Entry::Covers(span) => {
+            let shows = span.location;
+            Turn::Gives(Mark {
+                instructions: span.instructions,
+                line: span.line,
+                next: span.next,
+                byte: source_of(table, at, span.line, span.missing, shows),
+            })
+        }
+    }
+}
+
+// The entry at a place of the table. Each way to it makes its byte before the ways meet.
+fn turn_here(table: &[u8], line: u32, at: usize) -> Turn
+    ensures { λ r. ⌜ r ≡ turnAt (now (table .entry)) line at ⌝ }
 {
     if lineentry::quick::is_plain(table, at) {
-        return lineentry::quick::plain_entry(table, line, at);
+        return plain_turn(table, line, at);
     }
-    if lineentry::quick::is_long_of_four(table, at) {
-        return lineentry::quick::long_of_four(table, line, at);
+    if lineentry::short::is_long(table, at) {
+        let numbers = lineentry::short::short_numbers(table, at);
+        if numbers.short {
+            return long_turn(table, line, at, numbers);
+        }
     }
-    lineentry::quick::in_numbers(lineentry::read_entry(table, line, at))
+    other_turn(table, line, at)
 }
 
 // Gives every instruction its entry's byte, entry by entry; those left over, and what was stored past the last, are cleared.
@@ -353,33 +451,31 @@ fn walk_marks(table: &[u8], first: u32, count: u32, bytes: &mut [u8]) -> Sourced
         × (now (bytes .exit) ≡ bytesOf (length (now (bytes .entry))) (marks count (now (table .entry)) first 0 count)) ⌝ }
 {
     let total = count as usize;
-    let mut counts = none();
+    let mut lacks = nothing();
     let mut line = first;
     let mut at = 0;
     let mut i = 0;
     while i < total {
-        match entry_here(table, line, at) {
-            Entry::OutOfRange => {
+        match turn_here(table, line, at) {
+            Turn::Refuses => {
                 return refuse(bytes, refusals::NUMBER_RANGE, at as u32);
             }
-            Entry::Stop => {
+            Turn::Stops => {
                 clear_from(bytes, i);
-                return answer(refusals::ACCEPTED, 0, counts);
+                return answer(refusals::ACCEPTED, 0, have(i as u32, lacks));
             }
-            Entry::Covers(span) => {
-                let shows = span.location;
-                let source = source_of(table, at, span.line, span.missing, shows);
-                let n = smaller(span.instructions, total - i);
-                fill_up(bytes, i, n, source);
-                counts = count_more(counts, i, n as u32, source);
+            Turn::Gives(mark) => {
+                let n = smaller(mark.instructions, total - i);
+                fill_up(bytes, i, n, mark.byte);
+                lacks = lack_more(lacks, i, n as u32, mark.byte);
                 i += n;
-                line = span.line;
-                at = span.next;
+                line = mark.line;
+                at = mark.next;
             }
         }
     }
     clear_from(bytes, i);
-    answer(refusals::ACCEPTED, 0, counts)
+    answer(refusals::ACCEPTED, 0, have(i as u32, lacks))
 }
 
 // A byte for each instruction, from a first line as code objects have it.

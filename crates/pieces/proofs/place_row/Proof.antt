@@ -10,8 +10,8 @@ use Rattle.pieces.proofs.place_row.Statement.{statement}
 use Rattle.pieces.proofs.place_row.Tie as tie
 use Rattle.pieces.proofs.place_row.Reads as reads
 use Rattle.pieces.proofs.place_row.Lts as lts
-use Rattle.lineentry.proofs.read_entry.Reads as read-entry-reads
 use Rattle.linetable.proofs.fill.Reads as fill-reads
+use Rattle.pieces.proofs.entry_here.Reads as entry-here-reads
 
 abbrev Inv-loop : tie.InvT-loop
 Inv-loop table first count records₀ from line₀ at₀ left₀ entries₀ i₀ records line at left entries i =
@@ -24,8 +24,8 @@ abbrev μ-loop : tie.MeasureT-loop
 loop-holds : tie.Need-loop-holds Inv-loop μ-loop
 loop-holds c = placing-start _ _ _ _ _ (c .before .before .pre .1)
 
-read-entry-requires : tie.Need-read-entry-requires Inv-loop μ-loop
-read-entry-requires c κs = search needs
+entry-here-requires : tie.Need-entry-here-requires Inv-loop μ-loop
+entry-here-requires c κs = search needs
 
 enum-told : tie.Need-enum-told Inv-loop μ-loop
 enum-told c = search needs
@@ -34,7 +34,7 @@ same-length : tie.Need-same-length Inv-loop μ-loop
 same-length c = c .before .before .before .before .loop .inv .same
 
 returns : tie.Need-returns Inv-loop μ-loop
-returns c = (ends-out (c .before .before .before .before .loop .inv .walks) (omega arith) (sym (c .before .before .read-entry .ensures) ∙ c .enum-told .given .1), stays-out (c .before .before .before .before .loop .inv) (omega arith) (sym (c .before .before .read-entry .ensures) ∙ c .enum-told .given .1))
+returns c = (ends-out (c .before .before .before .before .loop .inv .walks) (omega arith) (sym (c .before .before .entry-here .ensures) ∙ c .enum-told .given .1), stays-out (c .before .before .before .before .loop .inv) (omega arith) (sym (c .before .before .entry-here .ensures) ∙ c .enum-told .given .1))
 
 enum-told-2 : tie.Need-enum-told-2 Inv-loop μ-loop
 enum-told-2 c = search needs
@@ -43,7 +43,7 @@ same-length-2 : tie.Need-same-length-2 Inv-loop μ-loop
 same-length-2 c = c .before .before .before .before .loop .inv .same
 
 returns-2 : tie.Need-returns-2 Inv-loop μ-loop
-returns-2 c = (ends-stop (c .before .before .before .before .loop .inv .walks) (omega arith) (sym (c .before .before .read-entry .ensures) ∙ c .enum-told2 .given .1), stays-stop (c .before .before .before .before .loop .inv) (omega arith) (sym (c .before .before .read-entry .ensures) ∙ c .enum-told2 .given .1))
+returns-2 c = (ends-stop (c .before .before .before .before .loop .inv .walks) (omega arith) (sym (c .before .before .entry-here .ensures) ∙ c .enum-told2 .given .1), stays-stop (c .before .before .before .before .loop .inv) (omega arith) (sym (c .before .before .entry-here .ensures) ∙ c .enum-told2 .given .1))
 
 enum-known-span : tie.Need-enum-known-span Inv-loop μ-loop
 enum-known-span c = search needs
@@ -52,7 +52,7 @@ same-length-3 : tie.Need-same-length-3 Inv-loop μ-loop
 same-length-3 c = c .before .before .before .before .before .before .loop .inv .same
 
 returns-3 : tie.Need-returns-3 Inv-loop μ-loop
-returns-3 c = (ends-cut _ (c .before .before .before .before .before .before .loop .inv .walks) (omega arith) (sym (c .before .before .before .before .read-entry .ensures) ∙ c .before .before .span .given .1) (c .if1 .taken), stays-cut (c .before .before .before .before .before .before .loop .inv) _ (omega arith) (sym (c .before .before .before .before .read-entry .ensures) ∙ c .before .before .span .given .1) (c .if1 .taken))
+returns-3 c = (ends-cut _ (c .before .before .before .before .before .before .loop .inv .walks) (omega arith) (sym (c .before .before .before .before .entry-here .ensures) ∙ c .before .before .span .given .1) (c .if1 .taken), stays-cut (c .before .before .before .before .before .before .loop .inv) _ (omega arith) (sym (c .before .before .before .before .entry-here .ensures) ∙ c .before .before .span .given .1) (c .if1 .taken))
 
 mul-fill : tie.Need-mul-fill Inv-loop μ-loop
 mul-fill c = let z = c .before .before .before .before .before .before .before .before .before .loop .inv .room in omega (arith, z)
@@ -64,7 +64,7 @@ same-length-4 : tie.Need-same-length-4 Inv-loop μ-loop
 same-length-4 c = c .before .before .fill .kept .0 ∙ c .before .before .before .before .before .before .before .before .before .before .before .before .loop .inv .same
 
 returns-4 : tie.Need-returns-4 Inv-loop μ-loop
-returns-4 c = (ends-past _ (c .before .before .before .before .before .before .before .before .before .before .before .before .loop .inv .walks) (omega arith) (sym (c .before .before .before .before .before .before .before .before .before .before .read-entry .ensures) ∙ c .before .before .before .before .before .before .before .before .span .given .1) (c .before .before .before .before .before .before .if1 .left) (c .before .before .before .before .if2 .taken), fills-past (c .before .before .before .before .before .before .before .before .before .before .before .before .loop .inv) _ (omega arith) (sym (c .before .before .before .before .before .before .before .before .before .before .read-entry .ensures) ∙ c .before .before .before .before .before .before .before .before .span .given .1) (c .before .before .before .before .before .before .if1 .left) (c .before .before .before .before .if2 .taken) (c .before .before .fill .ensures))
+returns-4 c = (ends-past _ (c .before .before .before .before .before .before .before .before .before .before .before .before .loop .inv .walks) (omega arith) (sym (c .before .before .before .before .before .before .before .before .before .before .entry-here .ensures) ∙ c .before .before .before .before .before .before .before .before .span .given .1) (c .before .before .before .before .before .before .if1 .left) (c .before .before .before .before .if2 .taken), fills-past (c .before .before .before .before .before .before .before .before .before .before .before .before .loop .inv) _ (omega arith) (sym (c .before .before .before .before .before .before .before .before .before .before .entry-here .ensures) ∙ c .before .before .before .before .before .before .before .before .span .given .1) (c .before .before .before .before .before .before .if1 .left) (c .before .before .before .before .if2 .taken) (c .before .before .fill .ensures))
 
 mul-fill-2 : tie.Need-mul-fill-2 Inv-loop μ-loop
 mul-fill-2 c = let z = c .before .before .before .before .before .before .before .before .before .loop .inv .room in omega (arith, z)
@@ -79,10 +79,10 @@ add-entries : tie.Need-add-entries Inv-loop μ-loop
 add-entries c = let z = c .before .before .before .before .before .before .before .before .before .before .before .before .loop .inv .walks .few in omega (arith, z)
 
 loop-less : tie.Need-loop-less Inv-loop μ-loop
-loop-less c = let z = entry-places _ _ _ _ (sym (c .before .before .before .before .before .before .before .before .before .before .read-entry .ensures) ∙ c .before .before .before .before .before .before .before .before .span .given .1) in omega (arith, z)
+loop-less c = let z = entry-places _ _ _ _ (sym (c .before .before .before .before .before .before .before .before .before .before .entry-here .ensures) ∙ c .before .before .before .before .before .before .before .before .span .given .1) in omega (arith, z)
 
 loop-again : tie.Need-loop-again Inv-loop μ-loop
-loop-again c = places-on (c .before .before .before .before .before .before .before .before .before .before .before .before .loop .inv) _ (omega arith) (sym (c .before .before .before .before .before .before .before .before .before .before .read-entry .ensures) ∙ c .before .before .before .before .before .before .before .before .span .given .1) (c .before .before .before .before .before .before .if1 .left) (c .before .before .before .before .if2 .left) (c .before .before .fill2 .ensures) (c .before .before .fill2 .kept .0)
+loop-again c = places-on (c .before .before .before .before .before .before .before .before .before .before .before .before .loop .inv) _ (omega arith) (sym (c .before .before .before .before .before .before .before .before .before .before .entry-here .ensures) ∙ c .before .before .before .before .before .before .before .before .span .given .1) (c .before .before .before .before .before .before .if1 .left) (c .before .before .before .before .if2 .left) (c .before .before .fill2 .ensures) (c .before .before .fill2 .kept .0)
 
 same-length-5 : tie.Need-same-length-5 Inv-loop μ-loop
 same-length-5 c = c .before .loop .inv .same
@@ -97,7 +97,7 @@ place-row-spec =
     Inv-loop
     μ-loop
     loop-holds
-    read-entry-requires
+    entry-here-requires
     enum-told
     same-length
     returns

@@ -7,44 +7,44 @@ use lib.ListN.{length}
 use Rattle.lineentry.proofs.Entries.{entry-places, refused-inside}
 use Rattle.sources.specs.Marks.{marks}
 use Rattle.salvage.proofs.Salvages.{entry-most}
-use Rattle.sources.proofs.Long.{entry-long}
+use Rattle.sources.proofs.Turning.{given, stopped, refused}
 use Rattle.sources.proofs.Going.{Going, going-start, ends-stop, ends-refused, ends-all, goes-on}
 use borrow.Author.Needs.{needs}
 use Rattle.sources.proofs.walk_marks.Statement.{statement}
 use Rattle.sources.proofs.walk_marks.Tie as tie
 use Rattle.sources.proofs.walk_marks.Reads as reads
 use Rattle.sources.proofs.walk_marks.Lts as lts
-use Rattle.sources.proofs.entry_here.Reads as entry-here-reads
 use Rattle.sources.proofs.answer.Reads as answer-reads
 use Rattle.sources.proofs.clear_from.Reads as clear-from-reads
-use Rattle.sources.proofs.count_more.Reads as count-more-reads
 use Rattle.sources.proofs.fill_up.Reads as fill-up-reads
-use Rattle.sources.proofs.none.Reads as none-reads
+use Rattle.sources.proofs.have.Reads as have-reads
+use Rattle.sources.proofs.lack_more.Reads as lack-more-reads
+use Rattle.sources.proofs.nothing.Reads as nothing-reads
 use Rattle.sources.proofs.refuse.Reads as refuse-reads
 use Rattle.sources.proofs.smaller.Reads as smaller-reads
-use Rattle.sources.proofs.source_of.Reads as source-of-reads
+use Rattle.sources.proofs.turn_here.Reads as turn-here-reads
 
 abbrev Inv-loop : tie.InvT-loop
-Inv-loop table first count bytes₀ total counts₀ line₀ at₀ i₀ bytes counts line at i =
-    Going table count (length bytes₀) (marks count table first 0 count) bytes counts line at i
+Inv-loop table first count bytes₀ total lacks₀ line₀ at₀ i₀ bytes lacks line at i =
+    Going table count (length bytes₀) (marks count table first 0 count) bytes lacks line at i
 
 abbrev μ-loop : tie.MeasureT-loop
-μ-loop table first count bytes₀ total counts₀ line₀ at₀ i₀ bytes counts line at i = count - i
+μ-loop table first count bytes₀ total lacks₀ line₀ at₀ i₀ bytes lacks line at i = count - i
 
-none-requires : tie.Need-none-requires Inv-loop μ-loop
-none-requires c κs = search needs
+nothing-requires : tie.Need-nothing-requires Inv-loop μ-loop
+nothing-requires c κs = search needs
 
 loop-holds : tie.Need-loop-holds Inv-loop μ-loop
-loop-holds c = going-start _ _ _ _ _ (c .before .before .before .pre .1) (c .none .ensures)
+loop-holds c = going-start _ _ _ _ _ (c .before .before .before .pre .1) (c .nothing .ensures)
 
-entry-here-requires : tie.Need-entry-here-requires Inv-loop μ-loop
-entry-here-requires c κs = search needs
+turn-here-requires : tie.Need-turn-here-requires Inv-loop μ-loop
+turn-here-requires c κs = search needs
 
 enum-told : tie.Need-enum-told Inv-loop μ-loop
 enum-told c = search needs
 
 cast-refuse : tie.Need-cast-refuse Inv-loop μ-loop
-cast-refuse c = omega (arith, refused-inside _ _ _ (sym (c .before .before .before .entry-here .ensures) ∙ c .before .enum-told .given .1))
+cast-refuse c = omega (arith, refused-inside _ _ _ (refused _ _ _ (sym (c .before .enum-told .given .1) ∙ c .before .before .before .turn-here .ensures)))
 
 refuse-requires : tie.Need-refuse-requires Inv-loop μ-loop
 refuse-requires c κs = search needs
@@ -53,13 +53,19 @@ same-length : tie.Need-same-length Inv-loop μ-loop
 same-length c = search needs
 
 returns : tie.Need-returns Inv-loop μ-loop
-returns c = ends-refused (c .before .before .before .before .before .before .before .before .loop .inv) (omega arith) (sym (c .before .before .before .before .before .before .entry-here .ensures) ∙ c .before .before .before .before .enum-told .given .1) (c .before .before .refuse .ensures)
+returns c = ends-refused (c .before .before .before .before .before .before .before .before .loop .inv) (omega arith) (refused _ _ _ (sym (c .before .before .before .before .enum-told .given .1) ∙ c .before .before .before .before .before .before .turn-here .ensures)) (c .before .before .refuse .ensures)
 
 enum-told-2 : tie.Need-enum-told-2 Inv-loop μ-loop
 enum-told-2 c = search needs
 
 clear-from-requires : tie.Need-clear-from-requires Inv-loop μ-loop
 clear-from-requires c κs = search needs
+
+cast-have : tie.Need-cast-have Inv-loop μ-loop
+cast-have c = omega (arith, c .before .before .before .before .before .before .before .before .loop .inv .upto, c .before .before .before .before .before .before .before .before .before .before .before .before .fits .count)
+
+have-requires : tie.Need-have-requires Inv-loop μ-loop
+have-requires c κs = c .before .before .before .before .before .before .before .before .loop .inv .few
 
 answer-requires : tie.Need-answer-requires Inv-loop μ-loop
 answer-requires c κs = search needs
@@ -68,13 +74,10 @@ same-length-2 : tie.Need-same-length-2 Inv-loop μ-loop
 same-length-2 c = search needs
 
 returns-2 : tie.Need-returns-2 Inv-loop μ-loop
-returns-2 c = ends-stop (c .before .before .before .before .before .before .before .before .before .loop .inv) (omega arith) (sym (c .before .before .before .before .before .before .before .entry-here .ensures) ∙ c .before .before .before .before .before .enum-told2 .given .1) (c .before .before .before .clear-from .ensures) (c .answer .ensures)
+returns-2 c = ends-stop (c .before .before .before .before .before .before .before .before .before .before .loop .inv) (omega arith) (stopped _ _ _ (sym (c .before .before .before .before .before .before .enum-told2 .given .1) ∙ c .before .before .before .before .before .before .before .before .turn-here .ensures)) (c .before .before .before .before .clear-from .ensures) (c .before .have .ensures) (c .answer .ensures)
 
-enum-known-span : tie.Need-enum-known-span Inv-loop μ-loop
-enum-known-span c = search needs
-
-source-of-requires : tie.Need-source-of-requires Inv-loop μ-loop
-source-of-requires c κs = entry-long _ _ _ _ (sym (c .before .before .before .before .entry-here .ensures) ∙ c .before .before .span .given .1)
+enum-known-mark : tie.Need-enum-known-mark Inv-loop μ-loop
+enum-known-mark c = search needs
 
 sub-smaller : tie.Need-sub-smaller Inv-loop μ-loop
 sub-smaller c = search needs
@@ -84,28 +87,36 @@ smaller-requires c κs = search needs
 
 fill-up-requires : tie.Need-fill-up-requires Inv-loop μ-loop
 fill-up-requires c κs =
-    let most = entry-most _ _ _ _ (sym (c .before .before .before .before .before .before .before .entry-here .ensures) ∙ c .before .before .before .before .before .span .given .1) in
-    (search needs, omega (arith, most, c .before .smaller .ensures .0))
+    let taken = given _ _ _ _ (sym (c .before .before .before .mark .given .1) ∙ c .before .before .before .before .before .turn-here .ensures) in
+    (search needs, omega (arith, entry-most _ _ _ _ (taken .stands), taken .instructions-same, c .before .smaller .ensures .0))
 
-cast-count-more : tie.Need-cast-count-more Inv-loop μ-loop
-cast-count-more c = omega (arith, c .before .before .before .before .smaller .ensures .1, c .before .before .before .before .before .before .before .before .before .before .before .before .before .before .before .before .fits .count)
+cast-lack-more : tie.Need-cast-lack-more Inv-loop μ-loop
+cast-lack-more c = omega (arith, c .before .before .before .before .smaller .ensures .1, c .before .before .before .before .before .before .before .before .before .before .before .before .before .before .fits .count)
 
-count-more-requires : tie.Need-count-more-requires Inv-loop μ-loop
-count-more-requires c κs = (omega (arith, c .before .before .before .before .smaller .ensures .1, c .before .before .before .before .before .before .before .before .before .before .before .before .loop .inv .upto, c .before .before .before .before .before .before .before .before .before .before .before .before .before .before .before .before .fits .count), c .before .before .before .before .before .before .before .before .before .before .before .before .loop .inv .few-entries, c .before .before .before .before .before .before .before .before .before .before .before .before .loop .inv .few-lines, c .before .before .before .before .before .before .before .before .before .before .before .before .loop .inv .few-columns, c .before .before .before .before .before .before .before .before .before .before .before .before .loop .inv .few-sure)
+lack-more-requires : tie.Need-lack-more-requires Inv-loop μ-loop
+lack-more-requires c κs = (omega (arith, c .before .before .before .before .smaller .ensures .1, c .before .before .before .before .before .before .before .before .before .before .loop .inv .upto, c .before .before .before .before .before .before .before .before .before .before .before .before .before .before .fits .count), c .before .before .before .before .before .before .before .before .before .before .loop .inv .few)
 
 add-i : tie.Need-add-i Inv-loop μ-loop
-add-i c = omega (arith, c .before .before .before .before .before .smaller .ensures .1, c .before .before .before .before .before .before .before .before .before .before .before .before .before .loop .inv .upto, c .before .before .before .before .before .before .before .before .before .before .before .before .before .before .before .before .before .fits .count)
+add-i c = omega (arith, c .before .before .before .before .before .smaller .ensures .1, c .before .before .before .before .before .before .before .before .before .before .before .loop .inv .upto, c .before .before .before .before .before .before .before .before .before .before .before .before .before .before .before .fits .count)
 
 loop-less : tie.Need-loop-less Inv-loop μ-loop
-loop-less c = let z = entry-places _ _ _ _ (sym (c .before .before .before .before .before .before .before .before .before .before .before .entry-here .ensures) ∙ c .before .before .before .before .before .before .before .before .before .span .given .1) in omega (arith, z, c .before .before .before .before .before .smaller .ensures .0)
+loop-less c =
+    let taken = given _ _ _ _ (sym (c .before .before .before .before .before .before .before .mark .given .1) ∙ c .before .before .before .before .before .before .before .before .before .turn-here .ensures) in
+    omega (arith, entry-places _ _ _ _ (taken .stands), taken .instructions-same, c .before .before .before .before .before .smaller .ensures .0)
 
 loop-again : tie.Need-loop-again Inv-loop μ-loop
 loop-again c =
-    let most = entry-most _ _ _ _ (sym (c .before .before .before .before .before .before .before .before .before .before .before .entry-here .ensures) ∙ c .before .before .before .before .before .before .before .before .before .span .given .1) in
-    goes-on (c .before .before .before .before .before .before .before .before .before .before .before .before .before .loop .inv) _ _ _ _ _ (omega arith) (sym (c .before .before .before .before .before .before .before .before .before .before .before .entry-here .ensures) ∙ c .before .before .before .before .before .before .before .before .before .span .given .1) (c .before .before .before .before .before .smaller .ensures .0) (c .before .before .before .before .before .before .source-of .ensures) (omega (arith, most, c .before .before .before .before .before .smaller .ensures .0)) (c .before .before .before .fill-up .ensures) (c .count-more .ensures)
+    let taken = given _ _ _ _ (sym (c .before .before .before .before .before .before .before .mark .given .1) ∙ c .before .before .before .before .before .before .before .before .before .turn-here .ensures) in
+    goes-on (c .before .before .before .before .before .before .before .before .before .before .before .loop .inv) _ _ _ _ (omega arith) taken (c .before .before .before .before .before .smaller .ensures .0) (omega (arith, entry-most _ _ _ _ (taken .stands), taken .instructions-same, c .before .before .before .before .before .smaller .ensures .0)) (c .before .before .before .fill-up .ensures) (c .lack-more .ensures)
 
 clear-from-requires-2 : tie.Need-clear-from-requires-2 Inv-loop μ-loop
 clear-from-requires-2 c κs = search needs
+
+cast-have-2 : tie.Need-cast-have-2 Inv-loop μ-loop
+cast-have-2 c = omega (arith, c .before .before .before .before .before .loop .inv .upto, c .before .before .before .before .before .before .before .before .before .fits .count)
+
+have-requires-2 : tie.Need-have-requires-2 Inv-loop μ-loop
+have-requires-2 c κs = c .before .before .before .before .before .loop .inv .few
 
 answer-requires-2 : tie.Need-answer-requires-2 Inv-loop μ-loop
 answer-requires-2 c κs = search needs
@@ -114,7 +125,7 @@ same-length-3 : tie.Need-same-length-3 Inv-loop μ-loop
 same-length-3 c = search needs
 
 returns-3 : tie.Need-returns-3 Inv-loop μ-loop
-returns-3 c = ends-all (c .before .before .before .before .before .before .loop .inv) (omega arith) (c .before .before .before .clear-from2 .ensures) (c .answer2 .ensures)
+returns-3 c = ends-all (c .before .before .before .before .before .before .before .loop .inv) (omega arith) (c .before .before .before .before .clear-from2 .ensures) (c .before .have2 .ensures) (c .answer2 .ensures)
 
 pub walk-marks-spec : {M : Type 1} → statement M
 walk-marks-spec =
@@ -122,9 +133,9 @@ walk-marks-spec =
     (tie.spec
     Inv-loop
     μ-loop
-    none-requires
+    nothing-requires
     loop-holds
-    entry-here-requires
+    turn-here-requires
     enum-told
     cast-refuse
     refuse-requires
@@ -132,20 +143,23 @@ walk-marks-spec =
     returns
     enum-told-2
     clear-from-requires
+    cast-have
+    have-requires
     answer-requires
     same-length-2
     returns-2
-    enum-known-span
-    source-of-requires
+    enum-known-mark
     sub-smaller
     smaller-requires
     fill-up-requires
-    cast-count-more
-    count-more-requires
+    cast-lack-more
+    lack-more-requires
     add-i
     loop-less
     loop-again
     clear-from-requires-2
+    cast-have-2
+    have-requires-2
     answer-requires-2
     same-length-3
     returns-3)
