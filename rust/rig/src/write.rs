@@ -259,7 +259,7 @@ pub mod carried_side {
         let [nodes, entries, _] = reading.stores.each_ref().map(|store| store.cells());
         let mut changed = ask.clone();
         for code in nodes.chunks(NODE_WIDTH).filter(|node| node[0] == u32::from(b'c')) {
-            let bytes = &nodes[5 * entries[2 * code[3] as usize] as usize..][..5];
+            let bytes = &nodes[NODE_WIDTH * entries[2 * code[3] as usize] as usize..][..NODE_WIDTH];
             let span = bytes[1] as usize..(bytes[1] + bytes[2]) as usize;
             for unit in changed.input[span].chunks_mut(2).filter(|unit| !is_kept(unit)) {
                 unit[0] = kept[usize::from(unit[0]) % kept.len()];

@@ -1,6 +1,6 @@
 //! A writing by the port: input and stores as it is lent them, the answer, and the output it was lent.
 use crate::lent::{Lent, Part};
-use crate::reading::Reading;
+use crate::reading::{NODE_WIDTH, Reading};
 use crate::text::{hex, numbers};
 use crate::write_model::{Refused, Store};
 use sillgarland_sys::{self as sys, Written, refusals};
@@ -23,7 +23,7 @@ impl Source {
     pub fn of_reading(input: &[u8], reading: &Reading) -> Self {
         let used = [reading.answer.nodes, reading.answer.entries];
         let [nodes, entries, _] = reading.stores.each_ref().map(|store| store.cells());
-        let (nodes, entries) = (&nodes[..5 * used[0] as usize], &entries[..2 * used[1] as usize]);
+        let (nodes, entries) = (&nodes[..NODE_WIDTH * used[0] as usize], &entries[..2 * used[1] as usize]);
         Self::new(&Store { input, nodes, entries, used })
     }
 
