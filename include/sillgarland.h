@@ -16,8 +16,8 @@
  *   and so is every element of every store lent for writing, but for the state of a line table by piece, which
  *   keeps the refusal.
  * - A truth is 0 or 1. A field named pad is 0.
- * - The functions below need less than 1 KiB of stack, those of settings files less than 4 KiB; of sill_read and sill_write see
- *   there.
+ * - The functions below need less than 1 KiB of stack, those of settings files less than 4 KiB; of sill_read, sill_write and the
+ *   moves of golden files see there.
  */
 #ifndef SILLGARLAND_H
 #define SILLGARLAND_H
@@ -460,6 +460,32 @@ sill_span_t sill_span(const uint8_t *input, size_t input_len, const uint32_t *no
 sill_located_t sill_locate_node(const uint8_t *input, size_t input_len, const uint32_t *nodes, size_t nodes_len,
                                 uint32_t used, uint32_t node, int32_t first_line, uint32_t count, uint32_t *records,
                                 size_t records_len);
+
+/* ---- Golden files. The old form is two values back to back, code then expected result, with nothing after. The new form has the
+   tagged fields of settings files: edition (tag 1, the one byte 1), code (tag 2), result (tag 3), exactly these in that order. Its
+   first byte, 1, begins no value, so that it tells the forms apart. */
+
+typedef struct {
+    uint32_t refusal; /* of sill_golden_from_fields first: a fault of the file, as of settings files; then 23 at 0: other fields, or
+                         another edition. Of both: those of sill_read, of the code, then of the result, placed from the file's start (14
+                         at 0); 7 at the first value's header: it is no code; 25 at the first byte behind a value, in fields behind
+                         the code's first. Of sill_golden_to_fields then 26 at a value above 65,535 bytes, the code first. Then 17: no
+                         room, place is out_len, which counts as at most 4,294,967,295 */
+    uint32_t place;
+    uint32_t written; /* how many bytes */
+} sill_moved_t;
+
+/* The golden plain, which has the old form, in fields. Both values are read before anything is written. nodes, entries and slots are
+ * working room as in sill_read: each value has all of it, and it is zero afterwards in every case; nesting, and the stack that it
+ * needs, as there. The new form is ten bytes longer than the old. */
+sill_moved_t sill_golden_to_fields(const uint8_t *plain, size_t plain_len, uint32_t *nodes, size_t nodes_len, uint32_t *entries,
+                                   size_t entries_len, uint32_t *slots, size_t slots_len, uint32_t nesting, uint8_t *out,
+                                   size_t out_len);
+
+/* The golden fields, which has the new form, in the old. What either move accepts, the other gives back byte for byte. */
+sill_moved_t sill_golden_from_fields(const uint8_t *fields, size_t fields_len, uint32_t *nodes, size_t nodes_len,
+                                     uint32_t *entries, size_t entries_len, uint32_t *slots, size_t slots_len, uint32_t nesting,
+                                     uint8_t *out, size_t out_len);
 
 #ifdef __cplusplus
 }

@@ -8,6 +8,7 @@ package reads them through the proved functions of libsillgarland; a line table 
 """
 
 from ._check import Checked, NotWhole, check
+from ._forms import golden_from_fields, golden_to_fields
 from ._golden import Code, Golden, Split, Value, loads, read
 from ._refused import Refused, name_of
 from ._tables import Handler, Location, Locations, Salvaged, Sources, handlers, locations, positions, salvage, sources
@@ -17,5 +18,5 @@ __version__ = "0.1.0"
 
 __all__ = [
     "Checked", "Code", "Golden", "Handler", "Location", "Locations", "NotWhole", "Refused", "Salvaged", "Sources", "Split", "Totals",
-    "Value", "check", "handlers", "loads", "locations", "name_of", "positions", "read", "salvage", "sources", "totals",
+    "Value", "check", "golden_from_fields", "golden_to_fields", "handlers", "loads", "locations", "name_of", "positions", "read", "salvage", "sources", "totals",
 ]

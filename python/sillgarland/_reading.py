@@ -12,6 +12,7 @@ Buffer = Union[bytes, bytearray, memoryview]
 
 NODE = 6  # numbers a node: letter, place, size, first entry, count, end
 ENTRY = 2  # numbers an entry: node, next entry
+HEADERS = 10  # bytes of a golden in fields beside its two values
 _NUMBER = 4  # bytes a number
 _GROWTH = 4
 _LEADS = {**dict.fromkeys("sutaA", 5), "z": 2, "Z": 2}  # bytes from the header to the place, where they are not one
@@ -125,8 +126,46 @@ def read_one(data: bytes, start: int, room: int, nesting: int = lib.MOST_NESTING
         room = min(enough, _GROWTH * room)
 
 
+def moved(data: bytes, move: Any) -> Union[bytes, Refused]:
+    """A golden in its other form, or why it has none; each of its values has all the room."""
+    enough = min(lib.MOST_RECORDS, len(data))
+    room, out = min(len(data) // 8 + 16, enough), ctypes.create_string_buffer(len(data) + HEADERS)
+    while True:
+        _stores.lend(room)
+        answer = move(
+            address_of(data), len(data), _stores.nodes, NODE * room, _stores.entries, ENTRY * room, _stores.slots, room,
+            lib.MOST_NESTING, out, len(data) + HEADERS,
+        )
+        if not answer.refusal:
+            return out.raw[: answer.written]
+        if answer.refusal not in (11, 12, 13) or room == enough:
+            refused = refusal_of(answer, 0)
+            assert refused is not None
+            return refused
+        room = min(enough, _GROWTH * room)
+
+
+def is_in_fields(data: bytes) -> bool:
+    """Whether a golden has the new form: its first byte begins no value."""
+    return data[:1] == b"\x01"
+
+
+def read_fields(data: bytes) -> Tuple[List[Reading], Optional[Refused]]:
+    """Code and result of a golden in fields; where it is refused, neither."""
+    plain = moved(data, lib.sill_golden_from_fields)
+    if isinstance(plain, Refused):
+        return [], plain
+    code = read_one(data, 7, len(data) // 8 + 16)
+    assert isinstance(code, Reading)
+    result = read_one(data, code.end + 3, len(data) // 8 + 16)
+    assert isinstance(result, Reading)
+    return [code, result], None
+
+
 def read_values(data: bytes) -> Tuple[List[Reading], Optional[Refused]]:
-    """All values back to back, and why the bytes behind the last are none, if there are such."""
+    """All values of a file, back to back or in fields, and why the bytes behind the last are none, if there are such."""
+    if is_in_fields(data):
+        return read_fields(data)
     readings: List[Reading] = []
     start, room = 0, len(data) // 8 + 16
     while True:

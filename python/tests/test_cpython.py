@@ -74,8 +74,39 @@ def differences(path):
     return len(pairs), found + [f"{path}: positions of {code.co_qualname}" for code in apart]
 
 
+def field(tag, contents):
+    return bytes([tag]) + len(contents).to_bytes(2, "little") + contents
+
+
+def fields_of(data):
+    """Tags and contents, by CPython alone."""
+    found = []
+    while data:
+        size = int.from_bytes(data[1:3], "little")
+        found.append((data[0], data[3 : 3 + size]))
+        data = data[3 + size :]
+    return found
+
+
 @unittest.skipUnless(_objects.OF_THIS_PYTHON, "these comparisons are with CPython 3.11")
 class BesideCPython(unittest.TestCase):
+    def test_cpython_makes_and_reads_both_forms_of_a_golden(self):
+        results = [None, (1, 2.5, "x"), {"A212": "ZeroDivisionError"}, [1 << 80] * 3, b"\0" * 60_000]
+        sources = ["A1 = 120", "def f(x):\n    return [x + y for y in range(x)]\nA = f(3)", "\n" * 300 + "B = 1 / 0"]
+        for source in sources:
+            for result in results:
+                code = compile(source, "sheet", "exec")
+                values = [marshal.dumps(code), marshal.dumps(result)]
+                plain = b"".join(values)
+                made = field(1, b"\x01") + field(2, values[0]) + field(3, values[1])
+                self.assertEqual(sillgarland.golden_to_fields(plain), made)
+                self.assertEqual(sillgarland.golden_from_fields(made), plain)
+                (_, edition), (_, first), (_, second) = fields_of(sillgarland.golden_to_fields(plain))
+                self.assertEqual((edition, marshal.loads(second)), (b"\x01", result))
+                self.assertTrue(same(marshal.loads(first), code))
+                self.assertTrue(same(sillgarland.read(made)[0].object(), code))
+                self.assertEqual(sillgarland.read(made)[1].object(), result)
+
     def test_every_module_of_the_standard_library(self):
         paths = modules()
         with multiprocessing.Pool() as pool:

@@ -46,6 +46,18 @@ class Reading(unittest.TestCase):
         self.assertEqual(bytes(read.bytes()), golden("rates"))
         self.assertEqual([value.place for value in sillgarland.read(b"NTF")], [1, 2, 3])
 
+    def test_both_forms_of_a_golden(self):
+        read = sillgarland.read(golden("in-fields"))
+        self.assertEqual([value.place for value in read], [8, 857])
+        self.assertEqual([len(list(value.code_objects())) for value in read], [4, 0])
+        self.assertEqual(sillgarland.golden_from_fields(golden("in-fields")), golden("fees"))
+        self.assertEqual(sillgarland.check(GOLDENS / "in-fields-cut.golden").verdict, "NOT WHOLE")
+        self.assertEqual(refused(sillgarland.golden_to_fields, b"N"), (1, "EofObject", 1))
+        self.assertEqual(refused(sillgarland.golden_to_fields, b"NN"), (7, "BadType", 0))
+        self.assertEqual(refused(sillgarland.golden_from_fields, b"\x01\x01\0\x02"), (23, "NoSuchField", 0))
+        self.assertEqual(refused(sillgarland.read, golden("in-fields")[:-1]), (2, "DataTooShort", 853))
+        self.assertEqual(refused(sillgarland.read, golden("in-fields") + b"\x04\0\0"), (23, "NoSuchField", 0))
+
     def test_many_small_values(self):
         self.assertEqual(len(sillgarland.read(b"N" * 20_000)), 20_000)
 
@@ -156,8 +168,9 @@ class Tables(unittest.TestCase):
 
     def test_check(self):
         verdicts = {path.stem: sillgarland.check(path).verdict for path in sorted(GOLDENS.glob("*.golden"))}
-        others = dict.fromkeys(["deep", "fees", "rates", "result", "shared"], "accepted")
-        self.assertEqual(verdicts, {"cut-line-table": "NOT WHOLE", "damaged-text": "refused", **others})
+        others = dict.fromkeys(["deep", "fees", "in-fields", "rates", "result", "shared"], "accepted")
+        cut = dict.fromkeys(["cut-line-table", "in-fields-cut"], "NOT WHOLE")
+        self.assertEqual(verdicts, {**cut, "damaged-text": "refused", **others})
         fees = sillgarland.check(GOLDENS / "fees.golden")
         self.assertEqual((fees.values, fees.code_objects, fees.instructions, fees.not_sure), (2, 4, 102, 8))
 
@@ -182,7 +195,7 @@ class Counting(unittest.TestCase):
     def test_totals(self):
         paths = sorted(GOLDENS.glob("*.golden"))
         whole = sillgarland.totals(paths)
-        self.assertEqual((whole.inputs, whole.accepted, whole.refused, whole.of(9)), (7, 6, 1, 1))
+        self.assertEqual((whole.inputs, whole.accepted, whole.refused, whole.of(9)), (9, 8, 1, 1))
         self.assertEqual(sillgarland.totals(paths[:3]) + sillgarland.totals(paths[3:]), whole)
         self.assertEqual(pickle.loads(pickle.dumps(whole)), whole)
         self.assertEqual(str(whole).count("\n"), 29)

@@ -398,6 +398,66 @@ static void test_settings(void)
     expect(saved.refusal == 23 && saved.place == 0, "a file without an edition");
 }
 
+/* A golden moved into fields and back, and refusals in document 02's order: two faults at a time, of which the first is told. */
+static sill_moved_t move_golden(int to_fields, const void *golden, size_t length, uint8_t *out, size_t out_len)
+{
+    uint32_t nodes[256], entries[64], slots[8];
+    memset(nodes, 7, sizeof nodes);
+    sill_moved_t moved =
+        to_fields ? sill_golden_to_fields((const uint8_t *)golden, length, nodes, LENGTH(nodes), entries, LENGTH(entries), slots,
+                                          LENGTH(slots), SILL_MOST_NESTING, out, out_len)
+                  : sill_golden_from_fields((const uint8_t *)golden, length, nodes, LENGTH(nodes), entries, LENGTH(entries), slots,
+                                            LENGTH(slots), SILL_MOST_NESTING, out, out_len);
+    expect(all_zero(nodes, LENGTH(nodes)) && all_zero(entries, LENGTH(entries)) && all_zero(slots, LENGTH(slots)),
+           "the stores are zero after a move");
+    return moved;
+}
+
+static void test_goldens(void)
+{
+    /* A code of nothing: five numbers, ten parts and the first line; then the expected result, none. */
+    uint8_t plain[80] = {'c'}, fields[90], back[80];
+    size_t at = 21;
+    const char *parts[] = {"s\0\0\0\0", ")\0", ")\0", ")\0", "s\0\0\0\0", "z\0", "z\0", "z\0", "\1\0\0\0", "s\0\0\0\0", "s\0\0\0\0"};
+    const size_t sizes[] = {5, 2, 2, 2, 5, 2, 2, 2, 4, 5, 5};
+    for (size_t i = 0; i < LENGTH(parts); i++) {
+        memcpy(plain + at, parts[i], sizes[i]);
+        at += sizes[i];
+    }
+    plain[at] = 'N';
+    size_t code = at, length = at + 1;
+    sill_moved_t moved = move_golden(1, plain, length, fields, sizeof fields);
+    expect(moved.refusal == 0 && moved.written == length + 10, "moved into fields");
+    expect(memcmp(fields, "\1\1\0\1\2", 5) == 0 && fields[5] == code && fields[6] == 0, "the edition, then the code's header");
+    expect(memcmp(fields + 7, plain, code) == 0 && memcmp(fields + 7 + code, "\3\1\0N\0", 5) == 0, "the values as they were");
+    moved = move_golden(0, fields, length + 10, back, sizeof back);
+    expect(moved.refusal == 0 && moved.written == length && memcmp(back, plain, length) == 0, "and back, byte for byte");
+    moved = move_golden(0, fields, length + 10, back, length - 1);
+    expect(moved.refusal == 17 && moved.place == length - 1 && back[0] == 0, "no room");
+
+    moved = move_golden(1, "N", 1, back, sizeof back);
+    expect(moved.refusal == 1 && moved.place == 1, "the second value is read before the first is found to be no code");
+    moved = move_golden(1, "NNN", 3, back, sizeof back);
+    expect(moved.refusal == 7 && moved.place == 0, "no code comes before trailing bytes");
+    plain[length] = 'N';
+    moved = move_golden(1, plain, length + 1, back, sizeof back);
+    expect(moved.refusal == 25 && moved.place == length, "trailing bytes");
+    fields[length + 10] = 4;
+    fields[length + 11] = fields[length + 12] = 0;
+    moved = move_golden(0, fields, length + 13, back, sizeof back);
+    expect(moved.refusal == 23 && moved.place == 0, "one field more");
+    fields[length + 10] = 2;
+    moved = move_golden(0, fields, length + 13, back, sizeof back);
+    expect(moved.refusal == 22 && moved.place == length + 10, "a repeated tag comes before");
+    moved = move_golden(0, fields, length + 9, back, sizeof back);
+    expect(moved.refusal == 2 && moved.place == 7 + code, "a cut field at its place");
+    fields[3] = 2;
+    moved = move_golden(0, fields, length + 10, back, sizeof back);
+    expect(moved.refusal == 23 && moved.place == 0, "another edition");
+    moved = move_golden(0, "\1\1\0\1\2\2\0NN\3\2\0NN", 14, back, sizeof back);
+    expect(moved.refusal == 7 && moved.place == 7, "no code, at its header in the field");
+}
+
 /* Document 01's table for three instructions, then for one; then a table cut inside its second entry. */
 static void test_salvage(void)
 {
@@ -539,6 +599,7 @@ int main(void)
     test_salvage();
     test_join();
     test_settings();
+    test_goldens();
     test_sources();
     test_starts();
     test_pieces();

@@ -241,6 +241,37 @@ static void hold_settings(const uint8_t *data, size_t len) {
     hold(s.refusal == 23 && !s.place, "an edition is saved twice");
 }
 
+/* A move of the input, as either form; what it accepts, the other move gives back. The stores are zero whatever it answers. */
+static sill_moved_t moved(int to_fields, const uint8_t *golden, size_t len, const size_t room[3], uint8_t *out, size_t out_len) {
+    uint32_t *nodes = lend_words(&nodes_a, room[0]), *entries = lend_words(&entries_a, room[1]), *slots = lend_words(&slots_a, room[2]);
+    sill_moved_t m =
+        to_fields ? sill_golden_to_fields(golden, len, nodes, room[0], entries, room[1], slots, room[2], NESTING, out, out_len)
+                  : sill_golden_from_fields(golden, len, nodes, room[0], entries, room[1], slots, room[2], NESTING, out, out_len);
+    hold(all_zero(nodes, 4 * room[0]) && all_zero(entries, 4 * room[1]) && all_zero(slots, 4 * room[2]), "working room is left");
+    hold(m.written <= out_len && all_zero(out + m.written, out_len - m.written), "a move is not zero past what was written");
+    hold(!m.refusal || (!m.written && (m.refusal == 17 || m.place <= len)), "a refused move");
+    return m;
+}
+
+static void hold_moves(const uint8_t *data, size_t len) {
+    const size_t room[3] = {8 * len, 2 * len, len};
+    for (int to_fields = 0; to_fields < 2; to_fields++) {
+        const uint8_t *golden = lend_bytes(&inputs, data, len);
+        uint8_t *out = lend_bytes(&outs, NULL, len + 10);
+        sill_moved_t m = moved(to_fields, golden, len, room, out, len + 10);
+        hold(m.refusal != 17, "there was room");
+        if (m.refusal) continue;
+        hold(to_fields ? m.written == len + 10 : m.written + 10 == len, "a golden in fields is ten bytes longer");
+        const uint8_t *other = lend_bytes(&outs2, out, m.written);
+        out = lend_bytes(&outs, NULL, len);
+        sill_moved_t b = moved(!to_fields, other, m.written, room, out, len);
+        hold(!b.refusal && b.written == len && !memcmp(out, data, len), "a golden does not come back");
+        out = lend_bytes(&outs, NULL, len - 1);
+        b = moved(!to_fields, other, m.written, room, out, len - 1);
+        hold(b.refusal == 17 && b.place == len - 1, "one byte short");
+    }
+}
+
 /* Entries that are read are written in no more bytes, and these read as the same entries; one entry or one byte short is 17. */
 static void hold_exceptions(const uint8_t *table, size_t len) {
     const uint8_t *at = lend_bytes(&inputs, table, len);
@@ -393,6 +424,7 @@ static void others(const uint8_t *data, size_t len) {
     hold_join(data, len, sum % 2 ? (int32_t)first : 1, sum % 300);
     hold_starts(data, len, sum % 1000);
     hold_settings(data, len);
+    hold_moves(data, len);
     hold_pieces(data, len, sum % 2 ? (int32_t)first : 1, sum % 300);
     hold_exceptions(data, len);
     hostile_exceptions(data, len);
@@ -420,7 +452,7 @@ int LLVMFuzzerTestOneInput(const uint8_t *data, size_t len) {
     static int made;
     static uint8_t longer[MOST + 8];
     if (!made++) {
-        inputs = arena_of(64 * MOST), nodes_a = arena_of(24 * MOST), entries_a = arena_of(8 * MOST), slots_a = arena_of(4 * MOST);
+        inputs = arena_of(64 * MOST), nodes_a = arena_of(32 * MOST), entries_a = arena_of(8 * MOST), slots_a = arena_of(4 * MOST);
         outs = arena_of(64 * MOST), outs2 = arena_of(64 * MOST), records_a = arena_of(16 * MOST);
         for (int i = 0; i < 5; i++) lists[i] = arena_of(4 * MOST);
     }

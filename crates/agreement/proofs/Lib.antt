@@ -30,6 +30,9 @@ pub mod Fields
 pub mod Soundness
 pub mod Readsteps
 pub mod Reader
+pub mod Readalone
+pub mod Goldenparts
+pub mod Goldens
 pub mod Leaf
 pub mod Output
 pub mod Outputtext

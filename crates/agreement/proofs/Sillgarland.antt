@@ -69,6 +69,26 @@ sill-save-edition-agrees κs a asked r r′ ws ws′ p p′ = (one (p .0) (p′ 
 pub sill-edition-agrees : Agree sillgarland.settingfiles.sill_edition.ended sillgarland.settingfiles.sill_edition.Reads.Asked sillgarland.settingfiles.sill_edition.Reads.Learnt
 sill-edition-agrees κs a asked r r′ ws ws′ p p′ = (one p p′, refl)
 
+pub sill-golden-to-fields-agrees :
+    Agree sillgarland.goldenfiles.sill_golden_to_fields.ended sillgarland.goldenfiles.sill_golden_to_fields.Reads.Asked sillgarland.goldenfiles.sill_golden_to_fields.Reads.Learnt
+sill-golden-to-fields-agrees κs a asked r r′ ws ws′ p p′ = (
+  one (p .numbers) (p′ .numbers),
+  λ i. (
+    tt,
+    (one (p .clear-nodes) (p′ .clear-nodes) i, (one (p .clear-entries) (p′ .clear-entries) i, (one (p .clear-slots) (p′ .clear-slots) i, (tt, (one (p .holds) (p′ .holds) i, tt))))),
+  ),
+)
+
+pub sill-golden-from-fields-agrees :
+    Agree sillgarland.goldenfiles.sill_golden_from_fields.ended sillgarland.goldenfiles.sill_golden_from_fields.Reads.Asked sillgarland.goldenfiles.sill_golden_from_fields.Reads.Learnt
+sill-golden-from-fields-agrees κs a asked r r′ ws ws′ p p′ = (
+  one (p .numbers) (p′ .numbers),
+  λ i. (
+    tt,
+    (one (p .clear-nodes) (p′ .clear-nodes) i, (one (p .clear-entries) (p′ .clear-entries) i, (one (p .clear-slots) (p′ .clear-slots) i, (tt, (one (p .holds) (p′ .holds) i, tt))))),
+  ),
+)
+
 pub sill-locate-begin-agrees : Agree sillgarland.piecewise.sill_locate_begin.ended sillgarland.piecewise.sill_locate_begin.Reads.Asked sillgarland.piecewise.sill_locate_begin.Reads.Learnt
 sill-locate-begin-agrees κs a asked r r′ ws ws′ p p′ = (one (p .answers) (p′ .answers), λ i. (tt, (tt, (one (p .states) (p′ .states) i, (one (p .fills) (p′ .fills) i, tt)))))
 

@@ -43,6 +43,8 @@ use Rattle.sillgarland.specs.Leaves.{leafStruct}
 use Rattle.sillgarland.specs.Locals.{splitStruct}
 use Rattle.sources.specs.Marks.{sources, counts, told}
 use Rattle.sources.proofs.Beside.{beside-located}
+use Rattle.readalone.specs.Alone.{lent}
+use Rattle.goldens.specs.Moving.{toFields, toPlain}
 use Rattle.sillgarland.specs.Values.{readStruct, ReadAs, wroteStruct, WroteAs}
 use Rattle.sillgarland.specs.Varints.{writtenAs, foundStruct}
 use Rattle.sillgarland.specs.declared.leaves.SillLeaf.{SillLeaf}
@@ -57,6 +59,7 @@ use Rattle.promises.proofs.Reading.{writtenBy}
 use Rattle.promises.proofs.LineEnds.{locate-ends, locations-end, salvage-ends, marks-in-table, sources-end}
 use Rattle.promises.proofs.Joins.{join-ends, line-ends}
 use Rattle.promises.proofs.Exceptions.{decoded-in-table, decoded-ends, encoded-in-table, encoded-ends}
+use Rattle.promises.proofs.Goldens.{to-fields-tabled, to-plain-tabled, move-ends}
 use Rattle.promises.proofs.Settings.{setting-ends, rewrite-ends, save-ends, edition-ends}
 use Rattle.promises.proofs.Piecewise.{pieced-ends}
 use Rattle.cuttings.proofs.Answered.{begin-ends, piece-ends, end-ends}
@@ -280,6 +283,26 @@ demand-1 =
             asks-nothing = λ κs a. tt;
             returns = λ M. sillgarland.settingfiles.sill_edition.Met.met;
             ends = λ c. let a = c .args in edition-ends (now (a .0)) (now (a .1 .0)) (c .result) (c .meets);
+          };
+      sill-golden-to-fields =
+          record {
+            asks-nothing = λ κs a. tt;
+            returns = λ M. sillgarland.goldenfiles.sill_golden_to_fields.Met.met;
+            ends =
+                λ c.
+                let a = c .args in
+                let R = lent (length (now (a .1 .0))) (length (now (a .1 .1 .0))) (length (now (a .1 .1 .1 .0))) (a .1 .1 .1 .1 .0) in
+                move-ends (toFields R (now (a .0))) (to-fields-tabled R (now (a .0))) (c .result) (now (a .1 .1 .1 .1 .1 .0)) _ (now (a .1 .0)) _ (now (a .1 .1 .0)) _ (now (a .1 .1 .1 .0)) _ (c .meets);
+          };
+      sill-golden-from-fields =
+          record {
+            asks-nothing = λ κs a. tt;
+            returns = λ M. sillgarland.goldenfiles.sill_golden_from_fields.Met.met;
+            ends =
+                λ c.
+                let a = c .args in
+                let R = lent (length (now (a .1 .0))) (length (now (a .1 .1 .0))) (length (now (a .1 .1 .1 .0))) (a .1 .1 .1 .1 .0) in
+                move-ends (toPlain R (now (a .0))) (to-plain-tabled R (now (a .0))) (c .result) (now (a .1 .1 .1 .1 .1 .0)) _ (now (a .1 .0)) _ (now (a .1 .1 .0)) _ (now (a .1 .1 .1 .0)) _ (c .meets);
           };
       sill-split =
           record {

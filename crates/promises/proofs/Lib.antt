@@ -6,6 +6,7 @@ pub mod Exceptions
 pub mod Joins
 pub mod Settings
 pub mod Spans
+pub mod Goldens
 pub mod Piecewise
 pub mod Nightly
 pub mod Demand1

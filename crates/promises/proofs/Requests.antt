@@ -11,6 +11,7 @@ use Rattle.alone.proofs.Promised.{spans-keep-their-promises}
 use Rattle.taggedfields.proofs.Promised.{fields-keep-their-promises}
 use Rattle.settings.proofs.Promised.{settings-keep-their-promises}
 use Rattle.editions.proofs.Promised.{editions-keep-their-promises}
+use Rattle.goldentrips.proofs.Promised.{goldens-keep-their-promises}
 use Rattle.sources.proofs.Beside.{beside-located}
 use Rattle.sources.proofs.Repaired.{repaired-told}
 use Rattle.promises.specs.Requests.{Requests}
@@ -30,6 +31,7 @@ requests-promised =
       tagged-fields = fields-keep-their-promises;
       settings = settings-keep-their-promises;
       editions = editions-keep-their-promises;
+      goldens = goldens-keep-their-promises;
       sources = beside-located;
       sources-repaired = repaired-told;
     }

@@ -30,7 +30,7 @@ use Rattle.sillgarland.specs.declared.settingfiles.SillEdition.{SillEdition}
 use Rattle.promises.specs.Demand1.{InTable, Ends, answers, refuses, Zero, SettingEnds, RewriteEnds, SaveEnds, EditionEnds}
 
 -- a fault's number is one of the table
-fault-in-table : (file : List ℕ) (x : ℕ × ℕ) → reading file .fault ≡ some x → InTable (x .0)
+pub fault-in-table : (file : List ℕ) (x : ℕ × ℕ) → reading file .fault ≡ some x → InTable (x .0)
 fault-in-table file x e = (fault-within file x e .0, omega (arith, fault-most file x e))
 
 archive-in-table : (archive : List ℕ) (x : ℕ × ℕ) → archiveOf archive .fault ≡ some x → InTable (x .0)

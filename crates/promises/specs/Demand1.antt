@@ -50,11 +50,13 @@ use Rattle.sillgarland.specs.Locals.{splitStruct}
 use Rattle.sillgarland.specs.Locations.{locatedStruct}
 use Rattle.sillgarland.specs.Salvage.{salvagedStruct}
 use Rattle.sillgarland.specs.Settingfiles.{settingStruct, rewrittenStruct, keptStruct, editionStruct}
+use Rattle.sillgarland.specs.Goldenfiles.{movedStruct}
 use Rattle.sillgarland.specs.Sources.{sourcedStruct}
 use Rattle.sillgarland.specs.Spans.{spanStruct}
 use Rattle.sillgarland.specs.Starts.{indexedStruct, startStruct}
 use Rattle.sillgarland.specs.Values.{readStruct, wroteStruct}
 use Rattle.sillgarland.specs.Varints.{writtenStruct, foundStruct}
+use Rattle.sillgarland.specs.declared.goldenfiles.SillMoved.{SillMoved}
 use Rattle.sillgarland.specs.declared.joins.SillJoined.{SillJoined}
 use Rattle.sillgarland.specs.declared.joins.SillLine.{SillLine}
 use Rattle.sillgarland.specs.declared.locations.SillLocated.{SillLocated}
@@ -141,6 +143,10 @@ abbrev pub EditionEnds : SillEdition → Type 0
 EditionEnds r =
     Ends r (λ (d : ℕ × ℕ). editionStruct (record { refusal = accepted; place = 0; start = d .0; size = d .1 })) (λ number place. editionStruct (archived.refusedWith number place)) Unit
 
+-- the end of a move of a golden file
+abbrev pub MoveEnds : SillMoved → Type 0 → Type 0
+MoveEnds r = Ends r (λ written. movedStruct (record { refusal = accepted; place = 0; written = written })) (λ number place. movedStruct (record { refusal = number; place = place; written = 0 }))
+
 -- Each export. Arguments and last contents are counted from the left: the third parameter is `.1 .1 .0`.
 pub record Demand1 : Type 2 where
   pub sill-read :
@@ -217,6 +223,16 @@ pub record Demand1 : Type 2 where
   pub sill-edition :
       EachCall sillgarland.settingfiles.sill_edition.ended sillgarland.settingfiles.sill_edition.Reads.Asked sillgarland.settingfiles.sill_edition.Reads.Learnt sillgarland.settingfiles.sill_edition.Statement.statement
       (λ c. EditionEnds (c .result))
+  pub sill-golden-to-fields :
+      EachCall sillgarland.goldenfiles.sill_golden_to_fields.ended sillgarland.goldenfiles.sill_golden_to_fields.Reads.Asked sillgarland.goldenfiles.sill_golden_to_fields.Reads.Learnt sillgarland.goldenfiles.sill_golden_to_fields.Statement.statement
+      (λ c. MoveEnds (c .result)
+      (Zero (now (c .args .1 .1 .1 .1 .1 .0)) (c .last .1 .1 .1 .1 .1 .0) × Zero (now (c .args .1 .0)) (c .last .1 .0) × Zero (now (c .args .1 .1 .0)) (c .last .1 .1 .0)
+      × Zero (now (c .args .1 .1 .1 .0)) (c .last .1 .1 .1 .0)))
+  pub sill-golden-from-fields :
+      EachCall sillgarland.goldenfiles.sill_golden_from_fields.ended sillgarland.goldenfiles.sill_golden_from_fields.Reads.Asked sillgarland.goldenfiles.sill_golden_from_fields.Reads.Learnt sillgarland.goldenfiles.sill_golden_from_fields.Statement.statement
+      (λ c. MoveEnds (c .result)
+      (Zero (now (c .args .1 .1 .1 .1 .1 .0)) (c .last .1 .1 .1 .1 .1 .0) × Zero (now (c .args .1 .0)) (c .last .1 .0) × Zero (now (c .args .1 .1 .0)) (c .last .1 .1 .0)
+      × Zero (now (c .args .1 .1 .1 .0)) (c .last .1 .1 .1 .0)))
   pub sill-split :
       EachCall sillgarland.locals.sill_split.ended sillgarland.locals.sill_split.Reads.Asked sillgarland.locals.sill_split.Reads.Learnt sillgarland.locals.sill_split.Statement.statement
       (λ c.

@@ -9,6 +9,7 @@ use Rattle.join.specs.Promised.{Promised as JoinPromised, LinePromised}
 use Rattle.taggedfields.specs.Promised.{Promised as FieldsPromised}
 use Rattle.settings.specs.Promised.{Promised as SettingsPromised}
 use Rattle.editions.specs.Promised.{Promised as EditionsPromised}
+use Rattle.goldentrips.specs.Promised.{Promised as GoldensPromised}
 use Rattle.sources.specs.Beside.{BesideLocated}
 use Rattle.sources.specs.Repaired.{Repaired}
 use Rattle.starts.specs.Promised.{Promised as StartsPromised}
@@ -39,6 +40,8 @@ pub record Requests : Type 0 where
   pub settings : SettingsPromised
   -- K8: "Each saved file is kept whole; rolling back to an edition gives exactly that file's fields."
   pub editions : EditionsPromised
+  -- K13: "Move old to new and back; the old bytes return exactly, since references never cross the two values."
+  pub goldens : GoldensPromised
   -- the bytes of `sill_sources` beside the places of `sill_locate`
   pub sources : BesideLocated
   -- and of a table that was repaired

@@ -12,3 +12,4 @@ pub mod Exceptions
 pub mod Starts
 pub mod Nightly
 pub mod Settingfiles
+pub mod Goldenfiles

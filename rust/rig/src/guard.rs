@@ -3,6 +3,7 @@
 use crate::exceptions::{self, Exceptions};
 use crate::join::{self, Joins};
 use crate::memory::{Mode, lend};
+use crate::moves::{self, Moves};
 use crate::pieces::{self, Pieces};
 use crate::read::Reads;
 use crate::salvage::{self, Salvages};
@@ -58,6 +59,11 @@ pub fn hold() -> bool {
             let answer = settings::by_the_model(&asked);
             last_asked(&SettingsFiles::row(&asked, &answer));
             tally.count("settings looked up, rewritten, saved and rolled back", held::<SettingsFiles>(&asked, &answer));
+        }
+        for asked in moves::random_asks(27, OF_EACH) {
+            let answer = moves::by_the_model(&asked);
+            last_asked(&Moves::row(&asked, &answer));
+            tally.count("golden files moved into fields and back", held::<Moves>(&asked, &answer));
         }
         for asked in exceptions::random_asks(25, OF_EACH) {
             let answer = exceptions::by_the_model(&asked);

@@ -6,7 +6,7 @@ use crate::subject::compare;
 use crate::values::{self, ROUNDS};
 use crate::varint::{self, Varints};
 use crate::write::{self, Writes};
-use crate::{exceptions, hostile, join, leaf, settings, sweep};
+use crate::{exceptions, hostile, join, leaf, moves, settings, sweep};
 use sillgarland_sys::refusals::MOST_NESTING;
 use std::ops::Range;
 use std::time::Instant;
@@ -54,5 +54,6 @@ fn hold_round(round: u64, made: &Made) -> bool {
         && exceptions::hold_round(9000 + round, 2_000_000)
         && join::hold_round(10_000 + round, 1_000_000)
         && settings::hold_round(11_000 + round, 1_000_000)
+        && moves::hold_round(13_000 + round, 600_000)
         && sweep::hold(7000 + round, || values::inputs_to_sweep(8000 + round, 1_000_000))
 }

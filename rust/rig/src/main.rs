@@ -22,6 +22,7 @@ mod localsplus;
 mod long;
 mod marshalled;
 mod memory;
+mod moves;
 mod nested;
 mod nulls;
 mod numbers;
@@ -67,6 +68,7 @@ use exceptions::Exceptions;
 use join::Joins;
 use linetable::LineTables;
 use localsplus::LocalNames;
+use moves::Moves;
 use options::{Options, Task, USAGE};
 use pieces::Pieces;
 use read::Reads;
@@ -117,6 +119,7 @@ fn run(options: Options) -> Result<bool, String> {
         Task::Exceptions => Ok(exceptions::hold(17, EXCEPTIONS)),
         Task::Joins => joins(&options),
         Task::Settings => Ok(settings::hold(20, SETTINGS)),
+        Task::Moves => Ok(moves::hold(21, MOVES)),
         Task::Sources => Ok(sources::hold(17, SOURCES)),
         Task::Spans => spans(),
         Task::Starts => Ok(starts::hold(19, STARTS)),
@@ -192,11 +195,14 @@ const EQUAL: usize = 400_000;
 /// How many random settings files, looked up, rewritten, saved and rolled back.
 const SETTINGS: usize = 1_000_000;
 
+/// How many random golden files, moved from one form into the other.
+const MOVES: usize = 600_000;
+
 /// How many random totals, counted, added and printed.
 const TOTALS: usize = 1_000_000;
 
 /// What documents 01 and 02 alone tell: the leaf question and writing on any stores, exception tables, joins, row starts,
-/// settings files, totals, equal values and equal bytes, and demand 3 at every room.
+/// settings files, golden files of both forms, totals, equal values and equal bytes, and demand 3 at every room.
 fn without_the_rust() -> Result<bool, String> {
     let found = corpus::inputs()?;
     Ok(all([
@@ -210,6 +216,7 @@ fn without_the_rust() -> Result<bool, String> {
         exceptions::hold(18, EXCEPTIONS),
         join::hold(19, JOINS),
         settings::hold(20, SETTINGS),
+        moves::hold(21, MOVES),
         totals::hold(19, TOTALS),
         equal::hold(20, EQUAL),
         sweep::hold(13, || values::inputs_to_sweep(14, 200_000).chain(found.iter().cloned())),
@@ -238,6 +245,7 @@ fn replay_answers() -> bool {
         replay::<Joins>("vectors"),
         replay::<Starts>("vectors"),
         replay::<SettingsFiles>("vectors"),
+        replay::<Moves>("vectors"),
         replay::<Pieces>("vectors"),
         replay::<NightlyTotals>("vectors"),
     ]);

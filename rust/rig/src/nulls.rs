@@ -1,11 +1,12 @@
 //! A null pointer with length 0 is an empty slice: every exported function, called so, answers as for no bytes and no room.
 use crate::tally::Tally;
 use sillgarland_sys::{
-    Edition, Exceptions, Found, Indexed, Joined, Leaf, Line, Located, Read, Rewritten, Salvaged, Saved, Setting,
+    Edition, Exceptions, Found, Indexed, Joined, Leaf, Line, Located, Moved, Read, Rewritten, Salvaged, Saved, Setting,
     Sourced, Span, Split, Start, Totalled, Written, refusals,
 };
 use sillgarland_sys::{sill_add_totals, sill_print_totals, sill_totals};
 use sillgarland_sys::{sill_edition, sill_rewrite_settings, sill_save_edition, sill_setting};
+use sillgarland_sys::{sill_golden_from_fields, sill_golden_to_fields};
 use sillgarland_sys::{sill_index_starts, sill_start_at, sill_starts_before};
 use sillgarland_sys::{sill_join, sill_line_after, sill_read_exceptions, sill_write_exceptions};
 use sillgarland_sys::{sill_leaf, sill_locate_node, sill_read, sill_salvage, sill_sources, sill_span, sill_write};
@@ -46,6 +47,12 @@ pub fn hold() -> bool {
         count(&mut tally, "sill_save_edition", sill_save_edition(n, 0, n, 0, m, 0), no_edition);
         let none_saved = Edition { refusal: refusals::NO_SUCH_FIELD, place: 0, start: 0, size: 0 };
         count(&mut tally, "sill_edition", sill_edition(n, 0, n, 0), none_saved);
+        let no_code = Moved { refusal: refusals::EOF_OBJECT, place: 0, written: 0 };
+        let to_fields = sill_golden_to_fields(n, 0, w, 0, w, 0, w, 0, refusals::MOST_NESTING, m, 0);
+        count(&mut tally, "sill_golden_to_fields", to_fields, no_code);
+        let no_golden = Moved { refusal: refusals::NO_SUCH_FIELD, place: 0, written: 0 };
+        let from_fields = sill_golden_from_fields(n, 0, w, 0, w, 0, w, 0, refusals::MOST_NESTING, m, 0);
+        count(&mut tally, "sill_golden_from_fields", from_fields, no_golden);
         let few = Totalled { refusal: refusals::NO_ROOM, place: 0 };
         count(&mut tally, "sill_totals", sill_totals(null(), 0, null(), 0, null_mut(), 0), few);
         count(&mut tally, "sill_add_totals", sill_add_totals(null(), 0, null(), 0, null_mut(), 0), few);

@@ -15,6 +15,7 @@ usage: rig [--tables FILE]                       compare with the carried Rust, 
        rig --pieces                              line tables by piece: the model, and `sill_locate` of the joined table, nothing else
        rig --starts                              row starts: the model, nothing else
        rig --settings                            settings files and their editions: the model, nothing else
+       rig --moves                               golden files moved into fields and back: the model, nothing else
        rig --totals                              nightly totals: the model, nothing else
        rig --equal                               equal values are written as equal bytes and no others, nothing else
        rig --goldens PATH..                      compare on golden files; without a PATH, say how
@@ -46,6 +47,7 @@ pub enum Task {
     Exceptions,
     Joins,
     Settings,
+    Moves,
     Sources,
     Spans,
     Starts,
@@ -95,6 +97,7 @@ impl Options {
                 "--spans" => options.set(Task::Spans)?,
                 "--starts" => options.set(Task::Starts)?,
                 "--settings" => options.set(Task::Settings)?,
+                "--moves" => options.set(Task::Moves)?,
                 "--pieces" => options.set(Task::Pieces)?,
                 "--extremes" => options.set(Task::Extremes)?,
                 "--has-rust" => options.set(Task::HasRust)?,

@@ -5,8 +5,8 @@ mod model;
 mod promised;
 mod questions;
 
-pub use model::by_the_model;
-pub use questions::random_asks;
+pub use model::{by_the_model, fields};
+pub use questions::{field, random_asks};
 
 use crate::lent::{Lent, Part};
 use crate::shares;

@@ -1,6 +1,7 @@
-//! The stack that the deepest reading and writing take: containers and code nested as deep as document 01 allows are read
-//! and written in a thread of 1 MiB; and how many bytes of it a level of nesting costs.
+//! The stack that the deepest reading and writing take: containers and code nested as deep as document 01 allows are read,
+//! written, and moved as a golden's result in a thread of 1 MiB; and how many bytes of it a level of nesting costs.
 use crate::lent::Part;
+use crate::moves;
 use crate::nested::nested;
 use crate::reading::{ample, read};
 use crate::tally::Tally;
@@ -22,6 +23,8 @@ pub fn hold() -> bool {
         tally.count("kinds of value nested 2,000 deep read in a thread of 1 MiB", read);
         let written = hold_kind(kind, &format!("{name} written"), writing);
         tally.count("kinds of value nested 2,000 deep written in a thread of 1 MiB", written);
+        let moved = hold_kind(kind, &format!("{name} moved"), |input| moves::deep(&input));
+        tally.count("goldens with a result nested 2,000 deep moved in a thread of 1 MiB", moved);
     }
     tally.finish()
 }

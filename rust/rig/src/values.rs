@@ -15,7 +15,7 @@ use codes::code_faults;
 pub use codes::code_strings;
 #[cfg(carried)]
 use damaged::of_modules;
-pub use damaged::random_inputs;
+pub use damaged::{random_inputs, random_pair};
 use extreme::deep_inputs;
 #[cfg(carried)]
 use extreme::large_inputs;

@@ -60,7 +60,7 @@ fn teller(arguments: &Arguments, scope: Scope) -> Result<Teller, &'static str> {
     let strict = arguments.has("strict") || listed.contains(&Verdict::NoPlace);
     Ok(Teller {
         form,
-        manner: Manner { strict, pyc: arguments.has("pyc"), scope },
+        manner: Manner { strict, pyc: arguments.has("pyc"), shape: arguments.has("shape"), scope },
         quiet: arguments.has("quiet"),
         all: arguments.has("all"),
         colours: Colours::of(arguments),

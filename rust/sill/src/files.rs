@@ -1,10 +1,11 @@
 //! Files and folders: what there is to read, and the values of a file one after another.
 use crate::complaints;
 use crate::glob::Filter;
-use sillgarland::{Golden, MOST_BYTES, Place, Reader, Refusal, Refused};
+use sillgarland::{Form, Golden, MOST_BYTES, Place, Reader, Refusal, Refused, settings_fields};
 use std::ffi::OsString;
 use std::fs::{self, File};
 use std::io::{self, Read};
+use std::ops::Range;
 use std::path::{Path, PathBuf};
 
 /// A path that is to be read, or why it cannot be.
@@ -148,8 +149,8 @@ pub struct Ended {
     pub refused: Option<Refused>,
 }
 
-/// Reads the values that stand back to back in a file, and hands on each with the place where it begins. An empty file has
-/// none, and that is a refusal.
+/// Reads the values of a file, and hands on each with the place where it begins: those that stand back to back, or the two of a
+/// golden in fields. An empty file has none, and that is a refusal.
 pub fn for_each_value<E>(
     reader: &mut Reader,
     input: &[u8],
@@ -165,6 +166,9 @@ pub fn for_each_value_from<E>(
     input: &[u8],
     mut act: impl FnMut(usize, Golden) -> Result<(), E>,
 ) -> Result<Ended, E> {
+    if from == 0 && Form::of(input) == Form::Fields {
+        return for_each_in_fields(reader, input, act);
+    }
     let mut ended = Ended { values: 0, end: from, refused: None };
     loop {
         match read_value(reader, input, ended.end) {
@@ -179,6 +183,29 @@ pub fn for_each_value_from<E>(
             return Ok(ended);
         }
     }
+}
+
+/// Where code and result stand in a golden in fields; nothing where it has other fields, or a fault.
+pub fn parts_in_fields(input: &[u8]) -> Option<[Range<usize>; 2]> {
+    let fields = settings_fields(input).ok()?;
+    let [(1, [1]), (2, code), (3, _)] = fields[..] else { return None };
+    Some([7..7 + code.len(), 10 + code.len()..input.len()])
+}
+
+/// Code and result of a golden in fields, as far as they are sound. What is wrong with it is told by the port's own move.
+fn for_each_in_fields<E>(
+    reader: &mut Reader,
+    input: &[u8],
+    mut act: impl FnMut(usize, Golden) -> Result<(), E>,
+) -> Result<Ended, E> {
+    let mut ended = Ended { values: 0, end: 0, refused: reader.golden_from_fields(input).err() };
+    for part in parts_in_fields(input).into_iter().flatten() {
+        let Ok(golden) = reader.read(&input[part.clone()]) else { break };
+        act(part.start, golden)?;
+        ended.values += 1;
+        ended.end = part.start + golden.consumed();
+    }
+    Ok(ended)
 }
 
 #[cfg(test)]

@@ -8,7 +8,7 @@ mod report;
 mod settings;
 
 pub use completions::completions;
-pub use making::{BYTES, COMPLETIONS, MANUAL, REPAIR, WRITE};
+pub use making::{BYTES, COMPLETIONS, CONVERT, MANUAL, REPAIR, WRITE};
 pub use manual::{man, manual};
 pub use pages::{CHECK, DIFF, LINES, ROW, SHOW, TOTALS};
 pub use report::REPORT;
@@ -40,17 +40,32 @@ pub struct Known {
 pub const HELP: Known = Known { short: Some('h'), long: "help", word: None, text: "show this page" };
 
 const INTRODUCTION: &str = "\
-sill reads golden files: marshalled Python values, a code object and the result expected of it, back to back (the old form),
-or single values. Every answer comes from the proved port: a damaged file is refused with a number, a name and a place, and a
-line table that is cut is called NOT WHOLE instead of naming the wrong row.";
+sill reads golden files: marshalled Python values, a code object and the result expected of it, back to back (the old form) or
+in tagged fields (the new form, told by its first byte), or single values. Every answer comes from the proved port: a damaged
+file is refused with a number, a name and a place, and a line table that is cut is called NOT WHOLE instead of naming the
+wrong row.";
 
 const EXIT_STATUS: &str = "\
 Exit status: 0 all is well; 1 a file is refused, not whole or different; 2 called wrongly, or a file that cannot be read or
 written (one line on standard error each; the other files are still done).";
 
 /// Every page, in the order in which they are listed.
-pub const PAGES: &[&Page] =
-    &[&CHECK, &REPORT, &SHOW, &LINES, &ROW, &BYTES, &WRITE, &REPAIR, &DIFF, &TOTALS, &SETTINGS, &MANUAL, &COMPLETIONS];
+pub const PAGES: &[&Page] = &[
+    &CHECK,
+    &REPORT,
+    &SHOW,
+    &LINES,
+    &ROW,
+    &BYTES,
+    &WRITE,
+    &REPAIR,
+    &CONVERT,
+    &DIFF,
+    &TOTALS,
+    &SETTINGS,
+    &MANUAL,
+    &COMPLETIONS,
+];
 
 /// The longest line of a usage.
 const WIDTH: usize = 110;

@@ -4,6 +4,7 @@ mod by_bytes;
 mod bytes;
 mod check;
 mod complaints;
+mod convert;
 mod diff;
 mod files;
 mod glob;
@@ -61,6 +62,7 @@ const COMMANDS: &[(&Page, Command)] = &[
     (&help::BYTES, bytes::run),
     (&help::WRITE, write::run),
     (&help::REPAIR, repair::run),
+    (&help::CONVERT, convert::run),
     (&help::DIFF, diff::run),
     (&help::TOTALS, totals::run),
     (&help::SETTINGS, settings::run),

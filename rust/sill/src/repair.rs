@@ -1,9 +1,9 @@
 //! `sill repair`: line tables that are not whole are salvaged where they stand, and every other byte of the file stays.
 use crate::options::Arguments;
 use crate::words::{self, Within};
-use crate::write::{beside_output, may_be_replaced, put};
+use crate::write::{beside_output, in_form_of, may_be_replaced, put};
 use crate::{Outcome, complaints, files, json, text};
-use sillgarland::{Code, Golden, Lines, Reader, Records, Salvaged, Value};
+use sillgarland::{Code, Form, Golden, Lines, Reader, Records, Salvaged, Value};
 use std::collections::{BTreeMap, HashSet};
 use std::io::{self, Write};
 use std::path::Path;
@@ -75,8 +75,19 @@ pub fn planned(input: &[u8]) -> Result<BTreeMap<usize, String>, String> {
     Ok(repaired(input)?.told.into_iter().map(|(at, told)| (at, told.as_json())).collect())
 }
 
-/// Everything is decided by value: tables, and what else names them, lie within one.
+/// A golden in fields is repaired as its values stand back to back, and goes back into fields: so a field's length is mended too.
 fn repaired(input: &[u8]) -> Result<Report, String> {
+    if Form::of(input) == Form::Plain {
+        return repaired_plain(input);
+    }
+    let plain = Reader::new().golden_from_fields(input);
+    let plain = plain.map_err(|refused| words::told(&refused, Within::Value(input), 0))?;
+    let Report { bytes, told } = repaired_plain(&plain)?;
+    Ok(Report { bytes: in_form_of(input, bytes)?, told })
+}
+
+/// Everything is decided by value: tables, and what else names them, lie within one.
+fn repaired_plain(input: &[u8]) -> Result<Report, String> {
     let (mut told, mut changes, mut objects) = (ByNumber::new(), Vec::new(), 0);
     let ended = files::for_each_value(&mut Reader::new(), input, |start, golden| {
         decide(golden, start, objects, &mut told, &mut changes);

@@ -26,7 +26,8 @@ pub fn run(arguments: &Arguments, out: &mut dyn Write) -> io::Result<Outcome> {
         complaints::about(target, &error);
         return Ok(Outcome::Trouble);
     }
-    let reporter = Reporter { manner: Manner { strict: arguments.has("strict"), pyc: arguments.has("pyc"), scope } };
+    let (strict, pyc) = (arguments.has("strict"), arguments.has("pyc"));
+    let reporter = Reporter { manner: Manner { strict, pyc, shape: false, scope } };
     let mut gathered = Gathered::default();
     let totals = each_file(&items, &reporter, |entry, _| {
         gathered.add(entry);

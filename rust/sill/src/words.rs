@@ -1,6 +1,6 @@
 //! What a refusal means where it stands: the same number has several cases, and people are told the one at hand.
 use crate::looks;
-use sillgarland::{Code, Content, Place, Refusal, Refused};
+use sillgarland::{Code, Content, Form, Place, Refusal, Refused};
 
 /// What was being read.
 #[derive(Clone, Copy)]
@@ -36,6 +36,12 @@ pub fn meaning(refused: &Refused, within: Within) -> &'static str {
         }
         (Refusal::InputTooLong, Within::Value(_), _) => "the value that starts here is longer than 16,777,216 bytes",
         (Refusal::InvalidBytecode, Within::Value(input), Place::Byte(at)) => unsound(&input[at..]),
+        (Refusal::NoSuchField, Within::Value(_), _) => {
+            "a golden in fields has edition 1 (tag 1), code (tag 2) and result (tag 3), exactly these in that order"
+        }
+        (Refusal::BadType, Within::Value(input), Place::Byte(at)) if at == first_value(input) => {
+            "the first value of a golden is a code object, and the one that starts here is none"
+        }
         (Refusal::NumberRange, Within::LineTable(code), Place::Byte(at)) => out_of_range(entry(code, at)),
         (Refusal::NumberRange, Within::ExceptionTable, _) => {
             "the number of the exception table that starts here is 2^32 or more"
@@ -45,6 +51,11 @@ pub fn meaning(refused: &Refused, within: Within) -> &'static str {
         }
         (refusal, ..) => refusal.meaning(),
     }
+}
+
+/// Where the first value of a file begins: no part of a code object can begin there.
+fn first_value(input: &[u8]) -> usize {
+    if Form::of(input) == Form::Fields { 7 } else { 0 }
 }
 
 /// A digit, or a code object. A code object whose argument count may be taken for a digit is told as either.

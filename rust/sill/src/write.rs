@@ -2,7 +2,7 @@
 use crate::options::Arguments;
 use crate::words::{self, Within};
 use crate::{Outcome, complaints, files, text};
-use sillgarland::{Golden, Reader, first_difference};
+use sillgarland::{Form, Golden, Reader, first_difference};
 use std::fs::{self, File};
 use std::io::{self, Write};
 use std::os::unix::fs::MetadataExt;
@@ -73,7 +73,17 @@ fn canonical(input: &[u8]) -> Result<Vec<u8>, String> {
     })?;
     match ended.refused {
         Some(refused) => Err(words::told(&refused, Within::Value(input), 0)),
-        None => Ok(written),
+        None => in_form_of(input, written),
+    }
+}
+
+/// A golden's values, back to back, in the form that the file has; or why a field cannot hold them.
+pub fn in_form_of(input: &[u8], plain: Vec<u8>) -> Result<Vec<u8>, String> {
+    match Form::of(input) {
+        Form::Plain => Ok(plain),
+        Form::Fields => Reader::new().golden_to_fields(&plain).map_err(|refused| {
+            format!("would not go back into fields: {}", words::told(&refused, Within::Value(&plain), 0))
+        }),
     }
 }
 

@@ -149,6 +149,15 @@ pub struct Edition {
     pub size: u32,
 }
 
+/// How many bytes a golden has in its other form.
+#[repr(C)]
+#[derive(Clone, Copy, Debug, PartialEq, Eq)]
+pub struct Moved {
+    pub refusal: u32,
+    pub place: u32,
+    pub written: u32,
+}
+
 /// What splitting local names answers: how many of each kind, and whether the cell-to-argument list is present.
 #[repr(C)]
 #[derive(Clone, Copy, Debug, PartialEq, Eq)]
@@ -269,6 +278,32 @@ unsafe extern "C" {
         out_len: usize,
     ) -> Saved;
     pub fn sill_edition(archive: *const u8, archive_len: usize, edition: *const u8, edition_len: usize) -> Edition;
+    pub fn sill_golden_to_fields(
+        plain: *const u8,
+        plain_len: usize,
+        nodes: *mut u32,
+        nodes_len: usize,
+        entries: *mut u32,
+        entries_len: usize,
+        slots: *mut u32,
+        slots_len: usize,
+        nesting: u32,
+        out: *mut u8,
+        out_len: usize,
+    ) -> Moved;
+    pub fn sill_golden_from_fields(
+        fields: *const u8,
+        fields_len: usize,
+        nodes: *mut u32,
+        nodes_len: usize,
+        entries: *mut u32,
+        entries_len: usize,
+        slots: *mut u32,
+        slots_len: usize,
+        nesting: u32,
+        out: *mut u8,
+        out_len: usize,
+    ) -> Moved;
     pub fn sill_locate(
         table: *const u8,
         table_len: usize,

@@ -36,6 +36,7 @@
 
 mod code;
 mod equal;
+mod forms;
 mod golden;
 mod handlers;
 mod join;
@@ -59,6 +60,7 @@ mod walk;
 mod write;
 
 pub use code::{Code, NUMBERS, PARTS};
+pub use forms::{Form, GoldenParts};
 pub use golden::Golden;
 pub use handlers::{Handler, exception_table, handlers};
 pub use join::{Block, Joined, LineAfter, join, line_after};

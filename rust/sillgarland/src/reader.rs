@@ -5,7 +5,7 @@ use crate::{Golden, MOST_NESTING, MOST_RECORDS};
 
 /// How many records each store is lent at first, and by how much they grow when these do not do. A file may hold very
 /// many small values, and every reading clears what it is lent: hence the small beginning.
-const FIRST_ROOM: usize = 16;
+pub(crate) const FIRST_ROOM: usize = 16;
 const GROWTH: usize = 4;
 
 /// The stores that values are read into, kept from one reading to the next.
@@ -61,16 +61,27 @@ impl Reader {
             let answer = self.try_read(input, room, nesting);
             match Refused::unless_accepted(answer.refusal, |_| Place::Byte(answer.place as usize)) {
                 Ok(()) => return Ok(self.golden(input, answer)),
-                Err(refused) if asks_for_room(refused.refusal) && room < enough => room = enough.min(room * GROWTH),
+                Err(refused) if asks_for_room(refused.refusal) && room < enough => room = more_room(room, enough),
                 Err(refused) => return Err(refused),
             }
         }
     }
 
+    /// The three stores, with room for so many records each.
+    pub(crate) fn stores(&mut self, room: usize) -> [&mut [u32]; 3] {
+        [
+            lent(&mut self.nodes, room).as_flattened_mut(),
+            lent(&mut self.entries, room).as_flattened_mut(),
+            lent(&mut self.slots, room),
+        ]
+    }
+
+    pub(crate) fn nesting(&self) -> u32 {
+        self.nesting
+    }
+
     fn try_read(&mut self, input: &[u8], room: usize, nesting: u32) -> sillgarland_sys::Read {
-        let nodes = lent(&mut self.nodes, room).as_flattened_mut();
-        let entries = lent(&mut self.entries, room).as_flattened_mut();
-        let slots = lent(&mut self.slots, room);
+        let [nodes, entries, slots] = self.stores(room);
         // SAFETY: four slices of their own, each handed on by its pointer and its length.
         unsafe {
             sillgarland_sys::sill_read(
@@ -97,7 +108,12 @@ impl Reader {
     }
 }
 
-fn asks_for_room(refusal: Refusal) -> bool {
+/// The next room to try.
+pub(crate) fn more_room(room: usize, enough: usize) -> usize {
+    enough.min(room * GROWTH)
+}
+
+pub(crate) fn asks_for_room(refusal: Refusal) -> bool {
     matches!(refusal, Refusal::NoNode | Refusal::NoEntry | Refusal::NoSlot)
 }
 

@@ -28,6 +28,26 @@ pub fn random_inputs(seed: u64, count: usize) -> impl Iterator<Item = Ask> {
     })
 }
 
+/// The two values of a golden: mostly a code and a value, as they are made or damaged.
+pub fn random_pair(random: &mut Random) -> [Vec<u8>; 2] {
+    let firsts = [true, true, true, true, true, true, true, false];
+    let kinds = [random.one_of(&firsts), random.below(4) == 0];
+    kinds.map(|code| {
+        let mut maker = Maker::new(random);
+        let levels = maker.random.one_of(&[1, 2, 3, 3, 4]);
+        if code {
+            maker.code(levels)
+        } else {
+            maker.value(levels)
+        }
+        let mut value = maker.made();
+        if random.below(12) == 0 {
+            damage(random, &mut value);
+        }
+        value
+    })
+}
+
 /// Each module as CPython marshalled it, and the same damaged.
 #[cfg(carried)]
 pub fn of_modules(modules: &[Ask], seed: u64) -> impl Iterator<Item = Ask> {

@@ -3,7 +3,7 @@ use crate::files::{self, Ended};
 use crate::settings::Scope;
 use crate::words::{self, Within};
 use crate::{Outcome, looks};
-use sillgarland::{Code, Golden, Location, Locations, Reader, Records, Refused};
+use sillgarland::{Code, Golden, Location, Locations, Reader, Records, Refusal, Refused};
 use std::convert::Infallible;
 
 /// What a file holds, and every finding in it.
@@ -55,6 +55,8 @@ pub enum What {
     NoPlace { tail: usize },
     /// Instructions without a sure row, by their reasons.
     NotSure { left_over: usize, no_place: usize, cut: usize, below: usize },
+    /// The file is not exactly a code object and the result expected of it.
+    Shape,
     /// Local names are out of order from this one on.
     NameOrder { at: usize, name: String },
 }
@@ -104,7 +106,7 @@ impl What {
     /// The verdict that it leads to.
     pub fn verdict(&self) -> Verdict {
         match self {
-            What::Value { .. } | What::LineTable { .. } | What::ExceptionTable => Verdict::Refused,
+            What::Value { .. } | What::LineTable { .. } | What::ExceptionTable | What::Shape => Verdict::Refused,
             What::NotWhole { .. } => Verdict::NotWhole,
             What::NoPlace { .. } => Verdict::NoPlace,
             What::NotSure { .. } | What::NameOrder { .. } => Verdict::Accepted,
@@ -120,6 +122,7 @@ impl What {
             What::NotWhole { .. } => "not-whole",
             What::NoPlace { .. } => "no-place",
             What::NotSure { .. } => "not-sure",
+            What::Shape => "shape",
             What::NameOrder { .. } => "name-order",
         }
     }
@@ -132,6 +135,8 @@ pub struct Manner {
     pub strict: bool,
     /// Whether the header of a .pyc is skipped.
     pub pyc: bool,
+    /// Whether a file must be exactly a code object and the result expected of it.
+    pub shape: bool,
     /// How deep values may be nested, and of which code objects there is anything to be said.
     pub scope: Scope,
 }
@@ -155,7 +160,18 @@ impl Findings {
             Ok(ended) => findings.add_end(ended, input),
             Err(never) => match never {},
         }
+        if manner.shape {
+            findings.add_shape(&input[from..], from, reader);
+        }
         findings
+    }
+
+    /// Of values that all read: whether they are a code object and a result, and these two alone.
+    fn add_shape(&mut self, golden: &[u8], from: usize, reader: &mut Reader) {
+        let refused_already = self.found.iter().any(|finding| matches!(finding.what, What::Value { .. }));
+        let Some(refused) = reader.golden_parts(golden).err().filter(|_| !refused_already) else { return };
+        let meaning = shape_meaning(&refused, golden);
+        self.add_refused(What::Shape, (refused.after(from), meaning), None);
     }
 
     pub fn verdict(&self) -> Verdict {
@@ -229,6 +245,15 @@ impl Findings {
         let what = What::Value { whole, hint: looks::hint(input) };
         let meaning = words::meaning(&refused, Within::Value(input));
         self.add_refused(what, (refused, meaning), None);
+    }
+}
+
+/// What a golden lacks, or has too much of.
+fn shape_meaning(refused: &Refused, golden: &[u8]) -> &'static str {
+    match refused.refusal {
+        Refusal::EofObject => "a golden is a code object and the result expected of it, and there is no result",
+        Refusal::TrailingBytes => "a golden is a code object and one result, and more follows",
+        _ => words::meaning(refused, Within::Value(golden)),
     }
 }
 

@@ -18,6 +18,7 @@ pub fn told(finding: &Finding) -> String {
             format!("line table of {named}: {refused}; before it {placed} of {all} are placed; {last}")
         }
         What::ExceptionTable => format!("exception table of {named}: {refused}"),
+        What::Shape => refused,
         What::NotWhole { placed, end } => format!("{named}: the line table places {placed} of {all}{}", end.told()),
         What::NoPlace { tail } => format!("{named}: its last {tail} of {all} have no line; {last}"),
         What::NotSure { left_over, no_place, cut, below } => {
@@ -83,7 +84,7 @@ pub fn line(findings: &Findings) -> String {
     let verdict = findings.verdict();
     let of = |kind: &str| findings.found.iter().filter(|finding| finding.what.kind() == kind).collect::<Vec<_>>();
     let mut told: Vec<String> = Vec::new();
-    for kind in ["value", "line-table", "exception-table", "not-whole", "no-place"] {
+    for kind in ["value", "shape", "line-table", "exception-table", "not-whole", "no-place"] {
         told.extend(first_and_more(&of(kind), verdict));
     }
     if verdict == Verdict::Accepted {

@@ -4,9 +4,10 @@ use super::{Asked, rows};
 use crate::by_bytes::{self, Told};
 use crate::{complaints, files, looks, text, words};
 use sillgarland::{
-    Code, Content, Difference, Golden, NUMBERS, Reader, Refused, Value, What, each_difference, first_difference,
+    Code, Content, Difference, Form, Golden, NUMBERS, Reader, Refused, Value, What, each_difference, first_difference,
 };
 use std::io::{self, Write};
+use std::ops::Range;
 use std::path::{Path, PathBuf};
 
 /// A file, how far it has been compared, and whether only one of its values is.
@@ -18,6 +19,8 @@ pub struct Side {
     pub value: usize,
     only: Option<usize>,
     done: bool,
+    /// Where the values of a golden in fields stand, or why it is none; nothing of values back to back.
+    fields: Option<Result<[Range<usize>; 2], Refused>>,
 }
 
 /// What two files come to.
@@ -33,8 +36,13 @@ pub enum Compared {
 
 impl Side {
     pub fn new(path: &Path, input: Vec<u8>, only: Option<usize>, pyc: bool) -> Self {
-        let at = looks::skipped(&input, pyc);
-        Self { path: path.to_path_buf(), input, at, value: 1, only, done: false }
+        let fields = (Form::of(&input) == Form::Fields)
+            .then(|| Reader::new().golden_parts(&input).map(|parts| [parts.code, parts.result]));
+        let at = match &fields {
+            Some(Ok([code, _])) => code.start,
+            _ => looks::skipped(&input, pyc),
+        };
+        Self { path: path.to_path_buf(), input, at, value: 1, only, done: false, fields }
     }
 
     /// Whether a value follows. An empty file has a first value to be asked for too: the answer is a refusal.
@@ -42,14 +50,30 @@ impl Side {
         !self.done && (self.at < self.input.len() || self.value == 1)
     }
 
+    /// Behind a value of so many bytes: in fields, at the start of the next field's contents.
+    fn pass(&mut self, consumed: usize) {
+        self.at += consumed;
+        if let (Some(Ok([code, result])), 1) = (&self.fields, self.value) {
+            debug_assert_eq!(self.at, code.end);
+            self.at = result.start;
+        }
+        self.value += 1;
+    }
+
     pub fn read<'r>(&'r self, reader: &'r mut Reader) -> Result<Golden<'r>, Refused> {
-        files::read_value(reader, &self.input, self.at)
+        match &self.fields {
+            None => files::read_value(reader, &self.input, self.at),
+            Some(Err(refused)) => Err(*refused),
+            Some(Ok(parts)) => {
+                let end = parts[self.value.min(2) - 1].end;
+                reader.read(&self.input[self.at..end]).map_err(|refused| refused.after(self.at))
+            }
+        }
     }
 
     /// Behind a value of so many bytes.
     pub fn go_on(&mut self, consumed: usize) {
-        self.at += consumed;
-        self.value += 1;
+        self.pass(consumed);
         self.done = self.only.is_some();
     }
 
@@ -58,8 +82,7 @@ impl Side {
         let only = self.only.unwrap_or(1);
         while self.value < only && self.has_more() {
             let consumed = self.read(reader)?.consumed();
-            self.at += consumed;
-            self.value += 1;
+            self.pass(consumed);
         }
         Ok(self.value == only && self.has_more())
     }

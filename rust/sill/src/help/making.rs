@@ -1,5 +1,5 @@
 //! The pages of the commands that write.
-use super::pages::PYC;
+use super::pages::{EXT, GLOB, PYC};
 use super::{HELP, Known, Page};
 
 pub const BYTES: Page = Page {
@@ -33,7 +33,8 @@ Integers in the fewest bytes, strings as u (in code objects z where ASCII and sh
 flags. What was written is read back and compared with FILE before OUT is put in place; where it is not the same value (local
 names out of order, or more than 16 MiB once sharing is written out), there is no OUT, and the reason is told. OUT is written
 under another name beside its place and then renamed, so it is there as a whole or not at all; an older OUT is replaced, but
-never FILE itself. FILE may be - for standard input, and OUT - for standard output: then what is told goes to standard error.",
+never FILE itself. FILE may be - for standard input, and OUT - for standard output: then what is told goes to standard error.
+A golden in fields is written in fields: a value that is then above 65,535 bytes is told, and there is no OUT.",
     options: &[Known { short: Some('o'), long: "output", word: Some("OUT"), text: "where to write; must be given" }, HELP],
 };
 
@@ -43,10 +44,12 @@ pub const REPAIR: Page = Page {
     takes: 1..=1,
     summary: "make whole line tables of those that are cut or damaged",
     text: "\
-Of each line table that is not whole, the complete entries are kept up to the first that stops, is cut or is refused; the entry
-that runs past the instructions is shortened; the other bytes are dropped, and the instructions that are left get entries that
-say they have no place. The table stands where it stood, with its length field; every other byte of FILE stays. For each code
-object a line says what was kept, dropped, shortened and covered, the first instruction without a line and the last row placed.
+Of each line table that is not whole, the complete entries are kept up to the first that stops, is cut or is refused; the
+entry that runs past the instructions is shortened; the other bytes are dropped, and the instructions that are left get
+entries that say they have no place. The table stands where it stood, with its length field; every other byte of FILE stays,
+but for the length of its field where FILE is a golden in fields: a value that is then above 65,535 bytes is told, and there
+is no OUT. For each code object a line says what was kept, dropped, shortened and covered, the first instruction without a
+line and the last row placed.
 
 A table that is shared is left as it is, and told, where another code object's repair would give other bytes, or where it is
 shared with something that is no line table; then the exit status is 1, and OUT has the others mended. Before OUT is put in
@@ -58,6 +61,32 @@ A repaired file is not a sound one: what was lost stays lost, and sill check kee
         Known { short: Some('o'), long: "output", word: Some("OUT"), text: "where to write; must be given but for --dry-run" },
         Known { short: None, long: "dry-run", word: None, text: "say what would be done, and write nothing" },
         Known { short: None, long: "json", word: None, text: "as JSON, for machines" },
+        HELP,
+    ],
+};
+
+pub const CONVERT: Page = Page {
+    name: "convert",
+    operands: "PATH..",
+    takes: 1..=usize::MAX,
+    summary: "move goldens into fields, or back into the old form",
+    text: "\
+The old form of a golden is a code object and the result expected of it, back to back, with nothing after. The new form has
+three tagged fields, exactly these in that order: edition (tag 1, the one byte 1), code (tag 2) and result (tag 3); a tag has
+one byte and a length two. The first byte tells the forms apart. Both values are read before anything is written, and what one
+way accepts, the other gives back byte for byte. Refused, with the place in the file: fields other than these, a value that
+does not read, a first value that is no code object, bytes behind a value, and a value above 65,535 bytes, which no field
+holds.
+
+One file goes to the file OUT; either may be - as for sill write. More than one, or a folder with the files in it and below,
+go to the folder OUT, each to its own name, or to its path below the folder: then the last line has the totals. OUT is put in
+place as a whole or not at all, file by file, and never over the file that is read. A file that has the form already is held
+to be a golden, and written as it is.",
+    options: &[
+        Known { short: None, long: "to", word: Some("fields|plain"), text: "the form: fields if nothing is said" },
+        Known { short: Some('o'), long: "output", word: Some("OUT"), text: "where to write; must be given" },
+        EXT,
+        GLOB,
         HELP,
     ],
 };

@@ -62,6 +62,11 @@ With --strict a file is NO PLACE where a code object's last instructions have no
 table that was cut and filled up. Sound code may end so too: some 2 in 100 code objects of CPython's own library do (1,909 of
 78,010, counted with CPython 3.11.7).
 
+With --shape a file is refused too that is not exactly a code object and the result expected of it: where there is no result,
+where something follows it, or where the first value is no code object. Without it any values back to back are accepted, so
+that a lost or a doubled result passes. A golden in fields is held to this in any case: its fields, then its values, then that
+the first is a code object, and that nothing is behind a value in its field.
+
 A line also says where local names are out of order (Local, then Cell, then Free): such code may not read back once written.
 That alone is no fault of a file. The last line has the totals, troubles among them: a path that could not be read is one, and
 told on standard error. The exit status is 0 only if every file is accepted.
@@ -81,6 +86,7 @@ has its error. The kinds, and the fields of their own:
   not-whole        a line table is not whole: placed, and end: too-early (with first_left_over and shown_line), cut-entry,
                    too-far or bytes-left (with bytes_left)
   no-place         with --strict: without_line_at_the_end
+  shape            with --shape: the values are not exactly a code object and its result
   not-sure         no fault: not_sure, and of these left_over, no_place, cut_entry, below_line_1
   name-order       no fault: local_name, its number, and local, its name
 
@@ -96,6 +102,12 @@ have 16 MiB, and a file as many values as there are, up to 1 GiB.",
     options: &[
         Known { short: Some('q'), long: "quiet", word: None, text: "leave out accepted files" },
         STRICT,
+        Known {
+            short: None,
+            long: "shape",
+            word: None,
+            text: "a file that is not exactly a code object and its result is refused",
+        },
         Known { short: Some('a'), long: "all", word: None, text: "a line for every damaged code object" },
         Known {
             short: Some('l'),

@@ -56,7 +56,7 @@ fn whole_files_only_end_well() {
 #[test]
 fn quiet_leaves_out_what_is_accepted() {
     let (status, shown, _) = ended(&["check", "--quiet", "goldens"]);
-    assert_eq!((status, shown.lines().count()), (1, 4));
+    assert_eq!((status, shown.lines().count()), (1, 6));
     assert!(!shown.contains("accepted   "), "{shown}");
 }
 

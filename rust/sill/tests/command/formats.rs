@@ -80,7 +80,7 @@ fn fields_of_each_kind() {
 #[test]
 fn quiet_json_leaves_out_what_is_accepted() {
     let (_, shown, _) = ended(&["check", "-q", "--json", "goldens"]);
-    assert_eq!(shown.lines().count(), 3);
+    assert_eq!(shown.lines().count(), 4);
 }
 
 #[test]
@@ -147,12 +147,15 @@ fn lines_in_json() {
     let told = "goldens/cut-line-table.golden <module> False 45 57 0 None\ngoldens/damaged-text.golden None None 0 None 0 190\n\
                 goldens/fees.golden <module> True 21 9 0 None\ngoldens/fees.golden fee True 38 6 3 None\n\
                 goldens/fees.golden fee.<locals>.scaled True 21 3 0 None\ngoldens/fees.golden <listcomp> True 22 9 0 None\n\
+                goldens/in-fields-cut.golden <module> False 45 57 0 None\n\
+                goldens/in-fields.golden <module> True 21 9 0 None\ngoldens/in-fields.golden fee True 38 6 3 None\n\
+                goldens/in-fields.golden fee.<locals>.scaled True 21 3 0 None\ngoldens/in-fields.golden <listcomp> True 22 9 0 None\n\
                 goldens/rates.golden <module> True 45 212 0 None\n";
     assert_eq!(python(script, shown.as_bytes()), told);
     let first = shown.lines().next().unwrap();
     assert!(first.contains("{\"line\":57,\"column\":1,\"end_line\":57,\"end_column\":4},{\"line\":null,\"why\":\"left over\",\"shown\":[1,1,1,1]}"), "{first}");
     let (_, shown, _) = ended(&["lines", "--json", "--not-whole", "goldens"]);
-    assert_eq!(shown.lines().count(), 2);
+    assert_eq!(shown.lines().count(), 3);
 }
 
 /// A damaged table is null, with the reason beside it.

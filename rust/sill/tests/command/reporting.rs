@@ -72,7 +72,7 @@ fn the_page_holds_what_check_tells() {
         \x20           assert [x[k] for k in ('below_line_1', 'no_place', 'cut_entry', 'left_over')] == o['counts'][2:6], o\n\
         print(len(shown), len(sound), sum(len(f.get('objects', [])) for f in shown.values()))";
     assert_eq!(held(script, &["--strict", &samples("report-all")]), "6 1 6\n");
-    assert_eq!(held(script, &["goldens"]), "2 5 1\n");
+    assert_eq!(held(script, &["goldens"]), "3 6 2\n");
 }
 
 /// Ways, bytes about the place, rows, handlers and repairs, as they are in the data.

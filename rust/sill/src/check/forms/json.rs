@@ -65,7 +65,7 @@ fn own(what: &What) -> Object {
             object.or_null("bytes_left", whole.map(|(_, left)| left)).or_null("hint", hint.map(json::string))
         }
         What::LineTable { placed } => object.with("placed", placed),
-        What::ExceptionTable => object,
+        What::ExceptionTable | What::Shape => object,
         What::NotWhole { placed, end } => object.with("placed", placed).and(table_end(*end)),
         What::NoPlace { tail } => object.with("without_line_at_the_end", tail),
         What::NotSure { left_over, no_place, cut, below } => {

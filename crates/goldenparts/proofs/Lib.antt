@@ -1,0 +1,4 @@
+pub mod Judging
+pub mod Apart
+pub mod Exact
+pub mod Fielded

@@ -1,0 +1,74 @@
+-- `goldens::write_plain` meets its contract, by the laws of this crate that it names.
+-- Assumes nothing.
+use mathlib.Core.Path.{ap, _∙_}
+use lib.ListN.{length}
+use lib.Seq.{sets}
+use Rattle.goldenparts.specs.Spans.{goldenIn}
+use Rattle.goldens.specs.Moving.{oldForm}
+use Rattle.goldens.proofs.Moves.{plain-length, no-room, in-room}
+use borrow.Author.Needs.{needs}
+use Rattle.goldens.proofs.write_plain.Statement.{statement}
+use Rattle.goldens.proofs.write_plain.Tie as tie
+use Rattle.goldens.proofs.write_plain.Reads as reads
+use Rattle.goldens.proofs.write_plain.Lts as lts
+use Rattle.goldens.proofs.put_plain.Reads as put-plain-reads
+use Rattle.goldens.proofs.refused.Reads as refused-reads
+use Rattle.goldens.proofs.room_of.Reads as room-of-reads
+
+room-of-requires : tie.Need-room-of-requires
+room-of-requires c κs = search needs
+
+cast-total : tie.Need-cast-total
+cast-total c = search needs
+
+cast-total-2 : tie.Need-cast-total-2
+cast-total-2 c = search needs
+
+add-total : tie.Need-add-total
+add-total c = search needs
+
+cast-refused : tie.Need-cast-refused
+cast-refused c = search needs
+
+refused-requires : tie.Need-refused-requires
+refused-requires c κs = search needs
+
+returns : tie.Need-returns
+returns c =
+    let at-if1 = c .before in
+    let at-room-of = at-if1 .before .before .before in
+    let at-start = at-room-of .before .before .before in
+    no-room (oldForm (goldenIn (at-start .args .file .now) (at-start .args .parts))) (length (at-start .args .out .now)) (at-room-of .room-of .ensures .0) (plain-length (at-start .args .file .now) (at-start .args .parts) (at-start .pre .0) 0) (at-if1 .if1 .taken) (c .refused .ensures) (at-start .pre .1)
+
+put-plain-requires : tie.Need-put-plain-requires
+put-plain-requires c κs = search needs
+
+cast-t13 : tie.Need-cast-t13
+cast-t13 c = search needs
+
+same-length : tie.Need-same-length
+same-length c = search needs
+
+returns-2 : tie.Need-returns-2
+returns-2 c =
+    let at-put-plain = c .before .before in
+    let at-if1 = at-put-plain .before .before in
+    let at-room-of = at-if1 .before .before .before in
+    let at-start = at-room-of .before .before .before in
+    in-room (oldForm (goldenIn (at-start .args .file .now) (at-start .args .parts))) (length (at-start .args .out .now)) (at-room-of .room-of .ensures .0) (plain-length (at-start .args .file .now) (at-start .args .parts) (at-start .pre .0) 0) (at-room-of .room-of .ensures .1) (at-if1 .if1 .left) (at-put-plain .put-plain .ensures ∙ ap (λ o. sets o 0 (oldForm (goldenIn (at-start .args .file .now) (at-start .args .parts)))) (at-start .pre .1))
+
+pub write-plain-spec : {M : Type 1} → statement M
+write-plain-spec =
+    tie.close
+    (tie.spec
+    room-of-requires
+    cast-total
+    cast-total-2
+    add-total
+    cast-refused
+    refused-requires
+    returns
+    put-plain-requires
+    cast-t13
+    same-length
+    returns-2)
