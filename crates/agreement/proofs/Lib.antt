@@ -46,4 +46,7 @@ pub mod Writevalue
 pub mod Writer
 pub mod Locate
 pub mod Nodespan
+pub mod Keepvisit
+pub mod Keepmove
+pub mod Keep
 pub mod Sillgarland

@@ -10,9 +10,9 @@ ghost use Rattle.refusals.specs.Limits.{mostRecords, nothing};
 ghost use Rattle.stores.specs.Written.{NodeIn, EntryIn, nodeOf, nodeWritten, entryWritten, entryLinked};
 
 // How many numbers a node and an entry are.
-const NODE_WIDTH: usize = 6;
+pub const NODE_WIDTH: usize = 6;
 
-const ENTRY_WIDTH: usize = 2;
+pub const ENTRY_WIDTH: usize = 2;
 
 // A node's numbers, in their order in the store.
 pub struct Node {

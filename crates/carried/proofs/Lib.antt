@@ -1,0 +1,5 @@
+pub mod Carried
+pub mod Values
+pub mod Bridge
+pub mod Moved
+pub mod Promised

@@ -1,0 +1,5 @@
+pub mod Gathering
+pub mod Containers
+pub mod Laying
+pub mod Moving
+pub mod Same

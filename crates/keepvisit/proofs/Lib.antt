@@ -1,0 +1,9 @@
+pub mod Members
+pub mod Marking
+pub mod Pushing
+pub mod Ranks
+pub mod Visiting
+pub mod Closed
+pub mod Reaching
+pub mod Enough
+pub mod Distinct
