@@ -43,7 +43,8 @@ returns-3 c =
     let at-if2 = c .before in
     let at-if1 = at-if2 .before .before in
     let at-start = at-if1 .before .before in
-    let w = at-start .pre (at-if1 .if1 .left) in (behind-here (at-start .args .file .now) (at-start .args .at) (at-start .args .tag) (at-if1 .if1 .left) (at-if2 .if2 .left) (c .size-at .ensures .0), omega (arith, c .size-at .ensures), omega (arith, w, c .size-at .ensures))
+    let file = at-start .args .file .now in
+    let w = at-start .pre (at-if1 .if1 .left) in (behind-here file (at-start .args .at) (at-start .args .tag) (at-if1 .if1 .left) (at-if2 .if2 .left) (c .size-at .ensures .0), omega (arith, c .size-at .ensures), omega (arith, w, c .size-at .ensures))
 
 pub behind-spec : {M : Type 1} → statement M
 behind-spec =

@@ -47,7 +47,9 @@ returns-3 c =
     let at-if1 = at-behind2 .before .before .before in
     let at-behind = at-if1 .before in
     let at-start = at-behind .before .before in
-    (no-second (at-start .args .file .now) (at-start .pre) (first-field (at-start .args .file .now) (at-start .pre) (at-behind .behind .ensures .0) (at-if1 .if1 .left)) (at-behind2 .behind2 .ensures .0) (c .if3 .taken), tt)
+    let file = at-start .args .file .now in
+    let one = first-field file (at-start .pre) (at-behind .behind .ensures .0) (at-if1 .if1 .left) in
+    (no-second file (at-start .pre) one (at-behind2 .behind2 .ensures .0) (c .if3 .taken), tt)
 
 behind-requires-3 : tie.Need-behind-requires-3
 behind-requires-3 c κs =
@@ -55,7 +57,10 @@ behind-requires-3 c κs =
     let at-if1 = at-behind2 .before .before .before in
     let at-behind = at-if1 .before in
     let at-start = at-behind .before .before in
-    whole-third (at-start .args .file .now) (at-start .pre) (first-field (at-start .args .file .now) (at-start .pre) (at-behind .behind .ensures .0) (at-if1 .if1 .left)) (second-field (at-start .args .file .now) (at-start .pre) (first-field (at-start .args .file .now) (at-start .pre) (at-behind .behind .ensures .0) (at-if1 .if1 .left)) (at-behind2 .behind2 .ensures .0) (c .if3 .left))
+    let file = at-start .args .file .now in
+    let one = first-field file (at-start .pre) (at-behind .behind .ensures .0) (at-if1 .if1 .left) in
+    let two = second-field file (at-start .pre) one (at-behind2 .behind2 .ensures .0) (c .if3 .left) in
+    whole-third file (at-start .pre) one two
 
 returns-4 : tie.Need-returns-4
 returns-4 c =
@@ -65,7 +70,10 @@ returns-4 c =
     let at-if1 = at-behind2 .before .before .before in
     let at-behind = at-if1 .before in
     let at-start = at-behind .before .before in
-    (not-third (at-start .args .file .now) (at-start .pre) (first-field (at-start .args .file .now) (at-start .pre) (at-behind .behind .ensures .0) (at-if1 .if1 .left)) (second-field (at-start .args .file .now) (at-start .pre) (first-field (at-start .args .file .now) (at-start .pre) (at-behind .behind .ensures .0) (at-if1 .if1 .left)) (at-behind2 .behind2 .ensures .0) (at-if3 .if3 .left)) (at-behind3 .behind3 .ensures .0) (c .if4 .taken), tt)
+    let file = at-start .args .file .now in
+    let one = first-field file (at-start .pre) (at-behind .behind .ensures .0) (at-if1 .if1 .left) in
+    let two = second-field file (at-start .pre) one (at-behind2 .behind2 .ensures .0) (at-if3 .if3 .left) in
+    (not-third file (at-start .pre) one two (at-behind3 .behind3 .ensures .0) (c .if4 .taken), tt)
 
 cast-t9 : tie.Need-cast-t9
 cast-t9 c = search needs
@@ -77,7 +85,9 @@ sub-t10 c =
     let at-if1 = at-behind2 .before .before .before in
     let at-behind = at-if1 .before in
     let at-start = at-behind .before .before in
-    omega (arith, second-field (at-start .args .file .now) (at-start .pre) (first-field (at-start .args .file .now) (at-start .pre) (at-behind .behind .ensures .0) (at-if1 .if1 .left)) (at-behind2 .behind2 .ensures .0) (at-if3 .if3 .left) .size)
+    let file = at-start .args .file .now in
+    let one = first-field file (at-start .pre) (at-behind .behind .ensures .0) (at-if1 .if1 .left) in
+    omega (arith, second-field file (at-start .pre) one (at-behind2 .behind2 .ensures .0) (at-if3 .if3 .left) .size)
 
 cast-t12 : tie.Need-cast-t12
 cast-t12 c = search needs
@@ -93,7 +103,10 @@ sub-t8 c =
     let at-if1 = at-behind2 .before .before .before in
     let at-behind = at-if1 .before in
     let at-start = at-behind .before .before in
-    omega (arith, third-after (at-start .args .file .now) (at-start .pre) (first-field (at-start .args .file .now) (at-start .pre) (at-behind .behind .ensures .0) (at-if1 .if1 .left)) (second-field (at-start .args .file .now) (at-start .pre) (first-field (at-start .args .file .now) (at-start .pre) (at-behind .behind .ensures .0) (at-if1 .if1 .left)) (at-behind2 .behind2 .ensures .0) (at-if3 .if3 .left)) (at-behind3 .behind3 .ensures .0) (c .if4 .left))
+    let file = at-start .args .file .now in
+    let one = first-field file (at-start .pre) (at-behind .behind .ensures .0) (at-if1 .if1 .left) in
+    let two = second-field file (at-start .pre) one (at-behind2 .behind2 .ensures .0) (at-if3 .if3 .left) in
+    omega (arith, third-after file (at-start .pre) one two (at-behind3 .behind3 .ensures .0) (c .if4 .left))
 
 cast-t14 : tie.Need-cast-t14
 cast-t14 c = search needs
@@ -106,7 +119,10 @@ sub-t15 c =
     let at-if1 = at-behind2 .before .before .before in
     let at-behind = at-if1 .before in
     let at-start = at-behind .before .before in
-    omega (arith, third-after (at-start .args .file .now) (at-start .pre) (first-field (at-start .args .file .now) (at-start .pre) (at-behind .behind .ensures .0) (at-if1 .if1 .left)) (second-field (at-start .args .file .now) (at-start .pre) (first-field (at-start .args .file .now) (at-start .pre) (at-behind .behind .ensures .0) (at-if1 .if1 .left)) (at-behind2 .behind2 .ensures .0) (at-if3 .if3 .left)) (at-behind3 .behind3 .ensures .0) (c .if4 .left))
+    let file = at-start .args .file .now in
+    let one = first-field file (at-start .pre) (at-behind .behind .ensures .0) (at-if1 .if1 .left) in
+    let two = second-field file (at-start .pre) one (at-behind2 .behind2 .ensures .0) (at-if3 .if3 .left) in
+    omega (arith, third-after file (at-start .pre) one two (at-behind3 .behind3 .ensures .0) (c .if4 .left))
 
 returns-5 : tie.Need-returns-5
 returns-5 c =
@@ -117,7 +133,12 @@ returns-5 c =
     let at-if1 = at-if2 .before .before in
     let at-behind = at-if1 .before in
     let at-start = at-behind .before .before in
-    (third-field (at-start .args .file .now) (at-start .pre) (first-field (at-start .args .file .now) (at-start .pre) (at-behind .behind .ensures .0) (at-if1 .if1 .left)) (second-field (at-start .args .file .now) (at-start .pre) (first-field (at-start .args .file .now) (at-start .pre) (at-behind .behind .ensures .0) (at-if1 .if1 .left)) (at-behind2 .behind2 .ensures .0) (at-if3 .if3 .left)) (at-if2 .if2 .left) (at-behind3 .behind3 .ensures .0) (c .if4 .left), third-standing (at-start .args .file .now) (at-start .pre) (first-field (at-start .args .file .now) (at-start .pre) (at-behind .behind .ensures .0) (at-if1 .if1 .left)) (second-field (at-start .args .file .now) (at-start .pre) (first-field (at-start .args .file .now) (at-start .pre) (at-behind .behind .ensures .0) (at-if1 .if1 .left)) (at-behind2 .behind2 .ensures .0) (at-if3 .if3 .left)) (at-behind3 .behind3 .ensures .0) (c .if4 .left) (omega (arith, at-behind2 .behind2 .ensures .1)) (at-behind3 .behind3 .ensures .1))
+    let file = at-start .args .file .now in
+    let one = first-field file (at-start .pre) (at-behind .behind .ensures .0) (at-if1 .if1 .left) in
+    let two = second-field file (at-start .pre) one (at-behind2 .behind2 .ensures .0) (at-if3 .if3 .left) in (
+      third-field file (at-start .pre) one two (at-if2 .if2 .left) (at-behind3 .behind3 .ensures .0) (c .if4 .left),
+      third-standing file (at-start .pre) one two (at-behind3 .behind3 .ensures .0) (c .if4 .left) (omega (arith, at-behind2 .behind2 .ensures .1)) (at-behind3 .behind3 .ensures .1),
+    )
 
 pub exact-fields-spec : {M : Type 1} → statement M
 exact-fields-spec =

@@ -22,7 +22,10 @@ returns : tie.Need-returns
 returns c =
     let at-is-code = c .before in
     let at-start = at-is-code .before .before .before .before .before .before in
-    judged-no-code (at-start .args .file .now) (at-start .args .parts) (at-start .pre .0) _ _ (code-told (at-start .args .file .now) (at-start .args .parts) (at-start .pre .0) 0 0 (at-start .pre .1) refl (at-is-code .is-code .ensures) ∙ not-true (at-is-code .is-code .result) (c .if1 .taken))
+    let file = at-start .args .file .now in
+    let parts = at-start .args .parts in
+    let code = code-told file parts (at-start .pre .0) 0 0 (at-start .pre .1) refl (at-is-code .is-code .ensures) ∙ not-true (at-is-code .is-code .result) (c .if1 .taken) in
+    judged-no-code file parts (at-start .pre .0) _ _ code
 
 add-t12 : tie.Need-add-t12
 add-t12 c = search needs
@@ -33,7 +36,10 @@ returns-2 c =
     let at-if1 = at-if2 .before .before in
     let at-is-code = at-if1 .before in
     let at-start = at-is-code .before .before .before .before .before .before in
-    judged-behind-code (at-start .args .file .now) (at-start .args .parts) (at-start .pre .0) _ _ (code-told (at-start .args .file .now) (at-start .args .parts) (at-start .pre .0) 0 0 (at-start .pre .1) refl (at-is-code .is-code .ensures) ∙ not-false (at-is-code .is-code .result) (at-if1 .if1 .left)) (at-if2 .if2 .taken)
+    let file = at-start .args .file .now in
+    let parts = at-start .args .parts in
+    let code = code-told file parts (at-start .pre .0) 0 0 (at-start .pre .1) refl (at-is-code .is-code .ensures) ∙ not-false (at-is-code .is-code .result) (at-if1 .if1 .left) in
+    judged-behind-code file parts (at-start .pre .0) _ _ code (at-if2 .if2 .taken)
 
 add-t13 : tie.Need-add-t13
 add-t13 c = search needs
@@ -45,7 +51,10 @@ returns-3 c =
     let at-if1 = at-if2 .before .before in
     let at-is-code = at-if1 .before in
     let at-start = at-is-code .before .before .before .before .before .before in
-    judged-behind-result (at-start .args .file .now) (at-start .args .parts) (at-start .pre .0) _ _ (code-told (at-start .args .file .now) (at-start .args .parts) (at-start .pre .0) 0 0 (at-start .pre .1) refl (at-is-code .is-code .ensures) ∙ not-false (at-is-code .is-code .result) (at-if1 .if1 .left)) (at-if2 .if2 .left) (at-if3 .if3 .taken)
+    let file = at-start .args .file .now in
+    let parts = at-start .args .parts in
+    let code = code-told file parts (at-start .pre .0) 0 0 (at-start .pre .1) refl (at-is-code .is-code .ensures) ∙ not-false (at-is-code .is-code .result) (at-if1 .if1 .left) in
+    judged-behind-result file parts (at-start .pre .0) _ _ code (at-if2 .if2 .left) (at-if3 .if3 .taken)
 
 returns-4 : tie.Need-returns-4
 returns-4 c =
@@ -53,7 +62,10 @@ returns-4 c =
     let at-if1 = at-if2 .before .before in
     let at-is-code = at-if1 .before in
     let at-start = at-is-code .before .before .before .before .before .before in
-    judged-fine (at-start .args .file .now) (at-start .args .parts) (at-start .pre .0) _ _ (code-told (at-start .args .file .now) (at-start .args .parts) (at-start .pre .0) 0 0 (at-start .pre .1) refl (at-is-code .is-code .ensures) ∙ not-false (at-is-code .is-code .result) (at-if1 .if1 .left)) (at-if2 .if2 .left) (c .if3 .left)
+    let file = at-start .args .file .now in
+    let parts = at-start .args .parts in
+    let code = code-told file parts (at-start .pre .0) 0 0 (at-start .pre .1) refl (at-is-code .is-code .ensures) ∙ not-false (at-is-code .is-code .result) (at-if1 .if1 .left) in
+    judged-fine file parts (at-start .pre .0) _ _ code (at-if2 .if2 .left) (c .if3 .left)
 
 pub judge-spec : {M : Type 1} → statement M
 judge-spec =

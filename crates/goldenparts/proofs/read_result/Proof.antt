@@ -54,7 +54,13 @@ returns c =
     let at-r = c .before in
     let at-read-alone = at-r .before .before .before .before .before .before .before .before in
     let at-start = at-read-alone .before .before .before .before .before .before .before .before .before .before .before .before in
-    (result-refused (lent _ _ _ _) (at-start .args .file .now) (at-start .args .parts) (at-start .args .code) (at-read-alone .read-alone .ensures .0) (at-r .r .given .1), at-read-alone .read-alone .ensures .1, at-read-alone .read-alone .ensures .2, at-read-alone .read-alone .ensures .3)
+    let file = at-start .args .file .now in
+    let parts = at-start .args .parts in (
+      result-refused (lent _ _ _ _) file parts (at-start .args .code) (at-read-alone .read-alone .ensures .0) (at-r .r .given .1),
+      at-read-alone .read-alone .ensures .1,
+      at-read-alone .read-alone .ensures .2,
+      at-read-alone .read-alone .ensures .3,
+    )
 
 same-length-4 : tie.Need-same-length-4
 same-length-4 c = search needs
@@ -70,7 +76,13 @@ returns-2 c =
     let at-r2 = c .before .before in
     let at-read-alone = at-r2 .before .before .before .before .before .before .before .before in
     let at-start = at-read-alone .before .before .before .before .before .before .before .before .before .before .before .before in
-    (result-value (lent _ _ _ _) (at-start .args .file .now) (at-start .args .parts) (at-start .args .code) (at-read-alone .read-alone .ensures .0) (at-r2 .r2 .given .1) (c .judge .ensures), at-read-alone .read-alone .ensures .1, at-read-alone .read-alone .ensures .2, at-read-alone .read-alone .ensures .3)
+    let file = at-start .args .file .now in
+    let parts = at-start .args .parts in (
+      result-value (lent _ _ _ _) file parts (at-start .args .code) (at-read-alone .read-alone .ensures .0) (at-r2 .r2 .given .1) (c .judge .ensures),
+      at-read-alone .read-alone .ensures .1,
+      at-read-alone .read-alone .ensures .2,
+      at-read-alone .read-alone .ensures .3,
+    )
 
 pub read-result-spec : {M : Type 1} → statement M
 read-result-spec =

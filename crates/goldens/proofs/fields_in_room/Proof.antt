@@ -41,7 +41,12 @@ returns c =
     let at-if1 = c .before in
     let at-room-of = at-if1 .before .before .before in
     let at-start = at-room-of .before .before .before in
-    no-room (newForm (goldenIn (at-start .args .file .now) (at-start .args .parts))) (length (at-start .args .out .now)) (at-room-of .room-of .ensures .0) (golden-length (at-start .args .file .now) (at-start .args .parts) (at-start .pre .0) 0) (at-if1 .if1 .taken) (c .refused .ensures) (at-start .pre .3)
+    let file = at-start .args .file .now in
+    let out = at-start .args .out .now in
+    let parts = at-start .args .parts in
+    let golden = newForm (goldenIn file parts) in
+    let size = golden-length file parts (at-start .pre .0) 0 in
+    no-room golden (length out) (at-room-of .room-of .ensures .0) size (at-if1 .if1 .taken) (c .refused .ensures) (at-start .pre .3)
 
 put-fields-requires : tie.Need-put-fields-requires
 put-fields-requires c κs = search needs
@@ -58,7 +63,12 @@ returns-2 c =
     let at-if1 = at-put-fields .before .before in
     let at-room-of = at-if1 .before .before .before in
     let at-start = at-room-of .before .before .before in
-    in-room (newForm (goldenIn (at-start .args .file .now) (at-start .args .parts))) (length (at-start .args .out .now)) (at-room-of .room-of .ensures .0) (golden-length (at-start .args .file .now) (at-start .args .parts) (at-start .pre .0) 0) (at-room-of .room-of .ensures .1) (at-if1 .if1 .left) (at-put-fields .put-fields .ensures ∙ ap (λ o. sets o 0 (newForm (goldenIn (at-start .args .file .now) (at-start .args .parts)))) (at-start .pre .3))
+    let file = at-start .args .file .now in
+    let out = at-start .args .out .now in
+    let parts = at-start .args .parts in
+    let golden = newForm (goldenIn file parts) in
+    let size = golden-length file parts (at-start .pre .0) 0 in
+    in-room golden (length out) (at-room-of .room-of .ensures .0) size (at-room-of .room-of .ensures .1) (at-if1 .if1 .left) (at-put-fields .put-fields .ensures ∙ ap (λ o. sets o 0 golden) (at-start .pre .3))
 
 pub fields-in-room-spec : {M : Type 1} → statement M
 fields-in-room-spec =

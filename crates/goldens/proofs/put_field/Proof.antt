@@ -26,7 +26,9 @@ returns c =
     let at-copy-bytes = c .before .before in
     let at-put-header = at-copy-bytes .before .before .before .before in
     let at-start = at-put-header .before .before .before .before in
-    field-put (at-start .args .out .now) (at-start .args .at) (at-start .args .tag) (at-start .args .file .now) (at-start .args .start) (at-start .args .size) (at-start .pre .1) (at-put-header .put-header .ensures) (at-copy-bytes .copy-bytes .ensures)
+    let file = at-start .args .file .now in
+    let out = at-start .args .out .now in
+    field-put out (at-start .args .at) (at-start .args .tag) file (at-start .args .start) (at-start .args .size) (at-start .pre .1) (at-put-header .put-header .ensures) (at-copy-bytes .copy-bytes .ensures)
 
 pub put-field-spec : {M : Type 1} → statement M
 put-field-spec =

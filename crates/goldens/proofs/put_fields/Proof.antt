@@ -42,7 +42,10 @@ returns c =
     let at-put-field = at-put-field2 .before .before .before .before .before .before in
     let at-put-edition = at-put-field .before .before .before .before .before in
     let at-start = at-put-edition .before .before .before .before .before .before .before in
-    fields-put (at-start .args .file .now) (at-start .args .parts) (at-start .pre .0) (at-start .args .out .now) (at-put-edition .put-edition .ensures) (at-put-field .put-field .ensures) (at-put-field2 .put-field2 .ensures)
+    let file = at-start .args .file .now in
+    let out = at-start .args .out .now in
+    let parts = at-start .args .parts in
+    fields-put file parts (at-start .pre .0) out (at-put-edition .put-edition .ensures) (at-put-field .put-field .ensures) (at-put-field2 .put-field2 .ensures)
 
 pub put-fields-spec : {M : Type 1} → statement M
 put-fields-spec =

@@ -37,7 +37,10 @@ write-fields-requires c κs =
     let at-old-parts = at-p2 .before .before .before .before .before .before .before .before in
     let at-clear-bytes = at-old-parts .before .before .before .before .before .before in
     let at-start = at-clear-bytes .before .before .before .before .before .before .before in
-    (subst (StandingIn (length (at-start .args .plain .now))) (ap takenOf (at-p2 .p2 .given .1)) (at-old-parts .old-parts .ensures .1), at-clear-bytes .clear-bytes .ensures ∙ ap zeros (sym (at-clear-bytes .clear-bytes .kept .0)))
+    let plain = at-start .args .plain .now in (
+      subst (StandingIn (length plain)) (ap takenOf (at-p2 .p2 .given .1)) (at-old-parts .old-parts .ensures .1),
+      at-clear-bytes .clear-bytes .ensures ∙ ap zeros (sym (at-clear-bytes .clear-bytes .kept .0)),
+    )
 
 same-length : tie.Need-same-length
 same-length c = search needs
@@ -57,7 +60,13 @@ returns c =
     let at-old-parts = at-p .before .before .before .before .before .before .before .before in
     let at-clear-bytes = at-old-parts .before .before .before .before .before .before in
     let at-start = at-clear-bytes .before .before .before .before .before .before .before in
-    (refused-as _ _ (length (at-start .args .out .now)) (c .refused .ensures) (at-clear-bytes .clear-bytes .ensures) ∙ old-stopped (lent _ _ _ _) (at-start .args .plain .now) (length (at-start .args .out .now)) _ (at-old-parts .old-parts .ensures .0) (at-p .p .given .1), at-old-parts .old-parts .ensures .2, at-old-parts .old-parts .ensures .3, at-old-parts .old-parts .ensures .4)
+    let plain = at-start .args .plain .now in
+    let out = at-start .args .out .now in (
+      refused-as _ _ (length out) (c .refused .ensures) (at-clear-bytes .clear-bytes .ensures) ∙ old-stopped (lent _ _ _ _) plain (length out) _ (at-old-parts .old-parts .ensures .0) (at-p .p .given .1),
+      at-old-parts .old-parts .ensures .2,
+      at-old-parts .old-parts .ensures .3,
+      at-old-parts .old-parts .ensures .4,
+    )
 
 same-length-5 : tie.Need-same-length-5
 same-length-5 c = search needs
@@ -78,7 +87,13 @@ returns-2 c =
     let at-old-parts = at-p2 .before .before .before .before .before .before .before .before in
     let at-clear-bytes = at-old-parts .before .before .before .before .before .before in
     let at-start = at-clear-bytes .before .before .before .before .before .before .before in
-    (old-moved (lent _ _ _ _) (at-start .args .plain .now) (length (at-start .args .out .now)) _ (at-old-parts .old-parts .ensures .0) (at-p2 .p2 .given .1) (at-clear-bytes .clear-bytes .kept .0) (at-write-fields .write-fields .ensures), at-old-parts .old-parts .ensures .2, at-old-parts .old-parts .ensures .3, at-old-parts .old-parts .ensures .4)
+    let plain = at-start .args .plain .now in
+    let out = at-start .args .out .now in (
+      old-moved (lent _ _ _ _) plain (length out) _ (at-old-parts .old-parts .ensures .0) (at-p2 .p2 .given .1) (at-clear-bytes .clear-bytes .kept .0) (at-write-fields .write-fields .ensures),
+      at-old-parts .old-parts .ensures .2,
+      at-old-parts .old-parts .ensures .3,
+      at-old-parts .old-parts .ensures .4,
+    )
 
 pub to-fields-spec : {M : Type 1} → statement M
 to-fields-spec =

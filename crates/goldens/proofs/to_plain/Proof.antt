@@ -37,7 +37,10 @@ write-plain-requires c κs =
     let at-new-parts = at-p2 .before .before .before .before .before .before .before .before in
     let at-clear-bytes = at-new-parts .before .before .before .before .before .before in
     let at-start = at-clear-bytes .before .before .before .before .before .before .before in
-    (subst (StandingIn (length (at-start .args .fields .now))) (ap takenOf (at-p2 .p2 .given .1)) (at-new-parts .new-parts .ensures .1), at-clear-bytes .clear-bytes .ensures ∙ ap zeros (sym (at-clear-bytes .clear-bytes .kept .0)))
+    let fields = at-start .args .fields .now in (
+      subst (StandingIn (length fields)) (ap takenOf (at-p2 .p2 .given .1)) (at-new-parts .new-parts .ensures .1),
+      at-clear-bytes .clear-bytes .ensures ∙ ap zeros (sym (at-clear-bytes .clear-bytes .kept .0)),
+    )
 
 same-length : tie.Need-same-length
 same-length c = search needs
@@ -57,7 +60,13 @@ returns c =
     let at-new-parts = at-p .before .before .before .before .before .before .before .before in
     let at-clear-bytes = at-new-parts .before .before .before .before .before .before in
     let at-start = at-clear-bytes .before .before .before .before .before .before .before in
-    (refused-as _ _ (length (at-start .args .out .now)) (c .refused .ensures) (at-clear-bytes .clear-bytes .ensures) ∙ new-stopped (lent _ _ _ _) (at-start .args .fields .now) (length (at-start .args .out .now)) _ (at-new-parts .new-parts .ensures .0) (at-p .p .given .1), at-new-parts .new-parts .ensures .2, at-new-parts .new-parts .ensures .3, at-new-parts .new-parts .ensures .4)
+    let fields = at-start .args .fields .now in
+    let out = at-start .args .out .now in (
+      refused-as _ _ (length out) (c .refused .ensures) (at-clear-bytes .clear-bytes .ensures) ∙ new-stopped (lent _ _ _ _) fields (length out) _ (at-new-parts .new-parts .ensures .0) (at-p .p .given .1),
+      at-new-parts .new-parts .ensures .2,
+      at-new-parts .new-parts .ensures .3,
+      at-new-parts .new-parts .ensures .4,
+    )
 
 same-length-5 : tie.Need-same-length-5
 same-length-5 c = search needs
@@ -78,7 +87,13 @@ returns-2 c =
     let at-new-parts = at-p2 .before .before .before .before .before .before .before .before in
     let at-clear-bytes = at-new-parts .before .before .before .before .before .before in
     let at-start = at-clear-bytes .before .before .before .before .before .before .before in
-    (new-moved (lent _ _ _ _) (at-start .args .fields .now) (length (at-start .args .out .now)) _ (at-new-parts .new-parts .ensures .0) (at-p2 .p2 .given .1) (at-clear-bytes .clear-bytes .kept .0) (at-write-plain .write-plain .ensures), at-new-parts .new-parts .ensures .2, at-new-parts .new-parts .ensures .3, at-new-parts .new-parts .ensures .4)
+    let fields = at-start .args .fields .now in
+    let out = at-start .args .out .now in (
+      new-moved (lent _ _ _ _) fields (length out) _ (at-new-parts .new-parts .ensures .0) (at-p2 .p2 .given .1) (at-clear-bytes .clear-bytes .kept .0) (at-write-plain .write-plain .ensures),
+      at-new-parts .new-parts .ensures .2,
+      at-new-parts .new-parts .ensures .3,
+      at-new-parts .new-parts .ensures .4,
+    )
 
 pub to-plain-spec : {M : Type 1} → statement M
 to-plain-spec =

@@ -18,7 +18,10 @@ returns : tie.Need-returns
 returns c =
     let at-if1 = c .before in
     let at-start = at-if1 .before .before .before .before in
-    refused-as _ _ (length (at-start .args .out .now)) (c .refused .ensures) (at-start .pre .1) ∙ code-too-long (at-start .args .file .now) (at-start .args .parts) (at-start .pre .0) (length (at-start .args .out .now)) (at-if1 .if1 .taken)
+    let file = at-start .args .file .now in
+    let out = at-start .args .out .now in
+    let parts = at-start .args .parts in
+    refused-as _ _ (length out) (c .refused .ensures) (at-start .pre .1) ∙ code-too-long file parts (at-start .pre .0) (length out) (at-if1 .if1 .taken)
 
 refused-requires-2 : tie.Need-refused-requires-2
 refused-requires-2 c κs = search needs
@@ -28,7 +31,10 @@ returns-2 c =
     let at-if2 = c .before in
     let at-if1 = at-if2 .before .before in
     let at-start = at-if1 .before .before .before .before in
-    refused-as _ _ (length (at-start .args .out .now)) (c .refused2 .ensures) (at-start .pre .1) ∙ result-too-long (at-start .args .file .now) (at-start .args .parts) (at-start .pre .0) (length (at-start .args .out .now)) (at-if1 .if1 .left) (at-if2 .if2 .taken)
+    let file = at-start .args .file .now in
+    let out = at-start .args .out .now in
+    let parts = at-start .args .parts in
+    refused-as _ _ (length out) (c .refused2 .ensures) (at-start .pre .1) ∙ result-too-long file parts (at-start .pre .0) (length out) (at-if1 .if1 .left) (at-if2 .if2 .taken)
 
 fields-in-room-requires : tie.Need-fields-in-room-requires
 fields-in-room-requires c κs = search needs
@@ -42,7 +48,10 @@ returns-3 c =
     let at-if2 = at-fields-in-room .before .before in
     let at-if1 = at-if2 .before .before in
     let at-start = at-if1 .before .before .before .before in
-    at-fields-in-room .fields-in-room .ensures ∙ both-held (at-start .args .file .now) (at-start .args .parts) (at-start .pre .0) (length (at-start .args .out .now)) (at-if1 .if1 .left) (at-if2 .if2 .left)
+    let file = at-start .args .file .now in
+    let out = at-start .args .out .now in
+    let parts = at-start .args .parts in
+    at-fields-in-room .fields-in-room .ensures ∙ both-held file parts (at-start .pre .0) (length out) (at-if1 .if1 .left) (at-if2 .if2 .left)
 
 pub write-fields-spec : {M : Type 1} → statement M
 write-fields-spec =

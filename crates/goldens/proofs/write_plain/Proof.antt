@@ -38,7 +38,12 @@ returns c =
     let at-if1 = c .before in
     let at-room-of = at-if1 .before .before .before in
     let at-start = at-room-of .before .before .before in
-    no-room (oldForm (goldenIn (at-start .args .file .now) (at-start .args .parts))) (length (at-start .args .out .now)) (at-room-of .room-of .ensures .0) (plain-length (at-start .args .file .now) (at-start .args .parts) (at-start .pre .0) 0) (at-if1 .if1 .taken) (c .refused .ensures) (at-start .pre .1)
+    let file = at-start .args .file .now in
+    let out = at-start .args .out .now in
+    let parts = at-start .args .parts in
+    let golden = oldForm (goldenIn file parts) in
+    let size = plain-length file parts (at-start .pre .0) 0 in
+    no-room golden (length out) (at-room-of .room-of .ensures .0) size (at-if1 .if1 .taken) (c .refused .ensures) (at-start .pre .1)
 
 put-plain-requires : tie.Need-put-plain-requires
 put-plain-requires c κs = search needs
@@ -55,7 +60,12 @@ returns-2 c =
     let at-if1 = at-put-plain .before .before in
     let at-room-of = at-if1 .before .before .before in
     let at-start = at-room-of .before .before .before in
-    in-room (oldForm (goldenIn (at-start .args .file .now) (at-start .args .parts))) (length (at-start .args .out .now)) (at-room-of .room-of .ensures .0) (plain-length (at-start .args .file .now) (at-start .args .parts) (at-start .pre .0) 0) (at-room-of .room-of .ensures .1) (at-if1 .if1 .left) (at-put-plain .put-plain .ensures ∙ ap (λ o. sets o 0 (oldForm (goldenIn (at-start .args .file .now) (at-start .args .parts)))) (at-start .pre .1))
+    let file = at-start .args .file .now in
+    let out = at-start .args .out .now in
+    let parts = at-start .args .parts in
+    let golden = oldForm (goldenIn file parts) in
+    let size = plain-length file parts (at-start .pre .0) 0 in
+    in-room golden (length out) (at-room-of .room-of .ensures .0) size (at-room-of .room-of .ensures .1) (at-if1 .if1 .left) (at-put-plain .put-plain .ensures ∙ ap (λ o. sets o 0 golden) (at-start .pre .1))
 
 pub write-plain-spec : {M : Type 1} → statement M
 write-plain-spec =
