@@ -14,10 +14,10 @@
  * - refusal is 0 where the call was accepted; then place is 0, and what was written is followed by zeros to the store's end.
  *   Otherwise refusal is one of the numbers below, and place says where, as told beside the field; every other field is 0,
  *   and so is every element of every store lent for writing, but for the state of a line table by piece, which
- *   keeps the refusal.
+ *   keeps the refusal, and for what sill_keep and sill_read_more leave of a value that is kept.
  * - A truth is 0 or 1. A field named pad is 0.
- * - The functions below need less than 1 KiB of stack, those of settings files less than 4 KiB; of sill_read, sill_write and the
- *   moves of golden files see there.
+ * - The functions below need less than 1 KiB of stack, those of settings files less than 4 KiB; of sill_read, sill_read_more,
+ *   sill_write and the moves of golden files see there.
  */
 #ifndef SILLGARLAND_H
 #define SILLGARLAND_H
@@ -271,7 +271,7 @@ sill_located_t sill_locations(const uint8_t *table, size_t table_len, int32_t fi
  * whole is 0.
  * A refusal zeroes all records. The state keeps 14 (pieces above 16 MiB together, at 0, before the piece's bytes are used), 17 (fewer
  * records than count at any call, place is records_len / 4) and 18 (place as sill_locate's, in the call whose bytes first show it),
- * and every later call repeats it: the one store that a refusal does not clear. A state of fewer numbers is 17 before all, place is
+ * and every later call repeats it: this store a refusal does not clear. A state of fewer numbers is 17 before all, place is
  * state_len, and is cleared. 21 at 0: the reading has ended, or the numbers are no state that a call leaves (all zeros are none). */
 enum { SILL_STATE_NUMBERS = 40 };
 sill_located_t sill_locate_begin(int32_t first_line, uint32_t count, uint32_t *state, size_t state_len, uint32_t *records,
@@ -430,11 +430,22 @@ typedef struct {
     uint32_t slots_before; /* how many slots were reserved before its header */
 } sill_span_t;
 
-/* Reads the value at the input's start. The input has at most SILL_MOST_BYTES (14). nodes holds six numbers a node: letter,
- * place, size, first entry, count, and the place after its last byte; entries two an entry: node, next entry; slots one a slot:
- * 0 while open, else node + 1. No entry is SILL_NOTHING. Each capacity counts as at most SILL_MOST_RECORDS records, nesting as at most SILL_MOST_NESTING. A
- * record of each kind for every byte of the input is always enough; fewer do for most inputs, and 11, 12 and 13 ask for
- * more. The root is node 0. A nesting of 2,000 needs less than 1 MiB of stack. */
+typedef struct {
+    uint32_t refusal; /* 17: the stack is shorter than sill_keep_need says, place is stack_len; then, as they are met, 16: place is a
+                         node's number that is not among those used, or that of a container with a bad chain */
+    uint32_t place;
+    uint32_t nodes;   /* how many nodes and entries are kept */
+    uint32_t entries;
+    uint32_t free_nodes; /* how many more the stores have room for: what sill_read_more can claim */
+    uint32_t free_entries;
+} sill_kept_t;
+
+/* Reads the value at the input's start. The input has at most SILL_MOST_BYTES (14). nodes holds seven numbers a node: letter,
+ * place, size, first entry, count, the place after its last byte, and the number of the input, which is 0 here; entries two an
+ * entry: node, next entry; slots one a slot: 0 while open, else node + 1. No entry is SILL_NOTHING. Each capacity (nodes_len / 7,
+ * entries_len / 2, slots_len) counts as at most SILL_MOST_RECORDS records, nesting as at most SILL_MOST_NESTING. A record of each
+ * kind for every byte of the input is always enough; fewer do for most inputs, and 11, 12 and 13 ask for more. The root is node
+ * 0. A nesting of 2,000 needs less than 1 MiB of stack. */
 sill_read_t sill_read(const uint8_t *input, size_t input_len, uint32_t *nodes, size_t nodes_len, uint32_t *entries,
                       size_t entries_len, uint32_t *slots, size_t slots_len, uint32_t nesting);
 
@@ -450,10 +461,34 @@ sill_leaf_t sill_leaf(const uint8_t *input, size_t input_len, const uint32_t *no
                       uint32_t node);
 
 /* The bytes of a node, from its header to its end; of one that is shared by reference, where it stands itself. Any stores may be
- * asked, of which so many nodes and entries count as used. Of stores that a reading left: where closed is 1, the bytes alone, each
- * reference's index in them lowered by slots_before, read as the same value. */
+ * asked, of which so many nodes and entries count as used; nodes with another input's number than the asked one's stand in no bytes of
+ * this one. Of stores that a reading left: where closed is 1, the bytes alone, each reference's index in them lowered by slots_before,
+ * read as the same value. Of stores that sill_keep moved the slots of what was not kept are not counted. */
 sill_span_t sill_span(const uint8_t *input, size_t input_len, const uint32_t *nodes, size_t nodes_len, const uint32_t *entries,
                       size_t entries_len, uint32_t used_nodes, uint32_t used_entries, uint32_t node);
+
+/* Moves a node and everything reachable from it to the front of the stores, numbered in order of first visit from that node, depth
+ * first, with entries container by container in that order; behind them all is zero, and so are the slots. The node becomes node 0,
+ * its value is the same, what was shared stays shared, and each node keeps the number of its input. Any stores may be lent, of which
+ * so many nodes and entries count as used. A chain is walked to its count when its container is first visited, before its children;
+ * it is bad where an entry is not among those used or was met before, in this chain or another.
+ * The stack is working room, which is zero afterwards in every case. Refused, nodes, entries and slots are as they were. */
+sill_kept_t sill_keep(uint32_t *nodes, size_t nodes_len, uint32_t *entries, size_t entries_len, uint32_t *slots, size_t slots_len,
+                      uint32_t used_nodes, uint32_t used_entries, uint32_t node, uint32_t *stack, size_t stack_len);
+
+/* How many numbers of stack sill_keep needs where so many nodes and entries are used. */
+uint64_t sill_keep_need(uint32_t used_nodes, uint32_t used_entries);
+
+/* Reads a value behind kept ones: the first kept_nodes nodes and kept_entries entries stay, and the value's nodes and entries are those
+ * of sill_read, their numbers raised by the kept ones; each of its nodes has input_number. The root is node kept_nodes. The counts are
+ * kept plus new, the slots begin at 0 again. Refusals in this order: 14; then 11 at 0 where more nodes are kept than the capacity, 12
+ * at 0 where more entries are; then those of sill_read. Refused, the first 7 * kept_nodes numbers of nodes and 2 * kept_entries of
+ * entries are as they were (all, where the store is shorter), and everything behind them and every slot is zero. So it may be tried
+ * again in longer stores that begin with what is kept. Which input belongs to which number is the caller's to know: every other
+ * function is to be lent the one that the node's seventh number names. Nesting, and the stack that it needs, as in sill_read. */
+sill_read_t sill_read_more(const uint8_t *input, size_t input_len, uint32_t *nodes, size_t nodes_len, uint32_t *entries,
+                           size_t entries_len, uint32_t *slots, size_t slots_len, uint32_t nesting, uint32_t kept_nodes,
+                           uint32_t kept_entries, uint32_t input_number);
 
 /* The line table that is a bytes node's contents, as sill_locate reads it: 14 at 0, then 16 at the node number where its
  * record is not sound or it is not bytes. Places of 18 count from the table's start. */

@@ -116,17 +116,16 @@ class Value:
         >>> pair.alone()
         b')\\x02\\xcer\\x00\\x00\\x00\\x00'
         """
-        reading = self._reading
+        reading, node = self._reading.by_itself(self.node)
         told = accepted(
             lib.sill_span(
                 *reading.input(), reading.nodes, NODE * reading.used_nodes, reading.entries, 2 * reading.used_entries,
-                reading.used_nodes, reading.used_entries, self.node,
+                reading.used_nodes, reading.used_entries, node,
             )
         )
         if not told.closed:
             return None
         found = bytearray(reading.data[reading.start + told.start : reading.start + told.end])
-        node = self.node
         while node < reading.used_nodes and reading.header(node) < told.end:
             for at, _ in reading.references(node):
                 index = slice(at + 1 - told.start, at + 5 - told.start)

@@ -52,6 +52,7 @@ def _numbers(*names: str) -> List[Tuple[str, Any]]:
 Read = _answer("Read", *_numbers("consumed", "nodes", "entries", "slots"))
 Leaf = _answer("Leaf", *_numbers("kind", "pad"), ("first", c_uint64), ("second", c_uint64))
 Span = _answer("Span", *_numbers("start", "end", "closed", "slots_before"))
+Kept = _answer("Kept", *_numbers("nodes", "entries", "free_nodes", "free_entries"))
 Written = _answer("Written", *_numbers("written"))
 Located = _answer("Located", *_numbers("from_entries", "whole"))
 Sourced = _answer("Sourced", *_numbers("from_entries", "with_line", "with_columns", "sure"))
@@ -64,7 +65,7 @@ Moved = _answer("Moved", *_numbers("written"))
 _library = _loaded()
 
 
-def _function(name: str, answer: Type[Structure], parameters: str) -> Any:
+def _function(name: str, answer: Any, parameters: str) -> Any:
     """A function by its parameters: `s` a slice (a pointer and a length), `u` and `i` numbers of 32 bits."""
     kinds = {"s": (c_void_p, c_size_t), "u": (c_uint32,), "i": (c_int32,)}
     function = getattr(_library, name)
@@ -77,6 +78,9 @@ sill_read = _function("sill_read", Read, "ssssu")
 sill_write = _function("sill_write", Written, "sssuuuus")
 sill_leaf = _function("sill_leaf", Leaf, "ssuu")
 sill_span = _function("sill_span", Span, "sssuuu")
+sill_keep = _function("sill_keep", Kept, "sssuuus")
+sill_keep_need = _function("sill_keep_need", c_uint64, "uu")
+sill_read_more = _function("sill_read_more", Read, "ssssuuuu")
 sill_locate = _function("sill_locate", Located, "sius")
 sill_sources = _function("sill_sources", Sourced, "sius")
 sill_read_exceptions = _function("sill_read_exceptions", Exceptions, "ss")

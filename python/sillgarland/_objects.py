@@ -105,7 +105,8 @@ class Builder:
 
     def __init__(self, reading: Reading, code: Callable[[int], Any]) -> None:
         nodes, entries = reading.numbers
-        self.letters, self.places, self.sizes, self.firsts, self.counts = (nodes[at::NODE].tolist() for at in range(5))
+        self.letters = reading.own_letters()
+        self.places, self.sizes, self.firsts, self.counts = (nodes[at::NODE].tolist() for at in range(1, 5))
         self.children, self.nexts = entries[0::ENTRY].tolist(), entries[1::ENTRY].tolist()
         self.data = reading.data[reading.start : reading.end]
         self.lazy_code = code

@@ -10,7 +10,7 @@ from ._refused import Refused, refusal_of
 
 Buffer = Union[bytes, bytearray, memoryview]
 
-NODE = 6  # numbers a node: letter, place, size, first entry, count, end
+NODE = 7  # numbers a node: letter, place, size, first entry, count, end, the input's number
 ENTRY = 2  # numbers an entry: node, next entry
 HEADERS = 10  # bytes of a golden in fields beside its two values
 _NUMBER = 4  # bytes a number
@@ -81,6 +81,13 @@ class Reading:
             entry = entries[ENTRY * entry + 1]
         return found
 
+    def own_letters(self) -> List[int]:
+        """The letter of each node."""
+        return self.numbers[0][::NODE].tolist()
+
+    def by_itself(self, node: int) -> Tuple["Reading", int]:
+        """This value as a reading alone leaves it, and the node's number there."""
+        return self, node
 
     def header(self, node: int) -> int:
         """Where a node's header stands: before its place, and before a string's length."""

@@ -9,7 +9,7 @@ enum { MOST = 4096, INSTRUCTION = 40 };
 static const char *const refusals[] = {"accepted", SILL_EACH_REFUSAL(NAMED)};
 
 static uint8_t input[MOST];
-static uint32_t nodes[6 * MOST], entries[2 * MOST], slots[MOST], records[4 * MOST];
+static uint32_t nodes[7 * MOST], entries[2 * MOST], slots[MOST], records[4 * MOST];
 static uint8_t sources[MOST];
 
 /* The node that is a code object's part, by its number from 0. */
@@ -19,7 +19,7 @@ static const uint32_t *part(uint32_t at)
     while (at-- > 0) {
         entry = entries[2 * entry + 1];
     }
-    return nodes + 6 * entries[2 * entry];
+    return nodes + 7 * entries[2 * entry];
 }
 
 static int show(const char *path)
@@ -31,7 +31,7 @@ static int show(const char *path)
     }
     size_t size = fread(input, 1, MOST, file);
     fclose(file);
-    sill_read_t read = sill_read(input, size, nodes, 6 * MOST, entries, 2 * MOST, slots, MOST, SILL_MOST_NESTING);
+    sill_read_t read = sill_read(input, size, nodes, 7 * MOST, entries, 2 * MOST, slots, MOST, SILL_MOST_NESTING);
     if (read.refusal != SILL_ACCEPTED || nodes[0] != 'c') {
         printf("%s: %s at byte %u\n", path, read.refusal ? refusals[read.refusal] : "no code object", (unsigned)read.place);
         return 1;

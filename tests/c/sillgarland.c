@@ -55,34 +55,35 @@ static void test_varints(void)
 
 /* ---- values */
 
-static sill_read_t read_with(const void *input, size_t length, uint32_t nodes[18], uint32_t nesting)
+static sill_read_t read_with(const void *input, size_t length, uint32_t nodes[21], uint32_t nesting)
 {
     uint32_t entries[4], slots[1];
-    return sill_read((const uint8_t *)input, length, nodes, 18, entries, LENGTH(entries), slots, LENGTH(slots), nesting);
+    return sill_read((const uint8_t *)input, length, nodes, 21, entries, LENGTH(entries), slots, LENGTH(slots), nesting);
 }
 
 static void expect_refused(const char *input, size_t length, uint32_t nesting, uint32_t refusal, uint32_t place)
 {
-    uint32_t nodes[18];
+    uint32_t nodes[21];
     memset(nodes, 7, sizeof nodes);
     sill_read_t read = read_with(input, length, nodes, nesting);
     expect(read.refusal == refusal && read.place == place, "refused with its number and place");
-    expect(read.consumed == 0 && read.nodes == 0 && all_zero(nodes, 18), "and nothing is left behind");
+    expect(read.consumed == 0 && read.nodes == 0 && all_zero(nodes, 21), "and nothing is left behind");
 }
 
 /* P1 to P12 of document 01. */
 static void test_sheets(void)
 {
-    uint32_t nodes[18], entries[4], slots[1];
+    uint32_t nodes[21], entries[4], slots[1];
     sill_read_t read = read_with("N", 1, nodes, 2000);
     expect(read.refusal == 0 && read.consumed == 1 && read.nodes == 1, "P1");
 
     read = read_with(")\x02i\x01\0\0\0T", 8, nodes, 2000);
     expect(read.refusal == 0 && read.consumed == 8 && read.nodes == 3 && read.entries == 2, "P4");
-    expect(nodes[0] == ')' && nodes[4] == 2 && nodes[5] == 8 && nodes[6] == 'i' && nodes[7] == 3 && nodes[8] == 4 && nodes[11] == 7,
+    expect(nodes[0] == ')' && nodes[4] == 2 && nodes[5] == 8 && nodes[6] == 0 && nodes[7] == 'i' && nodes[8] == 3 && nodes[9] == 4 &&
+               nodes[12] == 7,
            "P4's nodes");
 
-    read = sill_read((const uint8_t *)")\x02\xE9\x05\0\0\0r\0\0\0\0", 12, nodes, 18, entries, 4, slots, 1, 2000);
+    read = sill_read((const uint8_t *)")\x02\xE9\x05\0\0\0r\0\0\0\0", 12, nodes, 21, entries, 4, slots, 1, 2000);
     expect(read.refusal == 0 && read.nodes == 2 && read.slots == 1, "P6");
     expect(entries[0] == 1 && entries[1] == 1 && entries[2] == 1 && entries[3] == NONE, "P6: both entries name node 1");
 
@@ -102,7 +103,7 @@ static void test_sheets(void)
 static void test_leaves(void)
 {
     static const uint8_t input[] = ")\x02i\xFE\xFF\xFF\xFFT";
-    uint32_t nodes[18];
+    uint32_t nodes[21];
     sill_read_t read = read_with(input, 8, nodes, 2000);
     sill_leaf_t leaf = sill_leaf(input, 8, nodes, LENGTH(nodes), read.nodes, 1);
     expect(leaf.refusal == 0 && leaf.kind == 5 && (int64_t)leaf.first == -2 && leaf.pad == 0, "a whole number");
@@ -118,18 +119,18 @@ static void test_leaves(void)
 static void test_spans(void)
 {
     const uint8_t *input = (const uint8_t *)")\x02\xE9\x05\0\0\0)\x01r\0\0\0\0";
-    uint32_t nodes[18], entries[6], slots[1];
-    sill_read_t read = sill_read(input, 14, nodes, 18, entries, 6, slots, 1, 2000);
-    sill_span_t span = sill_span(input, 14, nodes, 18, entries, 6, read.nodes, read.entries, 0);
+    uint32_t nodes[21], entries[6], slots[1];
+    sill_read_t read = sill_read(input, 14, nodes, 21, entries, 6, slots, 1, 2000);
+    sill_span_t span = sill_span(input, 14, nodes, 21, entries, 6, read.nodes, read.entries, 0);
     expect(span.refusal == 0 && span.start == 0 && span.end == 14 && span.closed == 1 && span.slots_before == 0, "the root's span");
-    span = sill_span(input, 14, nodes, 18, entries, 6, read.nodes, read.entries, 1);
+    span = sill_span(input, 14, nodes, 21, entries, 6, read.nodes, read.entries, 1);
     expect(span.refusal == 0 && span.start == 2 && span.end == 7 && span.closed == 1 && span.slots_before == 0, "a shared number's");
-    span = sill_span(input, 14, nodes, 18, entries, 6, read.nodes, read.entries, 2);
+    span = sill_span(input, 14, nodes, 21, entries, 6, read.nodes, read.entries, 2);
     expect(span.refusal == 0 && span.start == 7 && span.end == 14 && span.closed == 0 && span.slots_before == 1, "one with a reference out of it");
-    span = sill_span(input, 14, nodes, 18, entries, 6, read.nodes, read.entries, 3);
+    span = sill_span(input, 14, nodes, 21, entries, 6, read.nodes, read.entries, 3);
     expect(span.refusal == 16 && span.place == 3 && span.end == 0, "a node that is not there");
-    nodes[17] = 15;
-    span = sill_span(input, 14, nodes, 18, entries, 6, read.nodes, read.entries, 2);
+    nodes[19] = 15;
+    span = sill_span(input, 14, nodes, 21, entries, 6, read.nodes, read.entries, 2);
     expect(span.refusal == 16 && span.place == 2, "an end beyond the input");
 }
 
@@ -137,22 +138,65 @@ static void test_spans(void)
 static void test_writing(void)
 {
     static const uint8_t input[] = ")\x02\xE9\x05\0\0\0r\0\0\0\0";
-    uint32_t nodes[12], entries[4], slots[1];
+    uint32_t nodes[14], entries[4], slots[1];
     uint8_t out[16];
-    sill_read_t read = sill_read(input, 12, nodes, 12, entries, 4, slots, 1, 2000);
+    sill_read_t read = sill_read(input, 12, nodes, 14, entries, 4, slots, 1, 2000);
     memset(out, 7, sizeof out);
-    sill_written_t written = sill_write(input, 12, nodes, 12, entries, 4, read.nodes, read.entries, 0, 2, out, 16);
+    sill_written_t written = sill_write(input, 12, nodes, 14, entries, 4, read.nodes, read.entries, 0, 2, out, 16);
     expect(written.refusal == 0 && written.written == 15, "P6 in its canonical form");
     expect(memcmp(out, "(\x02\0\0\0i\x05\0\0\0i\x05\0\0\0\0", 16) == 0, "its bytes, and zeros follow");
 
-    written = sill_write(input, 12, nodes, 12, entries, 4, read.nodes, read.entries, 0, 1, out, 16);
+    written = sill_write(input, 12, nodes, 14, entries, 4, read.nodes, read.entries, 0, 1, out, 16);
     expect(written.refusal == 10 && written.place == 1 && written.written == 0, "too deep at the child");
-    written = sill_write(input, 12, nodes, 12, entries, 4, read.nodes, read.entries, 2, 2, out, 16);
+    written = sill_write(input, 12, nodes, 14, entries, 4, read.nodes, read.entries, 2, 2, out, 16);
     expect(written.refusal == 16 && written.place == 2, "no such node to write");
     memset(out, 7, sizeof out);
-    written = sill_write(input, 12, nodes, 12, entries, 4, read.nodes, read.entries, 0, 2, out, 14);
+    written = sill_write(input, 12, nodes, 14, entries, 4, read.nodes, read.entries, 0, 2, out, 14);
     expect(written.refusal == 17 && written.place == 14, "one byte short");
     expect(memcmp(out, "\0\0\0\0\0\0\0\0\0\0\0\0\0\0\x07\x07", 16) == 0, "and the fourteen lent bytes are zero");
+}
+
+/* ---- a value kept, and more read behind it */
+
+/* The second part of a pair is moved to the front with the text before it that it shares; then a number from another input goes behind. */
+static void test_keeping(void)
+{
+    const uint8_t *first = (const uint8_t *)")\x02\xFA\x03" "abc[\x02\0\0\0r\0\0\0\0T", *second = (const uint8_t *)"\xA9\x01i\x09\0\0\0";
+    uint32_t nodes[50], entries[13], slots[2], stack[21], before[50];
+    uint8_t out[16];
+    sill_read_t read = sill_read(first, 18, nodes, 50, entries, 13, slots, 2, 2000);
+    expect(read.refusal == 0 && read.nodes == 4 && read.entries == 4 && read.slots == 1, "a pair");
+    expect(sill_keep_need(4, 4) == 20 && sill_keep_need(0, 0) == 0 && sill_keep_need(UINT32_MAX, UINT32_MAX) == 5 * 1048576, "the need");
+
+    memcpy(before, nodes, sizeof nodes);
+    memset(stack, 7, sizeof stack);
+    sill_kept_t kept = sill_keep(nodes, 50, entries, 13, slots, 2, 4, 4, 9, stack, 19);
+    expect(kept.refusal == SILL_NO_ROOM && kept.place == 19 && kept.nodes == 0, "a stack one number short, before a bad number");
+    expect(all_zero(stack, 19) && stack[19] == 0x07070707 && slots[0] == 2, "the stack is zero, and the slots stay");
+    kept = sill_keep(nodes, 50, entries, 13, slots, 2, 4, 4, 4, stack, 20);
+    expect(kept.refusal == SILL_BAD_TABLE && kept.place == 4 && !memcmp(before, nodes, sizeof nodes), "no such node, and all stays");
+
+    kept = sill_keep(nodes, 50, entries, 13, slots, 2, 4, 4, 2, stack, 20);
+    expect(kept.refusal == 0 && kept.nodes == 3 && kept.entries == 2 && kept.free_nodes == 4 && kept.free_entries == 4, "the list is kept");
+    expect(nodes[0] == '[' && nodes[3] == 0 && nodes[7] == 'z' && nodes[10] == NONE && nodes[14] == 'T', "in order of first visit");
+    expect(entries[0] == 1 && entries[1] == 1 && entries[2] == 2 && entries[3] == NONE, "its entries");
+    expect(all_zero(nodes + 21, 29) && all_zero(entries + 4, 9) && all_zero(slots, 2) && all_zero(stack, 20), "and zeros behind");
+
+    read = sill_read_more((const uint8_t *)"u\x02\0\0\0a", 6, nodes, 50, entries, 13, slots, 2, 2000, 3, 2, 1);
+    expect(read.refusal == 2 && read.place == 5 && nodes[14] == 'T' && all_zero(nodes + 21, 29), "a refused one leaves what is kept");
+    read = sill_read_more(second, 7, nodes, 50, entries, 13, slots, 2, 2000, 8, 7, 1);
+    expect(read.refusal == SILL_NO_NODE && read.place == 0, "more nodes kept than fit");
+    read = sill_read_more(second, 7, nodes, 50, entries, 13, slots, 2, 2000, 7, 7, 1);
+    expect(read.refusal == SILL_NO_ENTRY && read.place == 0, "more entries kept than fit");
+    read = sill_read_more(second, 7, nodes, 50, entries, 13, slots, 2, 2000, 3, 2, 4000000000u);
+    expect(read.refusal == 0 && read.consumed == 7 && read.nodes == 5 && read.entries == 3 && read.slots == 1, "kept plus new");
+    expect(nodes[21] == ')' && nodes[24] == 2 && nodes[27] == 4000000000u && nodes[28] == 'i' && nodes[20] == 0, "raised, with its input");
+    expect(entries[4] == 4 && entries[5] == NONE && slots[0] == 4 && all_zero(nodes + 35, 15), "its entry and slot");
+
+    sill_written_t written = sill_write(first, 18, nodes, 50, entries, 13, 5, 3, 0, 2, out, 16);
+    expect(written.refusal == 0 && written.written == 14 && !memcmp(out, "[\x02\0\0\0u\x03\0\0\0" "abcT", 14), "the kept list");
+    written = sill_write(second, 7, nodes, 50, entries, 13, 5, 3, 3, 2, out, 16);
+    expect(written.refusal == 0 && written.written == 10 && !memcmp(out, "(\x01\0\0\0i\x09\0\0\0", 10), "and the tuple behind it");
 }
 
 /* ---- exception tables */
@@ -485,10 +529,10 @@ static void test_salvage(void)
 static void test_lines(void)
 {
     static const uint8_t input[] = "s\x02\0\0\0\xE9\x02";
-    uint32_t nodes[6], records[13], flat[12];
+    uint32_t nodes[7], records[13], flat[12];
     sill_location_t locations[3];
-    sill_read_t read = sill_read(input, 7, nodes, 6, NULL, 0, NULL, 0, 1);
-    sill_located_t located = sill_locate_node(input, 7, nodes, 6, read.nodes, 0, 10, 3, records, LENGTH(records));
+    sill_read_t read = sill_read(input, 7, nodes, 7, NULL, 0, NULL, 0, 1);
+    sill_located_t located = sill_locate_node(input, 7, nodes, 7, read.nodes, 0, 10, 3, records, LENGTH(records));
     expect(located.refusal == 0 && located.from_entries == 2 && located.whole == 0, "two of three, and not whole");
     expect(records[0] == 11 && records[4] == 11 && records[8] == 10 && records[12] == 0, "11, 11 and then the first line");
 
@@ -501,7 +545,7 @@ static void test_lines(void)
     located = sill_locate(input + 5, 2, 10, 4, records, LENGTH(records));
     expect(located.refusal == 17 && located.place == 3 && all_zero(records, LENGTH(records)), "no room for four");
 
-    located = sill_locate_node(input, 7, nodes, 6, read.nodes, 1, 10, 3, records, LENGTH(records));
+    located = sill_locate_node(input, 7, nodes, 7, read.nodes, 1, 10, 3, records, LENGTH(records));
     expect(located.refusal == 16 && located.place == 1, "no such node");
 }
 
@@ -522,7 +566,7 @@ static void test_split(void)
 enum { DEEPEST = 2000, MOST_BYTES = 1 << 20, MOST_NODES = 1 << 14, STACK = 1 << 20 };
 
 static uint8_t deep_input[MOST_BYTES], deep_output[2 * MOST_BYTES];
-static uint32_t deep_nodes[6 * MOST_NODES], deep_entries[2 * MOST_NODES], deep_slots[1];
+static uint32_t deep_nodes[7 * MOST_NODES], deep_entries[2 * MOST_NODES], deep_slots[1], deep_stack[5 * MOST_NODES];
 
 static size_t deep_tuples(void)
 {
@@ -564,6 +608,12 @@ static void expect_deep(size_t length, const char *what)
     sill_written_t written = sill_write(deep_input, length, deep_nodes, LENGTH(deep_nodes), deep_entries, LENGTH(deep_entries),
                                         read.nodes, read.entries, 0, DEEPEST, deep_output, LENGTH(deep_output));
     expect(written.refusal == 0 && written.written > length, "and written back");
+    sill_kept_t kept = sill_keep(deep_nodes, LENGTH(deep_nodes), deep_entries, LENGTH(deep_entries), deep_slots, LENGTH(deep_slots),
+                                 read.nodes, read.entries, 0, deep_stack, LENGTH(deep_stack));
+    expect(kept.refusal == 0 && kept.nodes == read.nodes && kept.entries == read.entries, "and kept");
+    sill_read_t more = sill_read_more(deep_input, length, deep_nodes, LENGTH(deep_nodes), deep_entries, LENGTH(deep_entries),
+                                      deep_slots, LENGTH(deep_slots), DEEPEST, kept.nodes, kept.entries, 1);
+    expect(more.refusal == 0 && more.nodes == 2 * read.nodes, "and read once more behind it");
 }
 
 static void *test_nesting(void *unused)
@@ -593,6 +643,7 @@ int main(void)
     test_leaves();
     test_spans();
     test_writing();
+    test_keeping();
     test_exceptions();
     test_totals();
     test_lines();

@@ -1,7 +1,8 @@
 /* One input for libFuzzer, put to every exported function that takes bytes. Whatever is lent ends where a page begins that
  * nobody may touch, and is just as long as it is said to be. Held besides: a refusal leaves zeros alone, an acceptance nothing
  * past what it used; bytes appended change refusals 1 and 2 alone; what was read is written, and reads and is written as
- * before (a code out of name order may not); a node's line table is its bytes' line table. tools/fuzz builds and runs this. */
+ * before (a code out of name order may not); a node's line table is its bytes' line table; a node moved to the front is written
+ * as before, and a value behind others is read as alone, raised. tools/fuzz builds and runs this. */
 #include "../../include/sillgarland.h"
 #include <stdint.h>
 #include <stdio.h>
@@ -10,6 +11,7 @@
 #include <sys/mman.h>
 
 #define NESTING 2000
+#define NODE 7 /* numbers a node */
 #define MOST 8192 /* bytes of input; stores have room for as many records */
 
 static void hold(int held, const char *what) {
@@ -47,7 +49,7 @@ static int all_zero(const void *from, size_t bytes) {
     return 1;
 }
 
-static arena inputs, nodes_a, entries_a, slots_a, outs, outs2, records_a, lists[5];
+static arena inputs, nodes_a, entries_a, slots_a, outs, outs2, records_a, stack_a, lists[5];
 
 typedef struct {
     sill_read_t answer;
@@ -63,7 +65,7 @@ static reading read_with(const uint8_t *data, size_t len, const size_t room[3], 
     r.entries = lend_words(&entries_a, room[1]);
     r.slots = lend_words(&slots_a, room[2]);
     r.answer = sill_read(r.input, len, r.nodes, room[0], r.entries, room[1], r.slots, room[2], nesting);
-    size_t used[3] = {6 * (size_t)r.answer.nodes, 2 * (size_t)r.answer.entries, r.answer.slots};
+    size_t used[3] = {NODE * (size_t)r.answer.nodes, 2 * (size_t)r.answer.entries, r.answer.slots};
     for (int i = 0; i < 3; i++) {
         uint32_t *store = i == 0 ? r.nodes : i == 1 ? r.entries : r.slots;
         hold(used[i] <= room[i], "more is used than is lent");
@@ -339,8 +341,8 @@ static void hold_span(const reading *r, uint32_t n) {
         hold(span.refusal == 16 && span.place == n, "a span of no node");
         return;
     }
-    hold(!span.refusal && span.start < span.end && span.end == r->nodes[6 * n + 5] && span.end <= a.consumed, "a span");
-    hold((r->input[span.start] & 0x7F) == r->nodes[6 * n] && span.slots_before <= a.slots, "a span's header");
+    hold(!span.refusal && span.start < span.end && span.end == r->nodes[NODE * n + 5] && span.end <= a.consumed, "a span");
+    hold((r->input[span.start] & 0x7F) == r->nodes[NODE * n] && span.slots_before <= a.slots, "a span's header");
     hold(n || (span.start == 0 && span.end == a.consumed && span.closed && !span.slots_before), "the root's span");
 }
 
@@ -351,12 +353,12 @@ static void ask_nodes(const reading *r) {
         sill_leaf_t leaf = sill_leaf(r->input, r->len, r->nodes, r->room[0], used, n);
         hold((leaf.refusal != 0) == (n == used), "a leaf");
         hold_span(r, n);
-        if (n == used || r->nodes[6 * n] != 's') continue;
-        uint32_t count = r->nodes[6 * n + 2] % 64;
+        if (n == used || r->nodes[NODE * n] != 's') continue;
+        uint32_t count = r->nodes[NODE * n + 2] % 64;
         uint32_t *records = lend_words(&records_a, 4 * (size_t)count);
         sill_located_t l =
             sill_locate_node(r->input, r->len, r->nodes, r->room[0], used, n, 7, count, records, 4 * (size_t)count);
-        hold_lines(r->input + r->nodes[6 * n + 1], r->nodes[6 * n + 2], 7, count, &l);
+        hold_lines(r->input + r->nodes[NODE * n + 1], r->nodes[NODE * n + 2], 7, count, &l);
     }
 }
 
@@ -367,6 +369,74 @@ static sill_written_t write_into(const reading *r, uint32_t root, uint32_t nesti
     hold(w.written <= room && all_zero(*out + w.written, room - w.written), "an output is not zero past what was written");
     hold(!w.refusal || !w.written, "a refused writing has bytes");
     return w;
+}
+
+/* The move of a node: refused, all stays; accepted, the counts fit, the rest is zero, and a second move changes nothing. The stack is just
+ * long enough, and zero afterwards; one number shorter it is refused first. The stores that come back are a reading's as before. */
+static reading keep_of(const reading *r, uint32_t n) {
+    static uint32_t before[(NODE + 2) * MOST];
+    sill_read_t a = r->answer;
+    size_t need = sill_keep_need(a.nodes, a.entries), nodes = r->room[0], entries = r->room[1];
+    hold(nodes + entries <= sizeof before / 4, "room to remember the stores");
+    memcpy(before, r->nodes, 4 * nodes);
+    memcpy(before + nodes, r->entries, 4 * entries);
+    if (need) {
+        uint32_t *less = lend_words(&stack_a, need - 1);
+        sill_kept_t s = sill_keep(r->nodes, nodes, r->entries, entries, r->slots, r->room[2], a.nodes, a.entries, n, less, need - 1);
+        hold(s.refusal == 17 && s.place == need - 1 && all_zero(less, 4 * (need - 1)), "a stack one number short");
+    }
+    uint32_t *stack = lend_words(&stack_a, need);
+    sill_kept_t k = sill_keep(r->nodes, nodes, r->entries, entries, r->slots, r->room[2], a.nodes, a.entries, n, stack, need);
+    hold(all_zero(stack, 4 * need), "the stack is not zero after a move");
+    reading kept = *r;
+    kept.answer.nodes = k.nodes, kept.answer.entries = k.entries, kept.answer.refusal = k.refusal;
+    if (k.refusal) {
+        hold(k.refusal == 16 && !k.nodes && !k.entries && !k.free_nodes && !k.free_entries, "a refused move");
+        hold(!memcmp(before, r->nodes, 4 * nodes) && !memcmp(before + nodes, r->entries, 4 * entries), "a refused move changes a store");
+        return kept;
+    }
+    hold(k.nodes && k.nodes <= a.nodes && k.entries <= a.entries, "more is kept than was used");
+    hold(k.nodes + k.free_nodes == nodes / NODE && k.entries + k.free_entries == entries / 2, "the room freed");
+    hold(all_zero(r->nodes + NODE * k.nodes, 4 * (nodes - NODE * k.nodes)), "nodes behind what is kept");
+    hold(all_zero(r->entries + 2 * k.entries, 4 * (entries - 2 * k.entries)) && all_zero(r->slots, 4 * r->room[2]), "entries and slots");
+    for (uint32_t m = 0; m < k.nodes; m++) hold(r->nodes[NODE * m + 4] || r->nodes[NODE * m + 3] == SILL_NOTHING, "a first entry of none");
+    memcpy(before, r->nodes, 4 * nodes);
+    memcpy(before + nodes, r->entries, 4 * entries);
+    sill_kept_t again = sill_keep(r->nodes, nodes, r->entries, entries, r->slots, r->room[2], k.nodes, k.entries, 0, stack, need);
+    hold(!memcmp(&k, &again, sizeof k) && !memcmp(before, r->nodes, 4 * nodes) && !memcmp(before + nodes, r->entries, 4 * entries),
+         "a second move changes something");
+    return kept;
+}
+
+/* Read behind so many records that no reading made: the same answer, kept plus new, each number raised; what is kept stays. */
+static void hold_behind(const uint8_t *data, size_t len, sill_read_t plain) {
+    static uint32_t alone[(NODE + 3) * MOST];
+    size_t room[3] = {NODE * len + 3, 2 * len + 1, len};
+    reading r = read_with(data, len, room, NESTING);
+    memcpy(alone, r.nodes, 4 * room[0]);
+    memcpy(alone + room[0], r.entries, 4 * room[1]);
+    size_t n = len % 5, e = len % 7, nodes = room[0] + NODE * n, entries = room[1] + 2 * e;
+    uint32_t *to = lend_words(&nodes_a, nodes), *links = lend_words(&entries_a, entries), *slots = lend_words(&slots_a, len);
+    uint32_t number = 0xA5A5A5A5;
+    sill_read_t more = sill_read_more(r.input, len, to, nodes, links, entries, slots, len, NESTING, n, e, number);
+    for (size_t i = 0; i < NODE * n; i++) hold(to[i] == number, "a kept node is changed");
+    for (size_t i = 0; i < 2 * e; i++) hold(links[i] == number, "a kept entry is changed");
+    if (plain.refusal) {
+        hold(!memcmp(&plain, &more, sizeof more), "behind others it is refused otherwise");
+        hold(all_zero(to + NODE * n, 4 * room[0]) && all_zero(links + 2 * e, 4 * room[1]) && all_zero(slots, 4 * len), "zeros behind");
+        return;
+    }
+    plain.nodes += n, plain.entries += e;
+    hold(!memcmp(&plain, &more, sizeof more), "behind others the counts are other");
+    to += NODE * n, links += 2 * e;
+    for (size_t i = 0; i < room[0]; i++) {
+        int first = i % NODE == 3 && alone[i] != SILL_NOTHING && i / NODE < plain.nodes - n, input = i % NODE == 6 && i / NODE < plain.nodes - n;
+        hold(to[i] == (input ? number : first ? alone[i] + e : alone[i]), "a node is not the plain reading's, raised");
+    }
+    for (size_t i = 0; i < room[1]; i++) {
+        uint32_t was = alone[room[0] + i], by = i / 2 >= plain.entries - e || was == SILL_NOTHING ? 0 : i % 2 ? e : n;
+        hold(links[i] == was + by, "an entry is not the plain reading's, raised");
+    }
 }
 
 /* What was read is written; what was written reads, and is written as before. Code out of name order may not read. */
@@ -383,26 +453,44 @@ static void write_back(const reading *r) {
     sill_written_t short_of = write_into(r, 0, NESTING, &outs, w.written - 1, &out);
     hold(short_of.refusal == 17 && short_of.place == w.written - 1, "one byte short is not 17");
     if (w.written > MOST) return;
-    size_t room[3] = {6 * (size_t)w.written, 2 * (size_t)w.written, w.written};
+    size_t room[3] = {NODE * (size_t)w.written, 2 * (size_t)w.written, w.written};
     reading again = read_with(kept, w.written, room, NESTING);
     hold(!again.answer.refusal || again.answer.refusal == 8, "what was written does not read");
     if (again.answer.refusal) return;
     hold(again.answer.consumed == w.written && again.answer.slots == 0, "what was written reads otherwise");
     sill_written_t same = write_into(&again, 0, NESTING, &outs, ample, &out);
     int has_code = 0;
-    for (uint32_t n = 0; n < again.answer.nodes; n++) has_code |= again.nodes[6 * n] == 'c';
+    for (uint32_t n = 0; n < again.answer.nodes; n++) has_code |= again.nodes[NODE * n] == 'c';
     hold(!same.refusal && (has_code || !memcmp(kept, out, w.written)), "what was written is written otherwise the second time");
+}
+
+/* Nodes of a reading, each moved to the front: what it is written as stays. */
+static void keep_parts(const uint8_t *data, size_t len, const size_t ample[3]) {
+    static uint8_t was[16 * MOST + 64];
+    size_t room = 16 * len + 64;
+    uint8_t *out;
+    uint32_t nodes = 1;
+    for (uint32_t n = 0; n < nodes; n += 1 + nodes / 8) {
+        reading r = read_with(data, len, ample, NESTING);
+        nodes = r.answer.nodes;
+        sill_written_t w = write_into(&r, n, NESTING, &outs, room, &out);
+        memcpy(was, out, w.written);
+        reading kept = keep_of(&r, n);
+        hold(!kept.answer.refusal, "what was read is not moved");
+        sill_written_t again = write_into(&kept, 0, NESTING, &outs, room, &out);
+        hold(again.refusal == w.refusal && again.written == w.written && !memcmp(was, out, w.written), "what was moved is written otherwise");
+    }
 }
 
 /* Stores that no reading made: the input's own bytes. */
 static void hostile(const uint8_t *data, size_t len) {
-    size_t words = len / 4, nodes = words / 2 / 6 * 6, entries = (words - nodes) / 2 * 2;
+    size_t words = len / 4, nodes = words / 2 / NODE * NODE, entries = (words - nodes) / 2 * 2;
     reading r = {.input = lend_bytes(&inputs, data, len), .len = len, .room = {nodes, entries, 0}};
     r.nodes = lend_words(&nodes_a, nodes);
     r.entries = lend_words(&entries_a, entries);
-    for (size_t i = 0; i < nodes; i++) r.nodes[i] = i % 6 ? data[4 * i] : data[4 * i] & 0x7F;
+    for (size_t i = 0; i < nodes; i++) r.nodes[i] = i % NODE ? data[4 * i] : data[4 * i] & 0x7F;
     for (size_t i = 0; i < entries; i++) r.entries[i] = data[4 * (nodes + i)] % 8;
-    r.answer.nodes = nodes / 6;
+    r.answer.nodes = nodes / NODE;
     r.answer.entries = entries / 2;
     for (uint32_t n = 0; n <= r.answer.nodes && n < 16; n++) {
         uint8_t *out;
@@ -410,6 +498,7 @@ static void hostile(const uint8_t *data, size_t len) {
         sill_span_t span = sill_span(r.input, len, r.nodes, nodes, r.entries, entries, r.answer.nodes, r.answer.entries, n);
         hold(span.refusal ? span.refusal == 16 : span.start < span.end && span.end <= len, "a span of any stores");
         write_into(&r, n, 12, &outs, 512, &out);
+        if (n % 4 == 3) keep_of(&r, n);
     }
 }
 
@@ -452,18 +541,19 @@ int LLVMFuzzerTestOneInput(const uint8_t *data, size_t len) {
     static int made;
     static uint8_t longer[MOST + 8];
     if (!made++) {
-        inputs = arena_of(64 * MOST), nodes_a = arena_of(32 * MOST), entries_a = arena_of(8 * MOST), slots_a = arena_of(4 * MOST);
-        outs = arena_of(64 * MOST), outs2 = arena_of(64 * MOST), records_a = arena_of(16 * MOST);
+        inputs = arena_of(64 * MOST), nodes_a = arena_of(32 * MOST), entries_a = arena_of(9 * MOST), slots_a = arena_of(4 * MOST);
+        outs = arena_of(64 * MOST), outs2 = arena_of(64 * MOST), records_a = arena_of(16 * MOST), stack_a = arena_of(20 * MOST);
         for (int i = 0; i < 5; i++) lists[i] = arena_of(4 * MOST);
     }
     if (len > MOST - 8) return 0;
-    size_t ample[3] = {6 * len + 3, 2 * len + 1, len};
+    size_t ample[3] = {NODE * len + 3, 2 * len + 1, len};
     reading r = read_with(data, len, ample, NESTING);
     sill_read_t plain = r.answer;
     if (!plain.refusal) {
         ask_nodes(&r);
         write_back(&r);
-        size_t exact[3] = {6 * (size_t)plain.nodes, 2 * (size_t)plain.entries, plain.slots};
+        keep_parts(data, len, ample);
+        size_t exact[3] = {NODE * (size_t)plain.nodes, 2 * (size_t)plain.entries, plain.slots};
         hold(same_answer(plain, read_with(data, len, exact, NESTING)), "in just enough room");
         for (int i = 0; i < 3; i++) {
             if (!exact[i]) continue;
@@ -472,6 +562,7 @@ int LLVMFuzzerTestOneInput(const uint8_t *data, size_t len) {
             exact[i]++;
         }
     }
+    hold_behind(data, len, plain);
     size_t little[3] = {len % 40, len % 9, len % 3};
     for (uint32_t nesting = 0; nesting < 4; nesting++) read_with(data, len, little, nesting);
     memcpy(longer, data, len);

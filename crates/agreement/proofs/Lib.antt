@@ -49,4 +49,6 @@ pub mod Nodespan
 pub mod Keepvisit
 pub mod Keepmove
 pub mod Keep
+pub mod Raising
+pub mod Readmore
 pub mod Sillgarland

@@ -15,7 +15,7 @@ abbrev pub outcomeFrom : Answer Counts → Outcome
 outcomeFrom (gives counts) = outcome.Read (counts .consumed) (counts .nodes) (counts .entries) (counts .slots)
 outcomeFrom (stops number place) = outcome.Refused number place
 
-outcome-back : (r : Outcome) → outcomeFrom (answerOf r) ≡ r
+pub outcome-back : (r : Outcome) → outcomeFrom (answerOf r) ≡ r
 outcome-back (outcome.Read consumed nodes entries slots) = refl
 outcome-back (outcome.Refused number place) = refl
 

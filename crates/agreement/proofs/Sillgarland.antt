@@ -110,6 +110,27 @@ sill-read-agrees κs a asked r r′ ws ws′ p p′ = (
   λ i. (tt, (one (p .holds-nodes) (p′ .holds-nodes) i, (one (p .holds-entries) (p′ .holds-entries) i, (one (p .holds-slots) (p′ .holds-slots) i, (tt, tt))))),
 )
 
+pub read-numbers-agrees : Agree sillgarland.values.read_numbers.ended sillgarland.values.read_numbers.Reads.Asked sillgarland.values.read_numbers.Reads.Learnt
+read-numbers-agrees κs a asked r r′ ws ws′ p p′ = (one p p′, refl)
+
+pub sill-keep-agrees : Agree sillgarland.reclaiming.sill_keep.ended sillgarland.reclaiming.sill_keep.Reads.Asked sillgarland.reclaiming.sill_keep.Reads.Learnt
+sill-keep-agrees κs a asked r r′ ws ws′ p p′ = (
+  one (p .numbers) (p′ .numbers),
+  λ i. (
+    one (p .holds-nodes) (p′ .holds-nodes) i,
+    (one (p .holds-entries) (p′ .holds-entries) i, (one (p .holds-slots) (p′ .holds-slots) i, (tt, (tt, (tt, (one (p .cleared) (p′ .cleared) i, tt)))))),
+  ),
+)
+
+pub sill-keep-need-agrees : Agree sillgarland.reclaiming.sill_keep_need.ended sillgarland.reclaiming.sill_keep_need.Reads.Asked sillgarland.reclaiming.sill_keep_need.Reads.Learnt
+sill-keep-need-agrees κs a asked r r′ ws ws′ p p′ = (one p p′, refl)
+
+pub sill-read-more-agrees : Agree sillgarland.reclaiming.sill_read_more.ended sillgarland.reclaiming.sill_read_more.Reads.Asked sillgarland.reclaiming.sill_read_more.Reads.Learnt
+sill-read-more-agrees κs a asked r r′ ws ws′ p p′ = (
+  one (p .numbers) (p′ .numbers),
+  λ i. (tt, (one (p .holds-nodes) (p′ .holds-nodes) i, (one (p .holds-entries) (p′ .holds-entries) i, (one (p .holds-slots) (p′ .holds-slots) i, (tt, (tt, (tt, (tt, tt)))))))),
+)
+
 pub sill-write-agrees : Agree sillgarland.values.sill_write.ended sillgarland.values.sill_write.Reads.Asked sillgarland.values.sill_write.Reads.Learnt
 sill-write-agrees κs a asked r r′ ws ws′ p p′ =
     (one (p .numbers) (p′ .numbers), λ i. (tt, (tt, (tt, (tt, (tt, (tt, (tt, (one (p .holds) (p′ .holds) i, tt)))))))))

@@ -9,7 +9,7 @@ use Rattle.agreement.proofs.Same.{one, retold}
 
 -- a node's numbers, from the grammar's words back
 abbrev nodeFrom : state.Node → Node
-nodeFrom n = record { letter = n .letter; place = n .place; size = n .size; first = n .first; count = n .count; end = n .end }
+nodeFrom n = record { letter = n .letter; place = n .place; size = n .size; first = n .first; count = n .count; end = n .end; input = n .input }
 
 pub at-most-agrees : Agree stores.at_most.ended stores.at_most.Reads.Asked stores.at_most.Reads.Learnt
 at-most-agrees κs a asked r r′ ws ws′ p p′ = (one p p′, refl)
@@ -58,6 +58,9 @@ count-of-agrees κs a asked r r′ ws ws′ p p′ = (one p p′, refl)
 
 pub end-of-agrees : Agree stores.end_of.ended stores.end_of.Reads.Asked stores.end_of.Reads.Learnt
 end-of-agrees κs a asked r r′ ws ws′ p p′ = (one p p′, refl)
+
+pub input-of-agrees : Agree stores.input_of.ended stores.input_of.Reads.Asked stores.input_of.Reads.Learnt
+input-of-agrees κs a asked r r′ ws ws′ p p′ = (one p p′, refl)
 
 pub child-of-agrees : Agree stores.child_of.ended stores.child_of.Reads.Asked stores.child_of.Reads.Learnt
 child-of-agrees κs a asked r r′ ws ws′ p p′ = (one p p′, refl)

@@ -47,6 +47,10 @@ module _ (s : List ℕ) (R : Rooms) (small : length s ≤ mostBytes) (bytes : By
   unfolding startOf
   header-held m l = ap headerOf (held .node m l)
 
+  -- a reading by itself numbers its input 0
+  pub input-held : (m : ℕ) → m < length (fin .nodes) → nodeOf t m .input ≡ 0
+  input-held m l = ap (λ z. z .input) (held .node m l) ∙ everything s R small bytes v fin read .valued .finished m (omega arith) l .input
+
   chain-held : (m : ℕ) → m < length (fin .nodes) → (kids : List ℕ) → Linked (fin .entries) (getD (fin .nodes) m blank .first) kids → getD (fin .nodes) m blank .count ≡ length kids
       → chain t (nodeOf t m .count) (nodeOf t m .first) ≡ some kids
   chain-held m l kids k c =
@@ -76,10 +80,10 @@ module _ (s : List ℕ) (R : Rooms) (small : length s ≤ mostBytes) (bytes : By
     children-held steps h = rw (le-ltb steps (nodeOf t m .count) h, kids-held, kids-used) refl
 
   -- No chain fails, and together they take no more steps than entries are used.
-  closed-is : (a e more m steps : ℕ) → m + more ≤ length (fin .nodes) → total counted (fin .nodes) more m ≤ steps → closedFrom t a e more m steps ≡ gives (every t a e more m)
+  closed-is : (a e more m steps : ℕ) → m + more ≤ length (fin .nodes) → total counted (fin .nodes) more m ≤ steps → closedFrom t 0 a e more m steps ≡ gives (every t 0 a e more m)
   unfolding closedFrom every
   closed-is a e zero m steps l h = refl
-  closed-is a e (suc more) m steps l h = go (inside t a e m) (λ steps q. closed-is a e more (m + 1) steps (omega arith) q)
+  closed-is a e (suc more) m steps l h = go (inside t 0 a e m) (λ steps q. closed-is a e more (m + 1) steps (omega arith) q)
     where
       there : m < length (fin .nodes)
       there = omega arith
@@ -90,9 +94,9 @@ module _ (s : List ℕ) (R : Rooms) (small : length s ≤ mostBytes) (bytes : By
       counts : nodeOf t m .count ≡ getD (fin .nodes) m blank .count
       counts = ap (λ z. z .count) (held .node m there)
 
-      go : (b : Bool) → ((steps : ℕ) → total counted (fin .nodes) more (m + 1) ≤ steps → closedFrom t a e more (m + 1) steps ≡ gives (every t a e more (m + 1)))
-          → cond b (onward t a e (childrenAt t steps m) (λ taken. closedFrom t a e more (m + 1) (steps - taken))) (closedFrom t a e more (m + 1) steps)
-          ≡ gives (cond b (allInside t a e (kidsAt t m) && every t a e more (m + 1)) (every t a e more (m + 1)))
+      go : (b : Bool) → ((steps : ℕ) → total counted (fin .nodes) more (m + 1) ≤ steps → closedFrom t 0 a e more (m + 1) steps ≡ gives (every t 0 a e more (m + 1)))
+          → cond b (onward t 0 a e (childrenAt t steps m) (λ taken. closedFrom t 0 a e more (m + 1) (steps - taken))) (closedFrom t 0 a e more (m + 1) steps)
+          ≡ gives (cond b (allInside t 0 a e (kidsAt t m) && every t 0 a e more (m + 1)) (every t 0 a e more (m + 1)))
       go true again =
           rw (children-held m there steps (omega (arith, sum, counts)), again (steps - length (parent m there .kids)) (omega (arith, sum, counts, count-held m there)), kids-held m there) refl
       go false again = again steps (omega (arith, sum))
@@ -110,14 +114,14 @@ module _ (s : List ℕ) (R : Rooms) (small : length s ≤ mostBytes) (bytes : By
     abbrev N : ℕ
     N = length (fin .nodes)
 
-    in-span : (m : ℕ) → n ≤ m → m < length (mine .end .nodes) → inside t a e m ≡ true
+    in-span : (m : ℕ) → n ≤ m → m < length (mine .end .nodes) → inside t 0 a e m ≡ true
     in-span m lo hi =
         let l : m < length (fin .nodes) = omega (arith, mine .stands .more-nodes) in
-        rw (header-held m l, le-leb a (startOf fin m) (starts-inside s R small bytes v fin read n used m lo hi), lt-ltb (startOf fin m) e (ends-inside s R small bytes v fin read n used m lo hi)) refl
+        rw (header-held m l, input-held m l, le-leb a (startOf fin m) (starts-inside s R small bytes v fin read n used m lo hi), lt-ltb (startOf fin m) e (ends-inside s R small bytes v fin read n used m lo hi)) refl
 
-    span-in : (m : ℕ) → m < length (fin .nodes) → inside t a e m ≡ true → (n ≤ m) × (m < length (mine .end .nodes))
+    span-in : (m : ℕ) → m < length (fin .nodes) → inside t 0 a e m ≡ true → (n ≤ m) × (m < length (mine .end .nodes))
     span-in m l i =
-        let q : leb a (startOf fin m) && ltb (startOf fin m) e ≡ true = rw (header-held m l) at i in
+        let q : leb a (startOf fin m) && ltb (startOf fin m) e ≡ true = rw (header-held m l, input-held m l) at i in
         let p = both-true (leb a (startOf fin m)) (ltb (startOf fin m) e) q in
         (inside-from s R small bytes v fin read n used m l (leb-true a (startOf fin m) (p .0)), inside-to s R small bytes v fin read n used m l (ltb-true (startOf fin m) e (p .1)))
 
@@ -154,17 +158,17 @@ module _ (s : List ℕ) (R : Rooms) (small : length s ≤ mostBytes) (bytes : By
     abbrev Named : ℕ → Type 0
     Named r = (length (mine .st .slots) ≤ le32 s r) × (le32 s r < length (mine .end .slots))
 
-    given-named : every t a e N 0 ≡ true → (r : ℕ) → Given s (mine .st) (mine .end) (n ∷ []) r → Named r
+    given-named : every t 0 a e N 0 ≡ true → (r : ℕ) → Given s (mine .st) (mine .end) (n ∷ []) r → Named r
     given-named q r (yet w m z) = own-index (le32 s r) w z (omega (arith, among-one w n m))
     given-named q r (of o) =
         let lo : n ≤ o .node = omega (arith, o .from, mine .first) in
         let l : o .node < length (fin .nodes) = omega (arith, o .to, mine .stands .more-nodes) in
-        let k = every-each t a e N 0 q (o .node) (omega arith) (omega arith) (in-span (o .node) lo (o .to)) in
-        let i = inside-each t a e (o .kids) (rw (same-kids (o .node) lo (o .to) (o .kids) (o .linked) (o .count)) at k) (o .child) (o .in-kids) in
+        let k = every-each t 0 a e N 0 q (o .node) (omega arith) (omega arith) (in-span (o .node) lo (o .to)) in
+        let i = inside-each t 0 a e (o .kids) (rw (same-kids (o .node) lo (o .to) (o .kids) (o .linked) (o .count)) at k) (o .child) (o .in-kids) in
         let u = own-made s R small bytes v fin read n used .valued .holds .slots-in (le32 s r) in
         own-index (le32 s r) (o .child) (o .names) (span-in (o .child) (omega (arith, u, o .names, mine .stands .more-nodes)) i .0)
 
-    child-inside : ((r : ℕ) → Met r fin → mine .st .at < r → r < mine .end .at → Named r) → (w : ℕ) → Child s (mine .st) (mine .end) w → inside t a e w ≡ true
+    child-inside : ((r : ℕ) → Met r fin → mine .st .at < r → r < mine .end .at → Named r) → (w : ℕ) → Child s (mine .st) (mine .end) w → inside t 0 a e w ≡ true
     child-inside f w (fresh lo hi) = in-span w (omega (arith, mine .first)) hi
     child-inside f w (shared x) =
         let sp = own-made s R small bytes v fin read n used .on .1 .spaced (mine .spaced) in
@@ -177,7 +181,7 @@ module _ (s : List ℕ) (R : Rooms) (small : length s ≤ mostBytes) (bytes : By
     places = between a e (fin .met)
 
     -- from the stores to the references ..
-    every-named : every t a e N 0 ≡ true → namesOwn s fin n ≡ true
+    every-named : every t 0 a e N 0 ≡ true → namesOwn s fin n ≡ true
     unfolding namesOwn
     every-named q =
         rw (slots-before-start s R small bytes v fin read n used, slots-before-end s R small bytes v fin read n used)
@@ -198,19 +202,19 @@ module _ (s : List ℕ) (R : Rooms) (small : length s ≤ mostBytes) (bytes : By
         named-each s (length (mine .st .slots)) (length (mine .end .slots)) places z r
         (in-between a e (fin .met) r m (omega (arith, starts s R small bytes v fin read n used)) (omega (arith, ends s R small bytes v fin read n used)))
 
-    named-every : namesOwn s fin n ≡ true → every t a e N 0 ≡ true
-    named-every q = each-every t a e N 0 (λ m lo hi i. kids m (omega arith) (span-in m (omega arith) i))
+    named-every : namesOwn s fin n ≡ true → every t 0 a e N 0 ≡ true
+    named-every q = each-every t 0 a e N 0 (λ m lo hi i. kids m (omega arith) (span-in m (omega arith) i))
       where
-        kids : (m : ℕ) → m < length (fin .nodes) → (n ≤ m) × (m < length (mine .end .nodes)) → allInside t a e (kidsAt t m) ≡ true
+        kids : (m : ℕ) → m < length (fin .nodes) → (n ≤ m) × (m < length (mine .end .nodes)) → allInside t 0 a e (kidsAt t m) ≡ true
         kids m l h =
             let p = own-made s R small bytes v fin read n used .kin .parents m (omega (arith, h .0, mine .first)) (h .1) in
-            rw (same-kids m (h .0) (h .1) (p .kids) (p .linked) (p .count)) (each-inside t a e (p .kids) (λ w k. child-inside (named-own q) w (p .each w k)))
+            rw (same-kids m (h .0) (h .1) (p .kids) (p .linked) (p .count)) (each-inside t 0 a e (p .kids) (λ w k. child-inside (named-own q) w (p .each w k)))
 
     -- The question, answered from the stores.
-    pub closed-held : closedFrom t a e (nodesIn (t .nodes) (t .usedNodes)) 0 (entriesIn (t .entries) (t .usedEntries)) ≡ gives (namesOwn s fin n)
+    pub closed-held : closedFrom t 0 a e (nodesIn (t .nodes) (t .usedNodes)) 0 (entriesIn (t .entries) (t .usedEntries)) ≡ gives (namesOwn s fin n)
     closed-held =
         let k = everything s R small bytes v fin read .kin in
         let z : k .made ≡ length (fin .nodes) = omega (arith, k .many) in
         let c : total counted (fin .nodes) (length (fin .nodes)) 0 ≤ entriesIn (t .entries) (t .usedEntries) = rw (← z) (omega (arith, k .entries, held .entries)) in
         rw (held .many) (closed-is a e (length (fin .nodes)) 0 (entriesIn (t .entries) (t .usedEntries)) (omega arith) c ∙ ap gives
-        (each-way (every t a e N 0) (namesOwn s fin n) every-named named-every))
+        (each-way (every t 0 a e N 0) (namesOwn s fin n) every-named named-every))

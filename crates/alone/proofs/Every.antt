@@ -28,17 +28,17 @@ among-more P v vs p f w m = go (eqb w v) refl m
     go true e q = rw (eqb-true w v e) p
     go false e q = f w q
 
-pub inside-each : (t : Tables) (start end : ℕ) (vs : List ℕ) → allInside t start end vs ≡ true → (w : ℕ) → among w vs ≡ true → inside t start end w ≡ true
+pub inside-each : (t : Tables) (source start end : ℕ) (vs : List ℕ) → allInside t source start end vs ≡ true → (w : ℕ) → among w vs ≡ true → inside t source start end w ≡ true
 unfolding allInside
-inside-each t start end [] e w m = never m
-inside-each t start end (v ∷ vs) e w m =
-    let b = both-true (inside t start end v) (allInside t start end vs) e in
-    among-more (λ w. inside t start end w ≡ true) v vs (b .0) (inside-each t start end vs (b .1)) w m
+inside-each t source start end [] e w m = never m
+inside-each t source start end (v ∷ vs) e w m =
+    let b = both-true (inside t source start end v) (allInside t source start end vs) e in
+    among-more (λ w. inside t source start end w ≡ true) v vs (b .0) (inside-each t source start end vs (b .1)) w m
 
-pub each-inside : (t : Tables) (start end : ℕ) (vs : List ℕ) → ((w : ℕ) → among w vs ≡ true → inside t start end w ≡ true) → allInside t start end vs ≡ true
+pub each-inside : (t : Tables) (source start end : ℕ) (vs : List ℕ) → ((w : ℕ) → among w vs ≡ true → inside t source start end w ≡ true) → allInside t source start end vs ≡ true
 unfolding allInside
-each-inside t start end [] f = refl
-each-inside t start end (v ∷ vs) f = rw (f v (among-self v vs)) (each-inside t start end vs (λ w m. f w (among-later w v vs m)))
+each-inside t source start end [] f = refl
+each-inside t source start end (v ∷ vs) f = rw (f v (among-self v vs)) (each-inside t source start end vs (λ w m. f w (among-later w v vs m)))
 
 pub each-used : (t : Tables) (vs : List ℕ) → ((w : ℕ) → among w vs ≡ true → w < nodesIn (t .nodes) (t .usedNodes)) → allUsed t vs ≡ true
 unfolding allUsed
@@ -69,28 +69,28 @@ childrenOf (some vs) = vs
 abbrev pub kidsAt : Tables → ℕ → List ℕ
 kidsAt t m = childrenOf (chain t (nodeOf t m .count) (nodeOf t m .first))
 
-unfoldable pub every : Tables → (start end more node : ℕ) → Bool
-every t a e zero m = true
-every t a e (suc more) m = cond (inside t a e m) (allInside t a e (kidsAt t m) && every t a e more (m + 1)) (every t a e more (m + 1))
+unfoldable pub every : Tables → (source start end more node : ℕ) → Bool
+every t source a e zero m = true
+every t source a e (suc more) m = cond (inside t source a e m) (allInside t source a e (kidsAt t m) && every t source a e more (m + 1)) (every t source a e more (m + 1))
 
-pub every-each : (t : Tables) (a e more m : ℕ) → every t a e more m ≡ true → (k : ℕ) → m ≤ k → k < m + more → inside t a e k ≡ true → allInside t a e (kidsAt t k) ≡ true
+pub every-each : (t : Tables) (source a e more m : ℕ) → every t source a e more m ≡ true → (k : ℕ) → m ≤ k → k < m + more → inside t source a e k ≡ true → allInside t source a e (kidsAt t k) ≡ true
 unfolding every
-every-each t a e zero m q k lo hi i = absurd (omega arith)
-every-each t a e (suc more) m q k lo hi i = go (eqb k m) refl (λ z l. every-each t a e more (m + 1) z k l (omega arith) i)
+every-each t source a e zero m q k lo hi i = absurd (omega arith)
+every-each t source a e (suc more) m q k lo hi i = go (eqb k m) refl (λ z l. every-each t source a e more (m + 1) z k l (omega arith) i)
   where
-    next : (b : Bool) → cond b (allInside t a e (kidsAt t m) && every t a e more (m + 1)) (every t a e more (m + 1)) ≡ true → every t a e more (m + 1) ≡ true
-    next true z = both-true (allInside t a e (kidsAt t m)) (every t a e more (m + 1)) z .1
+    next : (b : Bool) → cond b (allInside t source a e (kidsAt t m) && every t source a e more (m + 1)) (every t source a e more (m + 1)) ≡ true → every t source a e more (m + 1) ≡ true
+    next true z = both-true (allInside t source a e (kidsAt t m)) (every t source a e more (m + 1)) z .1
     next false z = z
 
-    here : (b : Bool) → b ≡ true → cond b (allInside t a e (kidsAt t m) && every t a e more (m + 1)) (every t a e more (m + 1)) ≡ true → allInside t a e (kidsAt t m) ≡ true
-    here true y z = both-true (allInside t a e (kidsAt t m)) (every t a e more (m + 1)) z .0
+    here : (b : Bool) → b ≡ true → cond b (allInside t source a e (kidsAt t m) && every t source a e more (m + 1)) (every t source a e more (m + 1)) ≡ true → allInside t source a e (kidsAt t m) ≡ true
+    here true y z = both-true (allInside t source a e (kidsAt t m)) (every t source a e more (m + 1)) z .0
     here false y z = never y
 
-    go : (b : Bool) → eqb k m ≡ b → (every t a e more (m + 1) ≡ true → m + 1 ≤ k → allInside t a e (kidsAt t k) ≡ true) → allInside t a e (kidsAt t k) ≡ true
+    go : (b : Bool) → eqb k m ≡ b → (every t source a e more (m + 1) ≡ true → m + 1 ≤ k → allInside t source a e (kidsAt t k) ≡ true) → allInside t source a e (kidsAt t k) ≡ true
     go true z again =
         let y : k ≡ m = eqb-true k m z in
-        rw y (here (inside t a e m) (rw y at i) q)
-    go false z again = again (next (inside t a e m) q) (apart z)
+        rw y (here (inside t source a e m) (rw y at i) q)
+    go false z again = again (next (inside t source a e m) q) (apart z)
       where
         apart : eqb k m ≡ false → m + 1 ≤ k
         apart z = strictly (ltb m k) refl
@@ -99,13 +99,13 @@ every-each t a e (suc more) m q k lo hi i = go (eqb k m) refl (λ z l. every-eac
             strictly true y = omega (arith, ltb-true m k y)
             strictly false y = absurd (eqb-false k m z (omega (arith, ltb-false m k y)))
 
-pub each-every : (t : Tables) (a e more m : ℕ) → ((k : ℕ) → m ≤ k → k < m + more → inside t a e k ≡ true → allInside t a e (kidsAt t k) ≡ true) → every t a e more m ≡ true
+pub each-every : (t : Tables) (source a e more m : ℕ) → ((k : ℕ) → m ≤ k → k < m + more → inside t source a e k ≡ true → allInside t source a e (kidsAt t k) ≡ true) → every t source a e more m ≡ true
 unfolding every
-each-every t a e zero m f = refl
-each-every t a e (suc more) m f =
-    go (inside t a e m) (λ i. f m (omega arith) (omega arith) i) (each-every t a e more (m + 1) (λ k lo hi i. f k (omega arith) (omega arith) i))
+each-every t source a e zero m f = refl
+each-every t source a e (suc more) m f =
+    go (inside t source a e m) (λ i. f m (omega arith) (omega arith) i) (each-every t source a e more (m + 1) (λ k lo hi i. f k (omega arith) (omega arith) i))
   where
-    go : (b : Bool) → (b ≡ true → allInside t a e (kidsAt t m) ≡ true) → every t a e more (m + 1) ≡ true
-        → cond b (allInside t a e (kidsAt t m) && every t a e more (m + 1)) (every t a e more (m + 1)) ≡ true
+    go : (b : Bool) → (b ≡ true → allInside t source a e (kidsAt t m) ≡ true) → every t source a e more (m + 1) ≡ true
+        → cond b (allInside t source a e (kidsAt t m) && every t source a e more (m + 1)) (every t source a e more (m + 1)) ≡ true
     go true h q = rw (h refl, q) refl
     go false h q = q

@@ -27,9 +27,9 @@ left =
     record {
       at = 17;
       nodes =
-          record { letter = 0x29; place = 1; size = 1; first = 0; count = 2; end = 17 }
-          ∷ record { letter = 0x69; place = 3; size = 4; first = nothing; count = 0; end = 7 }
-          ∷ record { letter = 0x5B; place = 8; size = 4; first = 1; count = 1; end = 17 } ∷ [];
+          record { letter = 0x29; place = 1; size = 1; first = 0; count = 2; end = 17; input = 0 }
+          ∷ record { letter = 0x69; place = 3; size = 4; first = nothing; count = 0; end = 7; input = 0 }
+          ∷ record { letter = 0x5B; place = 8; size = 4; first = 1; count = 1; end = 17; input = 0 } ∷ [];
       entries = record { child = 1; next = 2 } ∷ record { child = 1; next = nothing } ∷ record { child = 2; next = nothing } ∷ [];
       slots = 2 ∷ [];
       met = 13 ∷ [];

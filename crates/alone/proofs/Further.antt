@@ -31,7 +31,7 @@ use Rattle.alone.proofs.Lone.{renamed, Renames, means-renamed, linked-r
 
 -- The record test does not look at the first entry.
 abbrev linkedTo : ℕ → Node → Node
-linkedTo x n = record { letter = n .letter; place = n .place; size = n .size; first = x; count = n .count; end = n .end }
+linkedTo x n = record { letter = n .letter; place = n .place; size = n .size; first = x; count = n .count; end = n .end; input = n .input }
 
 ruled-linked : (s : List ℕ) (n : Node) (x : ℕ) (c : Class) → ruled s (linkedTo x n) c ≡ ruled s n c
 ruled-linked s n x refers = refl
@@ -78,7 +78,7 @@ module _ (s : List ℕ) (small : length s ≤ mostBytes) (bs : Bytes s) (v : ℕ
     kept =
         sound-letter s nd (accepted s small (v, st) read .finished i l .own bs)
 
-    is-raised : nd′ ≡ record { letter = nd .letter; place = 0 + nd .place; size = nd .size; first = raisedLink k (nd .first); count = nd .count; end = 0 + nd .end }
+    is-raised : nd′ ≡ record { letter = nd .letter; place = 0 + nd .place; size = nd .size; first = raisedLink k (nd .first); count = nd .count; end = 0 + nd .end; input = nd .input }
     unfolding raised
     is-raised = node-at k (st .nodes) i ∙ rw kept refl
 

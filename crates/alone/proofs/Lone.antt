@@ -256,7 +256,7 @@ module _ (s : List ℕ) (R : Rooms) (small : length s ≤ mostBytes) (bs : Bytes
         let z : f i ≡ n + i = omega (arith, number) in
         rw z (a .part .nodes i l)
 
-    as-record : nd′ ≡ record { letter = nd .letter; place = at + nd .place; size = nd .size; first = raisedNode k nd .first; count = nd .count; end = at + nd .end }
+    as-record : nd′ ≡ record { letter = nd .letter; place = at + nd .place; size = nd .size; first = raisedNode k nd .first; count = nd .count; end = at + nd .end; input = nd .input }
     as-record = is-raised ∙ raised-is s R small bs v fin read n b at end top k a places long i l
 
     first-raised : nd′ .first ≡ raisedLink k (nd .first)

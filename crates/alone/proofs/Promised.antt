@@ -44,7 +44,7 @@ use Rattle.alone.proofs.Runs.{same-gives, run-plainly}
 use Rattle.alone.proofs.Spans.{SpanRead, node-alone, bit-long, bit-small}
 use Rattle.alone.proofs.Lone.{same-value}
 use Rattle.alone.proofs.Nested.{own, own-made, starts, ends, some-bytes, inside-from, inside-to, starts-inside, ends-inside, slots-before-start}
-use Rattle.alone.proofs.Asked.{Held, named-own}
+use Rattle.alone.proofs.Asked.{Held, input-held, named-own}
 use Rattle.alone.proofs.Told.{span-told, header-letter}
 
 -- the stores that it left
@@ -201,6 +201,7 @@ spanned-node s bytes nodes entries slots nesting c e n l =
           ap (λ z. spanOf z n) (a .tables)
           ∙ span-told s R (w .0) bytes (r .0) (r .1) (w .1) t held n used (read-is-sound s bytes nodes entries slots nesting r (a .is) n used);
       sixth = ap (λ z. nodeOf z n .end) (a .tables) ∙ ap (λ z. z .end) (held .node n used);
+      seventh = ap (λ z. nodeOf z n .input) (a .tables) ∙ input-held s R (w .0) bytes (r .0) (r .1) (w .1) t held n used;
       header = header-letter s R (w .0) bytes (r .0) (r .1) (w .1) t held n used;
       alone = on-yes s bytes R (w .0) r (w .1) n used t held;
     }

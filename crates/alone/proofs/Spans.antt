@@ -236,7 +236,7 @@ module _ (s : List ℕ) (R : Rooms) (small : length s ≤ mostBytes) (bytes : By
     pub inner-clears : Clears (inner .st) (inner .end) nd
     inner-clears = rw inner-is (inner .clears)
 
-    pub raised-is : raisedNode k nd ≡ record { letter = nd .letter; place = at + nd .place; size = nd .size; first = raisedNode k nd .first; count = nd .count; end = at + nd .end }
+    pub raised-is : raisedNode k nd ≡ record { letter = nd .letter; place = at + nd .place; size = nd .size; first = raisedNode k nd .first; count = nd .count; end = at + nd .end; input = nd .input }
     raised-is = rw (inner-clears .kept, places) refl
 
     outer-clears : Clears (outer .st) (outer .end) (raisedNode k nd)

@@ -3,15 +3,15 @@
 use mathlib.Core.Path.{_≡_, refl, sym, ap, ap₂, _∙_}
 use Prim.Native.Nat.{ℕ, zero, suc, _+_, _≤_, _<_}
 use native.Mathlib.Omega.{arith}
-use mathlib.Core.Bool.{Bool, true, false, cond}
+use mathlib.Core.Bool.{Bool, true, false, cond, _&&_}
 use mathlib.Core.List.{List}
 use lib.ListN.{length, getD}
 use lib.Dec.{ltb}
-use borrow.Author.Tests.{ltb-true, ltb-false, lt-ltb, le-ltb, le-leb}
+use borrow.Author.Tests.{ltb-true, ltb-false, lt-ltb, le-ltb, le-leb, eq-eqb}
 use Rattle.refusals.specs.Limits.{mostBytes}
 use Rattle.grammar.specs.Input.{Bytes}
 use Rattle.grammar.specs.Reading.{gives}
-use Rattle.grammar.specs.Letters.{Class, refers, keeps, contains, codes, refuses, letterOf, classOf}
+use Rattle.grammar.specs.Letters.{Class, refers, keeps, contains, codes, refuses, letterOf, flagOf, classOf}
 use Rattle.grammar.specs.Room.{Rooms, run}
 use Rattle.grammar.specs.State.{Node, State, start, blank}
 use Rattle.grammar.specs.Answer.{plain}
@@ -24,16 +24,16 @@ use Rattle.alone.proofs.Totals.{total, total-one, total-none}
 use Rattle.alone.proofs.Kin.{flag}
 use Rattle.alone.proofs.Made.{Inside}
 use Rattle.alone.proofs.Nested.{own, own-made, starts, ascends, ascends-or-same, slots-before-start}
-use Rattle.alone.proofs.Asked.{Held, header-held, closed-held}
+use Rattle.alone.proofs.Asked.{Held, header-held, input-held, closed-held}
 
 -- an answer from its parts
-told-by : (t : Tables) (n start end : ℕ) (closed : Bool) (before : ℕ) → length (t .input) ≤ mostBytes → soundAt (t .input) (t .nodes) (t .usedNodes) n ≡ true
-    → spanned (t .input) (nodeOf t n) ≡ true → headerOf (nodeOf t n) ≡ start → nodeOf t n .end ≡ end
-    → closedFrom t start end (nodesIn (t .nodes) (t .usedNodes)) 0 (entriesIn (t .entries) (t .usedEntries)) ≡ gives closed
-    → flaggedBefore t start (nodesIn (t .nodes) (t .usedNodes)) 0 ≡ before
+told-by : (t : Tables) (n source start end : ℕ) (closed : Bool) (before : ℕ) → length (t .input) ≤ mostBytes → soundAt (t .input) (t .nodes) (t .usedNodes) n ≡ true
+    → spanned (t .input) (nodeOf t n) ≡ true → nodeOf t n .input ≡ source → headerOf (nodeOf t n) ≡ start → nodeOf t n .end ≡ end
+    → closedFrom t source start end (nodesIn (t .nodes) (t .usedNodes)) 0 (entriesIn (t .entries) (t .usedEntries)) ≡ gives closed
+    → flaggedBefore t source start (nodesIn (t .nodes) (t .usedNodes)) 0 ≡ before
     → spanOf t n ≡ gives (record { start = start; end = end; closed = closed; slotsBefore = before })
 unfolding spanOf
-told-by t n start end closed before small sound spans h e c b = rw (le-ltb mostBytes (length (t .input)) small, sound, spans, h, e, c, b) refl
+told-by t n source start end closed before small sound spans i h e c b = rw (le-ltb mostBytes (length (t .input)) small, sound, spans, h, i, e, c, b) refl
 
 module _ (s : List ℕ) (R : Rooms) (small : length s ≤ mostBytes) (bytes : Bytes s) (v : ℕ) (fin : State) (read : run R (plain s) ≡ gives (v, fin)) (t : Tables) (held : Held s fin t)
     (n : ℕ) (used : n < length (fin .nodes)) where
@@ -47,12 +47,15 @@ module _ (s : List ℕ) (R : Rooms) (small : length s ≤ mostBytes) (bytes : By
   is-own = mine .stands .nodes n (omega (arith, mine .first)) (mine .named)
 
   -- One slot for each flagged header before the node's.
-  reserved-is : (m : ℕ) → m < length (fin .nodes) → reserved t (startOf fin n) m ≡ cond (ltb (startOf fin m) (startOf fin n)) (flag s (getD (fin .nodes) m blank)) 0
+  reserved-is : (m : ℕ) → m < length (fin .nodes) → reserved t 0 (startOf fin n) m ≡ cond (ltb (startOf fin m) (startOf fin n)) (flag s (getD (fin .nodes) m blank)) 0
   unfolding startOf
-  reserved-is m l = rw (held .input, held .node m l) refl
+  reserved-is m l =
+      ap (λ b. cond (b && ltb (headerOf (nodeOf t m)) (startOf fin n)) (flagOf (getD (t .input) (headerOf (nodeOf t m)) 0)) 0)
+      (eq-eqb (nodeOf t m .input) 0 (input-held s R small bytes v fin read t held m l))
+      ∙ rw (held .input, held .node m l) refl
 
   flagged-is : (more m k : ℕ) → m + more ≤ length (fin .nodes) → k ≤ more → (m < n → m + k ≡ n) → (n ≤ m → k ≡ 0)
-      → flaggedBefore t (startOf fin n) more m ≡ total (flag s) (fin .nodes) k m
+      → flaggedBefore t 0 (startOf fin n) more m ≡ total (flag s) (fin .nodes) k m
   unfolding flaggedBefore
   flagged-is zero m k l h lo hi =
       let z : k ≡ 0 = omega arith in
@@ -69,7 +72,7 @@ module _ (s : List ℕ) (R : Rooms) (small : length s ≤ mostBytes) (bytes : By
       past true e = absurd (omega (arith, lo (ltb-true m n e), ltb-true m n e))
       past false e = ltb-false m n e
 
-      flagged-none : flaggedBefore t (startOf fin n) more (m + 1) ≡ total (flag s) (fin .nodes) 0 (m + 1) → 0 + flaggedBefore t (startOf fin n) more (m + 1) ≡ total (flag s) (fin .nodes) 0 m
+      flagged-none : flaggedBefore t 0 (startOf fin n) more (m + 1) ≡ total (flag s) (fin .nodes) 0 (m + 1) → 0 + flaggedBefore t 0 (startOf fin n) more (m + 1) ≡ total (flag s) (fin .nodes) 0 m
       flagged-none e = omega (arith, total-none (flag s) (fin .nodes) m, total-none (flag s) (fin .nodes) (m + 1))
   flagged-is (suc more) m (suc k) l h lo hi =
       let q = ascends s R small bytes v fin read m n (before (ltb m n) refl) used in
@@ -88,7 +91,7 @@ module _ (s : List ℕ) (R : Rooms) (small : length s ≤ mostBytes) (bytes : By
       before true e = ltb-true m n e
       before false e = absurd (omega (arith, hi (ltb-false m n e)))
 
-  before-held : flaggedBefore t (startOf fin n) (nodesIn (t .nodes) (t .usedNodes)) 0 ≡ slotsBefore fin (startOf fin n)
+  before-held : flaggedBefore t 0 (startOf fin n) (nodesIn (t .nodes) (t .usedNodes)) 0 ≡ slotsBefore fin (startOf fin n)
   before-held =
       let f = mine .flagged in
       rw (held .many, slots-before-start s R small bytes v fin read n used)
@@ -129,6 +132,6 @@ module _ (s : List ℕ) (R : Rooms) (small : length s ≤ mostBytes) (bytes : By
       → spanOf t n ≡ gives (record { start = startOf fin n; end = endOf fin n; closed = namesOwn s fin n; slotsBefore = slotsBefore fin (startOf fin n) })
   unfolding endOf
   span-told sound =
-      told-by t n (startOf fin n) (endOf fin n) (namesOwn s fin n) (slotsBefore fin (startOf fin n)) (omega (arith, ap length (held .input))) sound
-      (ap₂ spanned (held .input) (held .node n used) ∙ spanned-held) (header-held s R small bytes v fin read t held n used) (ap (λ z. z .end) (held .node n used))
+      told-by t n 0 (startOf fin n) (endOf fin n) (namesOwn s fin n) (slotsBefore fin (startOf fin n)) (omega (arith, ap length (held .input))) sound
+      (ap₂ spanned (held .input) (held .node n used) ∙ spanned-held) (input-held s R small bytes v fin read t held n used) (header-held s R small bytes v fin read t held n used) (ap (λ z. z .end) (held .node n used))
       (closed-held s R small bytes v fin read t held n used) before-held

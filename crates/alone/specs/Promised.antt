@@ -27,6 +27,8 @@ pub record Spanned (s : List ℕ) (nodes entries slots nesting : ℕ) (c : Count
       ≡ gives (record { start = startOf left n; end = endOf left n; closed = namesOwn s left n; slotsBefore = slotsBefore left (startOf left n) })
   -- "the place after its last byte, set when complete": the node's sixth number
   pub sixth : nodeOf (tablesAfter s (readOf s nodes entries slots nesting) c) n .end ≡ endOf left n
+  -- K11's seventh number, that of the input: a reading by itself has 0
+  pub seventh : nodeOf (tablesAfter s (readOf s nodes entries slots nesting) c) n .input ≡ 0
   pub header : letterOf (getD s (startOf left n) 0) ≡ getD (left .nodes) n blank .letter
   -- "On yes, the span read alone gives the same value once each index in it is lowered by the slots reserved before the node."
   pub alone : namesOwn s left n ≡ true → Alone s left n

@@ -18,9 +18,9 @@ use Rattle.grammar.specs.Fields.{Fields, fields, sumAt, codeFault, codeNumbers}
 use Rattle.grammar.specs.Steps.{Rule, whatever, asBytes, asTuple, asNames, asString, rules, codeParts, codePart, localsPart, kindsPart}
 use Rattle.grammar.specs.Record.{readsAs, containing, ruled, badString, suited, names, unless, orElse, badPart, badEnd, judged, lookedAs, Tables, Looked, holds, faulty, look, lookedOf, whole, soundAt, sound, nodesIn, chain, nodeOf}
 
--- a node without its first entry
+-- a node without its first entry and its input, at which no test looks
 abbrev pub bare : Node → Node
-bare n = record { letter = n .letter; place = n .place; size = n .size; first = 0; count = n .count; end = n .end }
+bare n = record { letter = n .letter; place = n .place; size = n .size; first = 0; count = n .count; end = n .end; input = 0 }
 
 -- the children that a chain gives, by new numbers
 abbrev pub renumbered : (ℕ → ℕ) → Option (List ℕ) → Option (List ℕ)

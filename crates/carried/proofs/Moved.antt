@@ -47,10 +47,10 @@ module _ (input nodes entries : List ℕ) (usedNodes usedEntries root : ℕ) (or
       length-padded (length entries) (entryCells (movedEntries lent order 0 order))
       (omega (arith, length-entryCells (movedEntries lent order 0 order), length-movedEntries lent order 0 order, length-chains lent order, few-entries))
 
-  in-nodes : nodesIn (nodesAfter nodes order) (length order) ≡ length order
+  pub in-nodes : nodesIn (nodesAfter nodes order) (length order) ≡ length order
   in-nodes = ap (λ k. min (length order) (nodeCapacity k)) long-nodes ∙ omega (arith, few-nodes)
 
-  in-entries : entriesIn (entriesAfter lent order) moved ≡ moved
+  pub in-entries : entriesIn (entriesAfter lent order) moved ≡ moved
   in-entries = ap (λ k. min moved (entryCapacity k)) long-entries ∙ omega (arith, few-entries)
 
   abbrev before : Tables

@@ -28,13 +28,14 @@ pub node-at : (ns : List Node) (rest : List ℕ) (n : ℕ) → n < length ns →
 node-at [] rest n h = absurd (omega arith)
 node-at (x ∷ ns) rest zero h = refl
 node-at (x ∷ ns) rest (suc n) h =
-    let a : suc n * nodeWidth ≡ suc (suc (suc (suc (suc (suc (n * nodeWidth)))))) = omega arith in
-    let b : suc n * nodeWidth + 1 ≡ suc (suc (suc (suc (suc (suc (n * nodeWidth + 1)))))) = omega arith in
-    let c : suc n * nodeWidth + 2 ≡ suc (suc (suc (suc (suc (suc (n * nodeWidth + 2)))))) = omega arith in
-    let d : suc n * nodeWidth + 3 ≡ suc (suc (suc (suc (suc (suc (n * nodeWidth + 3)))))) = omega arith in
-    let e5 : suc n * nodeWidth + 5 ≡ suc (suc (suc (suc (suc (suc (n * nodeWidth + 5)))))) = omega arith in
-    let e : suc n * nodeWidth + 4 ≡ suc (suc (suc (suc (suc (suc (n * nodeWidth + 4)))))) = omega arith in
-    rw (b, c, d, e, e5, a) (node-at ns rest n (omega arith))
+    let e₀ : suc n * nodeWidth ≡ suc (suc (suc (suc (suc (suc (suc (n * nodeWidth))))))) = omega arith in
+    let e₁ : suc n * nodeWidth + 1 ≡ suc (suc (suc (suc (suc (suc (suc (n * nodeWidth + 1))))))) = omega arith in
+    let e₂ : suc n * nodeWidth + 2 ≡ suc (suc (suc (suc (suc (suc (suc (n * nodeWidth + 2))))))) = omega arith in
+    let e₃ : suc n * nodeWidth + 3 ≡ suc (suc (suc (suc (suc (suc (suc (n * nodeWidth + 3))))))) = omega arith in
+    let e₄ : suc n * nodeWidth + 4 ≡ suc (suc (suc (suc (suc (suc (suc (n * nodeWidth + 4))))))) = omega arith in
+    let e₅ : suc n * nodeWidth + 5 ≡ suc (suc (suc (suc (suc (suc (suc (n * nodeWidth + 5))))))) = omega arith in
+    let e₆ : suc n * nodeWidth + 6 ≡ suc (suc (suc (suc (suc (suc (suc (n * nodeWidth + 6))))))) = omega arith in
+    rw (e₁, e₂, e₃, e₄, e₅, e₆, e₀) (node-at ns rest n (omega arith))
 
 pub entry-at : (es : List Entry) (rest : List ℕ) (e : ℕ) → e < length es → entryAt (entryCells es ++ rest) e ≡ getD es e unlinked
 entry-at [] rest e h = absurd (omega arith)

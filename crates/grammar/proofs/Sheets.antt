@@ -53,41 +53,41 @@ p11 = 0x7B ∷ 0x4E ∷ 0x4E ∷ 0x30 ∷ []
 abbrev pub p12 : List ℕ
 p12 = 0x63 ∷ []
 
--- What a sheet says of an input, the stores being of twenty numbers each.
+-- What a sheet says of an input, the stores being of twenty-one numbers each.
 abbrev pub counts : (consumed nodes entries slots : ℕ) → Counts
 counts at ns es ss = record { consumed = at; nodes = ns; entries = es; slots = ss }
 
 -- accepted, with these counts, and these numbers at the front of the stores
 abbrev pub Reads : List ℕ → ℕ → Counts → List ℕ → List ℕ → List ℕ → Type 0
 Reads s nesting c ns es ss =
-    readOf s 20 20 20 nesting ≡ record { answer = gives c; nodes = padded 20 ns; entries = padded 20 es; slots = padded 20 ss }
+    readOf s 21 21 21 nesting ≡ record { answer = gives c; nodes = padded 21 ns; entries = padded 21 es; slots = padded 21 ss }
 
 -- refused, and the stores all zero
 abbrev pub Refuses : List ℕ → ℕ → ℕ → ℕ → Type 0
 Refuses s nesting number place =
-    readOf s 20 20 20 nesting ≡ record { answer = stops number place; nodes = zeros 20; entries = zeros 20; slots = zeros 20 }
+    readOf s 21 21 21 nesting ≡ record { answer = stops number place; nodes = zeros 21; entries = zeros 21; slots = zeros 21 }
 
 -- the leaf question about a node of what was read
 abbrev pub Leafs : List ℕ → (used n : ℕ) → Leaf → Type 0
-Leafs s used n l = leafOf s (readOf s 20 20 20 2000 .nodes) used n ≡ gives l
+Leafs s used n l = leafOf s (readOf s 21 21 21 2000 .nodes) used n ≡ gives l
 
 pub sheets :
     -- P1: "none, consumed 1, one node"
-    (Reads p1 2000 (counts 1 1 0 0) (0x4E ∷ 1 ∷ 0 ∷ nothing ∷ 0 ∷ 1 ∷ []) [] [] × Leafs p1 1 0 nothingness)
+    (Reads p1 2000 (counts 1 1 0 0) (0x4E ∷ 1 ∷ 0 ∷ nothing ∷ 0 ∷ 1 ∷ 0 ∷ []) [] [] × Leafs p1 1 0 nothingness)
     -- P2: "1 at 0"
     × Refuses p2 2000 eofObject 0
     -- P3: "4 at 0"
     × Refuses p3 2000 nullObject 0
     -- P4: "(1, true), 3 nodes, 2 entries"
     × (Reads p4 2000 (counts 8 3 2 0)
-    (0x29 ∷ 1 ∷ 1 ∷ 0 ∷ 2 ∷ 8 ∷ 0x69 ∷ 3 ∷ 4 ∷ nothing ∷ 0 ∷ 7 ∷ 0x54 ∷ 8 ∷ 0 ∷ nothing ∷ 0 ∷ 8 ∷ []) (1 ∷ 1 ∷ 2 ∷ nothing ∷ []) []
+    (0x29 ∷ 1 ∷ 1 ∷ 0 ∷ 2 ∷ 8 ∷ 0 ∷ 0x69 ∷ 3 ∷ 4 ∷ nothing ∷ 0 ∷ 7 ∷ 0 ∷ 0x54 ∷ 8 ∷ 0 ∷ nothing ∷ 0 ∷ 8 ∷ 0 ∷ []) (1 ∷ 1 ∷ 2 ∷ nothing ∷ []) []
     × Leafs p4 3 1 (whole 1) × Leafs p4 3 2 (truth true))
     -- P5: "5 at 3"
     × Refuses p5 2000 invalidRef 3
     -- P6: "both entries name node 1; one slot"
-    × Reads p6 2000 (counts 12 2 2 1) (0x29 ∷ 1 ∷ 1 ∷ 0 ∷ 2 ∷ 12 ∷ 0x69 ∷ 3 ∷ 4 ∷ nothing ∷ 0 ∷ 7 ∷ []) (1 ∷ 1 ∷ 1 ∷ nothing ∷ []) (2 ∷ [])
+    × Reads p6 2000 (counts 12 2 2 1) (0x29 ∷ 1 ∷ 1 ∷ 0 ∷ 2 ∷ 12 ∷ 0 ∷ 0x69 ∷ 3 ∷ 4 ∷ nothing ∷ 0 ∷ 7 ∷ 0 ∷ []) (1 ∷ 1 ∷ 1 ∷ nothing ∷ []) (2 ∷ [])
     -- P7: "empty dict, no slot"
-    × Reads p7 2000 (counts 2 1 0 0) (0x7B ∷ 1 ∷ 0 ∷ nothing ∷ 0 ∷ 2 ∷ []) [] []
+    × Reads p7 2000 (counts 2 1 0 0) (0x7B ∷ 1 ∷ 0 ∷ nothing ∷ 0 ∷ 2 ∷ 0 ∷ []) [] []
     -- P8: "8 at 5"
     × Refuses p8 2000 invalidBytecode 5
     -- P9: "6 at 1"

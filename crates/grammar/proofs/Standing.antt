@@ -37,12 +37,14 @@ pub record Holds (s : List ℕ) (t : Need) (st : State) : Type 0 where
   pub entries-in : (e : ℕ) → e < length (st .entries) → EntryIn (length (st .nodes)) (length (st .entries)) (getD (st .entries) e unlinked)
   pub slots-in : (k : ℕ) → getD (st .slots) k 0 ≤ length (st .nodes)
 
--- a finished node: its children are linked from its first entry on and are as many as it says; and its record is sound, if the input is bytes
+-- a finished node: its children are linked from its first entry on and are as many as it says; and its record is sound, if the input is bytes;
+-- a reading by itself numbers its input 0
 pub record Finished (s : List ℕ) (es : List Entry) (n : Node) : Type 0 where
   pub kids : List ℕ
   pub linked : Linked es (n .first) kids
   pub counted : n .count ≡ length kids
   pub own : Bytes s → sound s n ≡ true
+  pub input : n .input ≡ 0
 
 abbrev pub FinishedFrom : List ℕ → ℕ → State → Type 0
 FinishedFrom s from st = (i : ℕ) → from ≤ i → i < length (st .nodes) → Finished s (st .entries) (getD (st .nodes) i blank)
@@ -98,6 +100,7 @@ finished-grows {s} {es} {es′} {n} {n′} g l e f =
       linked = rw e (grows-linked es es′ g l (n .first) (f .kids) (f .linked));
       counted = ap (λ z. z .count) e ∙ f .counted;
       own = λ bytes. ap (sound s) e ∙ f .own bytes;
+      input = ap (λ z. z .input) e ∙ f .input;
     }
 
 -- A child is attached.
@@ -266,7 +269,7 @@ started {s} {t} {b} h =
 
 -- the node's own record, when its last child is read
 abbrev pub closing : (letter : ℕ) → Fields → Chain → Node
-closing l f c = record { letter = l; place = f .place; size = sizeOf (f .children) (f .place) (f .size) (c .line); first = c .first; count = length (c .kids); end = c .st .at }
+closing l f c = record { letter = l; place = f .place; size = sizeOf (f .children) (f .place) (f .size) (c .line); first = c .first; count = length (c .kids); end = c .st .at; input = 0 }
 
 pub closed : {s : List ℕ} {t₀ t : Need} {st : State} {c : Chain} (l g at : ℕ) (f : Fields) → Holds s t₀ st → st .at < at → Chained s (enter st at g) t c
     → (Bytes s → sound s (closing l f c) ≡ true) → Valued s st t (length (st .nodes), close st l g f c)
@@ -313,7 +316,7 @@ closed {s} {t₀} {t} {st} {c} l g at f h past k own =
     at-node i q u true e =
         let z : i ≡ length (st .nodes) = eqb-true i (length (st .nodes)) e in
         rw (z, getD-set-same (c .st .nodes) (length (st .nodes)) (closing l f c) blank (omega arith))
-        (record { kids = c .kids; linked = built-linked (k .built); counted = refl; own = own })
+        (record { kids = c .kids; linked = built-linked (k .built); counted = refl; own = own; input = refl })
     at-node i q u false e =
         let z = eqb-false i (length (st .nodes)) e in
         rw (getD-set-other (c .st .nodes) (length (st .nodes)) i (closing l f c) blank z)

@@ -6,7 +6,7 @@ use lib.ListN.{getD}
 use Rattle.refusals.specs.Limits.{mostRecords}
 
 -- "Node: [..] type letter without the flag, place, size, first entry, count", and by 02, K7, "a sixth number [..]: the place after its last
--- byte, set when complete [..]. Capacity becomes length / 6".
+-- byte, set when complete [..]"; by K11 "a seventh number", of the input that it was read from, "and capacity becomes length / 7".
 pub record Node : Type 0 where
   pub letter : ℕ
   pub place : ℕ
@@ -14,9 +14,10 @@ pub record Node : Type 0 where
   pub first : ℕ
   pub count : ℕ
   pub end : ℕ
+  pub input : ℕ
 
 abbrev pub nodeWidth : ℕ
-nodeWidth = 6
+nodeWidth = 7
 
 -- "Entry: two numbers: node, next entry. Capacity is length / 2."
 pub record Entry : Type 0 where
@@ -28,7 +29,7 @@ entryWidth = 2
 
 -- a node that is claimed and not yet complete, and what stands where there is no node and no entry
 abbrev pub blank : Node
-blank = record { letter = 0; place = 0; size = 0; first = 0; count = 0; end = 0 }
+blank = record { letter = 0; place = 0; size = 0; first = 0; count = 0; end = 0; input = 0 }
 
 abbrev pub unlinked : Entry
 unlinked = record { child = 0; next = 0 }
@@ -56,7 +57,7 @@ referred at st = record { at = at; nodes = st .nodes; entries = st .entries; slo
 -- The records' numbers, in order.
 abbrev pub nodeCells : List Node → List ℕ
 nodeCells [] = []
-nodeCells (n ∷ ns) = n .letter ∷ n .place ∷ n .size ∷ n .first ∷ n .count ∷ n .end ∷ nodeCells ns
+nodeCells (n ∷ ns) = n .letter ∷ n .place ∷ n .size ∷ n .first ∷ n .count ∷ n .end ∷ n .input ∷ nodeCells ns
 
 abbrev pub entryCells : List Entry → List ℕ
 entryCells [] = []
@@ -72,6 +73,7 @@ nodeAt store n =
       first = getD store (n * nodeWidth + 3) 0;
       count = getD store (n * nodeWidth + 4) 0;
       end = getD store (n * nodeWidth + 5) 0;
+      input = getD store (n * nodeWidth + 6) 0;
     }
 
 abbrev pub entryAt : List ℕ → ℕ → Entry

@@ -232,7 +232,7 @@ close st letter flag f c =
       at = c .st .at;
       nodes =
           set (c .st .nodes) (length (st .nodes))
-          (record { letter = letter; place = f .place; size = sizeOf (f .children) (f .place) (f .size) (c .line); first = c .first; count = length (c .kids); end = c .st .at });
+          (record { letter = letter; place = f .place; size = sizeOf (f .children) (f .place) (f .size) (c .line); first = c .first; count = length (c .kids); end = c .st .at; input = 0 });
       entries = c .st .entries;
       slots = fill flag (length (st .slots)) (length (st .nodes)) (c .st .slots);
       met = c .st .met;

@@ -116,7 +116,7 @@ outcome-short : (t : Stores) (usedNodes usedEntries node size : ℕ) → size < 
 unfolding outcome
 outcome-short t usedNodes usedEntries node size h = rw (lt-ltb size (need usedNodes usedEntries) h)
 
-outcome-enough : (t : Stores) (usedNodes usedEntries node size : ℕ) → need usedNodes usedEntries ≤ size → outcome t usedNodes usedEntries node size ≡ byVisit (visitFrom t node)
+pub outcome-enough : (t : Stores) (usedNodes usedEntries node size : ℕ) → need usedNodes usedEntries ≤ size → outcome t usedNodes usedEntries node size ≡ byVisit (visitFrom t node)
 unfolding outcome
 outcome-enough t usedNodes usedEntries node size h = rw (le-ltb size (need usedNodes usedEntries) h)
 

@@ -9,10 +9,10 @@ use Rattle.keepmove.specs.Moved.{movedNodes, relinked, movedEntries, nodesAfter
 -- Node 2 has the children 1, 3 and 1 again; node 1 has none; node 3 has itself; node 0 is not reached. The chain of 2 is 4, 0, 2.
 abbrev nodes : List ℕ
 nodes =
-    9 ∷ 9 ∷ 9 ∷ 1 ∷ 1 ∷ 9
-    ∷ 1 ∷ 11 ∷ 12 ∷ 4294967295 ∷ 0 ∷ 15
-    ∷ 2 ∷ 21 ∷ 22 ∷ 4 ∷ 3 ∷ 25
-    ∷ 3 ∷ 31 ∷ 32 ∷ 3 ∷ 1 ∷ 35
+    9 ∷ 9 ∷ 9 ∷ 1 ∷ 1 ∷ 9 ∷ 9
+    ∷ 1 ∷ 11 ∷ 12 ∷ 4294967295 ∷ 0 ∷ 15 ∷ 16
+    ∷ 2 ∷ 21 ∷ 22 ∷ 4 ∷ 3 ∷ 25 ∷ 26
+    ∷ 3 ∷ 31 ∷ 32 ∷ 3 ∷ 1 ∷ 35 ∷ 36
     ∷ []
 
 abbrev entries : List ℕ
@@ -23,10 +23,10 @@ unfolding visit member linked childrenOf chains fresh
 order = refl
 
 moved-nodes : nodesAfter nodes (2 ∷ 1 ∷ 3 ∷ [])
-    ≡ 2 ∷ 21 ∷ 22 ∷ 0 ∷ 3 ∷ 25
-    ∷ 1 ∷ 11 ∷ 12 ∷ 4294967295 ∷ 0 ∷ 15
-    ∷ 3 ∷ 31 ∷ 32 ∷ 3 ∷ 1 ∷ 35
-    ∷ 0 ∷ 0 ∷ 0 ∷ 0 ∷ 0 ∷ 0
+    ≡ 2 ∷ 21 ∷ 22 ∷ 0 ∷ 3 ∷ 25 ∷ 26
+    ∷ 1 ∷ 11 ∷ 12 ∷ 4294967295 ∷ 0 ∷ 15 ∷ 16
+    ∷ 3 ∷ 31 ∷ 32 ∷ 3 ∷ 1 ∷ 35 ∷ 36
+    ∷ 0 ∷ 0 ∷ 0 ∷ 0 ∷ 0 ∷ 0 ∷ 0
     ∷ []
 unfolding movedNodes padded
 moved-nodes = refl

@@ -1,4 +1,3 @@
--- No export and no promise rests on this page.
 -- What a move answers and leaves. 02, K11; a refused move leaves nodes, entries and slots as they were.
 use mathlib.Core.Path.{_≡_}
 use Prim.Native.Nat.{ℕ, _+_, _-_, _*_, _≤_, min}

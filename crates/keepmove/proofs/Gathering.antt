@@ -142,7 +142,7 @@ at-front s s₀ to kept i f a b h =
     (getD-take kept s₀ i 0 h ∙ sym (getD-take to s₀ i 0 (omega arith)) ∙ ap (λ x. getD x i 0) (sym f) ∙ getD-take to s i 0 (omega arith))
 
 module _ {nodes : List ℕ} {to kept column : ℕ} {s₀ : List ℕ} {i : ℕ} {s : List ℕ} where
-  pub column-more : (v : ℕ) → Column nodes to kept column s₀ i s → kept ≤ to → to + kept ≤ length s₀ → i < kept → v ≡ getD nodes (getD s i 0 * 6 + column) 0
+  pub column-more : (v : ℕ) → Column nodes to kept column s₀ i s → kept ≤ to → to + kept ≤ length s₀ → i < kept → v ≡ getD nodes (getD s i 0 * 7 + column) 0
       → Column nodes to kept column s₀ (i + 1) (set s (to + i) v)
   unfolding columnOf
   column-more v w a b h p =
@@ -150,7 +150,7 @@ module _ {nodes : List ℕ} {to kept column : ℕ} {s₀ : List ℕ} {i : ℕ} {
       record {
         comes =
             ap₂ (λ x y. sets (set s (to + i) x) y (columnOf nodes column (drop (i + 1) (take kept s₀)))) p (sym next)
-            ∙ ap (λ x. sets (set s (to + i) (getD nodes (getD s i 0 * 6 + column) 0)) (suc (to + i)) (columnOf nodes column (drop x (take kept s₀)))) (add-one i)
+            ∙ ap (λ x. sets (set s (to + i) (getD nodes (getD s i 0 * 7 + column) 0)) (suc (to + i)) (columnOf nodes column (drop x (take kept s₀)))) (add-one i)
             ∙ sym (ap (λ x. sets s (to + i) (columnOf nodes column x)) (at-front s s₀ to kept i (w .front) a (omega arith) h))
             ∙ w .comes;
         front = take-set-le to s (to + i) v (omega arith) ∙ w .front;

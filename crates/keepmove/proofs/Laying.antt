@@ -44,24 +44,24 @@ stepped-after (y ∷ ys) xs i w vs =
     rw e (stepped-cons y (ys ++ xs) (length ys + i) w vs ∙ ap (λ t. y ∷ t) (stepped-after ys xs i w vs))
 
 -- a column is not touched by another
-pub stepped-other : (store : List ℕ) (c n i j : ℕ) (vs : List ℕ) → c < 6 → j < 6 → (c ≡ j → ⊥) → getD (stepped store (i * 6 + c) 6 vs) (n * 6 + j) 0 ≡ getD store (n * 6 + j) 0
+pub stepped-other : (store : List ℕ) (c n i j : ℕ) (vs : List ℕ) → c < 7 → j < 7 → (c ≡ j → ⊥) → getD (stepped store (i * 7 + c) 7 vs) (n * 7 + j) 0 ≡ getD store (n * 7 + j) 0
 unfolding stepped
 stepped-other store c n i j [] a b o = refl
 stepped-other store c n i j (v ∷ vs) a b o =
-    let e : i * 6 + c + 6 ≡ suc i * 6 + c = omega arith in
-    ap (λ k. getD (stepped (set store (i * 6 + c) v) k 6 vs) (n * 6 + j) 0) e
-    ∙ stepped-other (set store (i * 6 + c) v) c n (suc i) j vs a b o
-    ∙ getD-set-other store (i * 6 + c) (n * 6 + j) v 0 (λ p. apart n i c j a b o p)
+    let e : i * 7 + c + 7 ≡ suc i * 7 + c = omega arith in
+    ap (λ k. getD (stepped (set store (i * 7 + c) v) k 7 vs) (n * 7 + j) 0) e
+    ∙ stepped-other (set store (i * 7 + c) v) c n (suc i) j vs a b o
+    ∙ getD-set-other store (i * 7 + c) (n * 7 + j) v 0 (λ p. apart n i c j a b o p)
   where
-    apart : (n i c j : ℕ) → c < 6 → j < 6 → (c ≡ j → ⊥) → n * 6 + j ≡ i * 6 + c → ⊥
+    apart : (n i c j : ℕ) → c < 7 → j < 7 → (c ≡ j → ⊥) → n * 7 + j ≡ i * 7 + c → ⊥
     apart n i c j a b o p = o (omega arith)
 
-pub column-other : (store : List ℕ) (c j : ℕ) (vs ns : List ℕ) → c < 6 → j < 6 → (c ≡ j → ⊥) → columnOf (stepped store c 6 vs) j ns ≡ columnOf store j ns
+pub column-other : (store : List ℕ) (c j : ℕ) (vs ns : List ℕ) → c < 7 → j < 7 → (c ≡ j → ⊥) → columnOf (stepped store c 7 vs) j ns ≡ columnOf store j ns
 unfolding columnOf
 column-other store c j vs [] a b o = refl
 column-other store c j vs (n ∷ ns) a b o =
-    let e : 0 * 6 + c ≡ c = omega arith in
-    ap₂ (λ x y. x ∷ y) (ap (λ k. getD (stepped store k 6 vs) (n * 6 + j) 0) (sym e) ∙ stepped-other store c n 0 j vs a b o) (column-other store c j vs ns a b o)
+    let e : 0 * 7 + c ≡ c = omega arith in
+    ap₂ (λ x y. x ∷ y) (ap (λ k. getD (stepped store k 7 vs) (n * 7 + j) 0) (sym e) ∙ stepped-other store c n 0 j vs a b o) (column-other store c j vs ns a b o)
 
 -- what was stored in a row is read from there
 pub sets-read : (s : List ℕ) (i : ℕ) (vs : List ℕ) (m : ℕ) → length vs ≡ m → i + m ≤ length s → take m (drop i (sets s i vs)) ≡ vs
@@ -76,44 +76,48 @@ zeroed cells rest n m e l = ap₂ (λ a b. a ++ zeros b) (take-at cells rest m e
 
 abbrev laidNodes : (store nodes : List ℕ) → (at : ℕ) → List ℕ → List ℕ
 laidNodes store nodes at ns =
-    stepped (stepped (stepped (stepped (stepped (stepped store 3 6 (firstsOf nodes at ns)) 0 6 (columnOf nodes 0 ns)) 1 6 (columnOf nodes 1 ns)) 2 6 (columnOf nodes 2 ns)) 4 6 (columnOf nodes 4 ns)) 5 6 (columnOf nodes 5 ns)
+    stepped (stepped (stepped (stepped (stepped (stepped (stepped store 3 7 (firstsOf nodes at ns)) 0 7 (columnOf nodes 0 ns)) 1 7 (columnOf nodes 1 ns)) 2 7 (columnOf nodes 2 ns)) 4 7 (columnOf nodes 4 ns)) 5 7 (columnOf nodes 5 ns)) 6 7 (columnOf nodes 6 ns)
 
-pub length-movedNodes : (nodes : List ℕ) (at : ℕ) (ns : List ℕ) → length (nodeCells (movedNodes nodes at ns)) ≡ length ns * 6
+pub length-movedNodes : (nodes : List ℕ) (at : ℕ) (ns : List ℕ) → length (nodeCells (movedNodes nodes at ns)) ≡ length ns * 7
 unfolding movedNodes
 length-movedNodes nodes at [] = refl
 length-movedNodes nodes at (n ∷ ns) = omega (arith, length-movedNodes nodes (at + nodeAt nodes n .count) ns)
 
-row : (x₀ x₁ x₂ x₃ x₄ x₅ : ℕ) (tail : List ℕ) (i : ℕ) (vs : List ℕ) → stepped (x₀ ∷ x₁ ∷ x₂ ∷ x₃ ∷ x₄ ∷ x₅ ∷ tail) (6 + i) 6 vs ≡ x₀ ∷ x₁ ∷ x₂ ∷ x₃ ∷ x₄ ∷ x₅ ∷ stepped tail i 6 vs
-row x₀ x₁ x₂ x₃ x₄ x₅ tail i vs = stepped-after (x₀ ∷ x₁ ∷ x₂ ∷ x₃ ∷ x₄ ∷ x₅ ∷ []) tail i 6 vs
+row : (x₀ x₁ x₂ x₃ x₄ x₅ x₆ : ℕ) (tail : List ℕ) (i : ℕ) (vs : List ℕ) → stepped (x₀ ∷ x₁ ∷ x₂ ∷ x₃ ∷ x₄ ∷ x₅ ∷ x₆ ∷ tail) (7 + i) 7 vs ≡ x₀ ∷ x₁ ∷ x₂ ∷ x₃ ∷ x₄ ∷ x₅ ∷ x₆ ∷ stepped tail i 7 vs
+row x₀ x₁ x₂ x₃ x₄ x₅ x₆ tail i vs = stepped-after (x₀ ∷ x₁ ∷ x₂ ∷ x₃ ∷ x₄ ∷ x₅ ∷ x₆ ∷ []) tail i 7 vs
 
-in-column-0 : (x₀ x₁ x₂ x₃ x₄ x₅ v : ℕ) (tail vs : List ℕ) → stepped (x₀ ∷ x₁ ∷ x₂ ∷ x₃ ∷ x₄ ∷ x₅ ∷ tail) 0 6 (v ∷ vs) ≡ v ∷ x₁ ∷ x₂ ∷ x₃ ∷ x₄ ∷ x₅ ∷ stepped tail 0 6 vs
+in-column-0 : (x₀ x₁ x₂ x₃ x₄ x₅ x₆ v : ℕ) (tail vs : List ℕ) → stepped (x₀ ∷ x₁ ∷ x₂ ∷ x₃ ∷ x₄ ∷ x₅ ∷ x₆ ∷ tail) 0 7 (v ∷ vs) ≡ v ∷ x₁ ∷ x₂ ∷ x₃ ∷ x₄ ∷ x₅ ∷ x₆ ∷ stepped tail 0 7 vs
 unfolding stepped
-in-column-0 x₀ x₁ x₂ x₃ x₄ x₅ v tail vs = row v x₁ x₂ x₃ x₄ x₅ tail 0 vs
+in-column-0 x₀ x₁ x₂ x₃ x₄ x₅ x₆ v tail vs = row v x₁ x₂ x₃ x₄ x₅ x₆ tail 0 vs
 
-in-column-1 : (x₀ x₁ x₂ x₃ x₄ x₅ v : ℕ) (tail vs : List ℕ) → stepped (x₀ ∷ x₁ ∷ x₂ ∷ x₃ ∷ x₄ ∷ x₅ ∷ tail) 1 6 (v ∷ vs) ≡ x₀ ∷ v ∷ x₂ ∷ x₃ ∷ x₄ ∷ x₅ ∷ stepped tail 1 6 vs
+in-column-1 : (x₀ x₁ x₂ x₃ x₄ x₅ x₆ v : ℕ) (tail vs : List ℕ) → stepped (x₀ ∷ x₁ ∷ x₂ ∷ x₃ ∷ x₄ ∷ x₅ ∷ x₆ ∷ tail) 1 7 (v ∷ vs) ≡ x₀ ∷ v ∷ x₂ ∷ x₃ ∷ x₄ ∷ x₅ ∷ x₆ ∷ stepped tail 1 7 vs
 unfolding stepped
-in-column-1 x₀ x₁ x₂ x₃ x₄ x₅ v tail vs = row x₀ v x₂ x₃ x₄ x₅ tail 1 vs
+in-column-1 x₀ x₁ x₂ x₃ x₄ x₅ x₆ v tail vs = row x₀ v x₂ x₃ x₄ x₅ x₆ tail 1 vs
 
-in-column-2 : (x₀ x₁ x₂ x₃ x₄ x₅ v : ℕ) (tail vs : List ℕ) → stepped (x₀ ∷ x₁ ∷ x₂ ∷ x₃ ∷ x₄ ∷ x₅ ∷ tail) 2 6 (v ∷ vs) ≡ x₀ ∷ x₁ ∷ v ∷ x₃ ∷ x₄ ∷ x₅ ∷ stepped tail 2 6 vs
+in-column-2 : (x₀ x₁ x₂ x₃ x₄ x₅ x₆ v : ℕ) (tail vs : List ℕ) → stepped (x₀ ∷ x₁ ∷ x₂ ∷ x₃ ∷ x₄ ∷ x₅ ∷ x₆ ∷ tail) 2 7 (v ∷ vs) ≡ x₀ ∷ x₁ ∷ v ∷ x₃ ∷ x₄ ∷ x₅ ∷ x₆ ∷ stepped tail 2 7 vs
 unfolding stepped
-in-column-2 x₀ x₁ x₂ x₃ x₄ x₅ v tail vs = row x₀ x₁ v x₃ x₄ x₅ tail 2 vs
+in-column-2 x₀ x₁ x₂ x₃ x₄ x₅ x₆ v tail vs = row x₀ x₁ v x₃ x₄ x₅ x₆ tail 2 vs
 
-in-column-3 : (x₀ x₁ x₂ x₃ x₄ x₅ v : ℕ) (tail vs : List ℕ) → stepped (x₀ ∷ x₁ ∷ x₂ ∷ x₃ ∷ x₄ ∷ x₅ ∷ tail) 3 6 (v ∷ vs) ≡ x₀ ∷ x₁ ∷ x₂ ∷ v ∷ x₄ ∷ x₅ ∷ stepped tail 3 6 vs
+in-column-3 : (x₀ x₁ x₂ x₃ x₄ x₅ x₆ v : ℕ) (tail vs : List ℕ) → stepped (x₀ ∷ x₁ ∷ x₂ ∷ x₃ ∷ x₄ ∷ x₅ ∷ x₆ ∷ tail) 3 7 (v ∷ vs) ≡ x₀ ∷ x₁ ∷ x₂ ∷ v ∷ x₄ ∷ x₅ ∷ x₆ ∷ stepped tail 3 7 vs
 unfolding stepped
-in-column-3 x₀ x₁ x₂ x₃ x₄ x₅ v tail vs = row x₀ x₁ x₂ v x₄ x₅ tail 3 vs
+in-column-3 x₀ x₁ x₂ x₃ x₄ x₅ x₆ v tail vs = row x₀ x₁ x₂ v x₄ x₅ x₆ tail 3 vs
 
-in-column-4 : (x₀ x₁ x₂ x₃ x₄ x₅ v : ℕ) (tail vs : List ℕ) → stepped (x₀ ∷ x₁ ∷ x₂ ∷ x₃ ∷ x₄ ∷ x₅ ∷ tail) 4 6 (v ∷ vs) ≡ x₀ ∷ x₁ ∷ x₂ ∷ x₃ ∷ v ∷ x₅ ∷ stepped tail 4 6 vs
+in-column-4 : (x₀ x₁ x₂ x₃ x₄ x₅ x₆ v : ℕ) (tail vs : List ℕ) → stepped (x₀ ∷ x₁ ∷ x₂ ∷ x₃ ∷ x₄ ∷ x₅ ∷ x₆ ∷ tail) 4 7 (v ∷ vs) ≡ x₀ ∷ x₁ ∷ x₂ ∷ x₃ ∷ v ∷ x₅ ∷ x₆ ∷ stepped tail 4 7 vs
 unfolding stepped
-in-column-4 x₀ x₁ x₂ x₃ x₄ x₅ v tail vs = row x₀ x₁ x₂ x₃ v x₅ tail 4 vs
+in-column-4 x₀ x₁ x₂ x₃ x₄ x₅ x₆ v tail vs = row x₀ x₁ x₂ x₃ v x₅ x₆ tail 4 vs
 
-in-column-5 : (x₀ x₁ x₂ x₃ x₄ x₅ v : ℕ) (tail vs : List ℕ) → stepped (x₀ ∷ x₁ ∷ x₂ ∷ x₃ ∷ x₄ ∷ x₅ ∷ tail) 5 6 (v ∷ vs) ≡ x₀ ∷ x₁ ∷ x₂ ∷ x₃ ∷ x₄ ∷ v ∷ stepped tail 5 6 vs
+in-column-5 : (x₀ x₁ x₂ x₃ x₄ x₅ x₆ v : ℕ) (tail vs : List ℕ) → stepped (x₀ ∷ x₁ ∷ x₂ ∷ x₃ ∷ x₄ ∷ x₅ ∷ x₆ ∷ tail) 5 7 (v ∷ vs) ≡ x₀ ∷ x₁ ∷ x₂ ∷ x₃ ∷ x₄ ∷ v ∷ x₆ ∷ stepped tail 5 7 vs
 unfolding stepped
-in-column-5 x₀ x₁ x₂ x₃ x₄ x₅ v tail vs = row x₀ x₁ x₂ x₃ x₄ v tail 5 vs
+in-column-5 x₀ x₁ x₂ x₃ x₄ x₅ x₆ v tail vs = row x₀ x₁ x₂ x₃ x₄ v x₆ tail 5 vs
 
-drop-row : (x₀ x₁ x₂ x₃ x₄ x₅ : ℕ) (tail : List ℕ) (m : ℕ) → drop (suc m * 6) (x₀ ∷ x₁ ∷ x₂ ∷ x₃ ∷ x₄ ∷ x₅ ∷ tail) ≡ drop (m * 6) tail
-drop-row x₀ x₁ x₂ x₃ x₄ x₅ tail m = let e : suc m * 6 ≡ suc (suc (suc (suc (suc (suc (m * 6)))))) = omega arith in rw e refl
+in-column-6 : (x₀ x₁ x₂ x₃ x₄ x₅ x₆ v : ℕ) (tail vs : List ℕ) → stepped (x₀ ∷ x₁ ∷ x₂ ∷ x₃ ∷ x₄ ∷ x₅ ∷ x₆ ∷ tail) 6 7 (v ∷ vs) ≡ x₀ ∷ x₁ ∷ x₂ ∷ x₃ ∷ x₄ ∷ x₅ ∷ v ∷ stepped tail 6 7 vs
+unfolding stepped
+in-column-6 x₀ x₁ x₂ x₃ x₄ x₅ x₆ v tail vs = row x₀ x₁ x₂ x₃ x₄ x₅ v tail 6 vs
 
-rows : (nodes ns : List ℕ) (at : ℕ) (store : List ℕ) → length ns * 6 ≤ length store → laidNodes store nodes at ns ≡ nodeCells (movedNodes nodes at ns) ++ drop (length ns * 6) store
+drop-row : (x₀ x₁ x₂ x₃ x₄ x₅ x₆ : ℕ) (tail : List ℕ) (m : ℕ) → drop (suc m * 7) (x₀ ∷ x₁ ∷ x₂ ∷ x₃ ∷ x₄ ∷ x₅ ∷ x₆ ∷ tail) ≡ drop (m * 7) tail
+drop-row x₀ x₁ x₂ x₃ x₄ x₅ x₆ tail m = let e : suc m * 7 ≡ suc (suc (suc (suc (suc (suc (suc (m * 7))))))) = omega arith in rw e refl
+
+rows : (nodes ns : List ℕ) (at : ℕ) (store : List ℕ) → length ns * 7 ≤ length store → laidNodes store nodes at ns ≡ nodeCells (movedNodes nodes at ns) ++ drop (length ns * 7) store
 unfolding movedNodes firstsOf columnOf stepped
 rows nodes [] at store h = refl
 rows nodes (n ∷ ns) at ([]) h = absurd (omega arith)
@@ -122,22 +126,24 @@ rows nodes (n ∷ ns) at (x₀ ∷ x₁ ∷ []) h = absurd (omega arith)
 rows nodes (n ∷ ns) at (x₀ ∷ x₁ ∷ x₂ ∷ []) h = absurd (omega arith)
 rows nodes (n ∷ ns) at (x₀ ∷ x₁ ∷ x₂ ∷ x₃ ∷ []) h = absurd (omega arith)
 rows nodes (n ∷ ns) at (x₀ ∷ x₁ ∷ x₂ ∷ x₃ ∷ x₄ ∷ []) h = absurd (omega arith)
-rows nodes (n ∷ ns) at (x₀ ∷ x₁ ∷ x₂ ∷ x₃ ∷ x₄ ∷ x₅ ∷ tail) h =
-    ap (λ t. stepped (stepped (stepped (stepped (stepped t 0 6 (columnOf nodes 0 (n ∷ ns))) 1 6 (columnOf nodes 1 (n ∷ ns))) 2 6 (columnOf nodes 2 (n ∷ ns))) 4 6 (columnOf nodes 4 (n ∷ ns))) 5 6 (columnOf nodes 5 (n ∷ ns))) (in-column-3 x₀ x₁ x₂ x₃ x₄ x₅ (firstOf (nodeAt nodes n .count) at) tail (firstsOf nodes (at + nodeAt nodes n .count) ns))
-    ∙ ap (λ t. stepped (stepped (stepped (stepped t 1 6 (columnOf nodes 1 (n ∷ ns))) 2 6 (columnOf nodes 2 (n ∷ ns))) 4 6 (columnOf nodes 4 (n ∷ ns))) 5 6 (columnOf nodes 5 (n ∷ ns))) (in-column-0 x₀ x₁ x₂ (firstOf (nodeAt nodes n .count) at) x₄ x₅ (getD nodes (n * 6 + 0) 0) (stepped tail 3 6 (firstsOf nodes (at + nodeAt nodes n .count) ns)) (columnOf nodes 0 ns))
-    ∙ ap (λ t. stepped (stepped (stepped t 2 6 (columnOf nodes 2 (n ∷ ns))) 4 6 (columnOf nodes 4 (n ∷ ns))) 5 6 (columnOf nodes 5 (n ∷ ns))) (in-column-1 (getD nodes (n * 6 + 0) 0) x₁ x₂ (firstOf (nodeAt nodes n .count) at) x₄ x₅ (getD nodes (n * 6 + 1) 0) (stepped (stepped tail 3 6 (firstsOf nodes (at + nodeAt nodes n .count) ns)) 0 6 (columnOf nodes 0 ns)) (columnOf nodes 1 ns))
-    ∙ ap (λ t. stepped (stepped t 4 6 (columnOf nodes 4 (n ∷ ns))) 5 6 (columnOf nodes 5 (n ∷ ns))) (in-column-2 (getD nodes (n * 6 + 0) 0) (getD nodes (n * 6 + 1) 0) x₂ (firstOf (nodeAt nodes n .count) at) x₄ x₅ (getD nodes (n * 6 + 2) 0) (stepped (stepped (stepped tail 3 6 (firstsOf nodes (at + nodeAt nodes n .count) ns)) 0 6 (columnOf nodes 0 ns)) 1 6 (columnOf nodes 1 ns)) (columnOf nodes 2 ns))
-    ∙ ap (λ t. stepped t 5 6 (columnOf nodes 5 (n ∷ ns))) (in-column-4 (getD nodes (n * 6 + 0) 0) (getD nodes (n * 6 + 1) 0) (getD nodes (n * 6 + 2) 0) (firstOf (nodeAt nodes n .count) at) x₄ x₅ (getD nodes (n * 6 + 4) 0) (stepped (stepped (stepped (stepped tail 3 6 (firstsOf nodes (at + nodeAt nodes n .count) ns)) 0 6 (columnOf nodes 0 ns)) 1 6 (columnOf nodes 1 ns)) 2 6 (columnOf nodes 2 ns)) (columnOf nodes 4 ns))
-    ∙ in-column-5 (getD nodes (n * 6 + 0) 0) (getD nodes (n * 6 + 1) 0) (getD nodes (n * 6 + 2) 0) (firstOf (nodeAt nodes n .count) at) (getD nodes (n * 6 + 4) 0) x₅ (getD nodes (n * 6 + 5) 0) (stepped (stepped (stepped (stepped (stepped tail 3 6 (firstsOf nodes (at + nodeAt nodes n .count) ns)) 0 6 (columnOf nodes 0 ns)) 1 6 (columnOf nodes 1 ns)) 2 6 (columnOf nodes 2 ns)) 4 6 (columnOf nodes 4 ns)) (columnOf nodes 5 ns)
-    ∙ ap (λ k. getD nodes k 0 ∷ getD nodes (n * 6 + 1) 0 ∷ getD nodes (n * 6 + 2) 0 ∷ firstOf (nodeAt nodes n .count) at ∷ getD nodes (n * 6 + 4) 0 ∷ getD nodes (n * 6 + 5) 0 ∷ laidNodes tail nodes (at + nodeAt nodes n .count) ns) (add-zero (n * 6))
+rows nodes (n ∷ ns) at (x₀ ∷ x₁ ∷ x₂ ∷ x₃ ∷ x₄ ∷ x₅ ∷ []) h = absurd (omega arith)
+rows nodes (n ∷ ns) at (x₀ ∷ x₁ ∷ x₂ ∷ x₃ ∷ x₄ ∷ x₅ ∷ x₆ ∷ tail) h =
+    ap (λ t. stepped (stepped (stepped (stepped (stepped (stepped t 0 7 (columnOf nodes 0 (n ∷ ns))) 1 7 (columnOf nodes 1 (n ∷ ns))) 2 7 (columnOf nodes 2 (n ∷ ns))) 4 7 (columnOf nodes 4 (n ∷ ns))) 5 7 (columnOf nodes 5 (n ∷ ns))) 6 7 (columnOf nodes 6 (n ∷ ns))) (in-column-3 x₀ x₁ x₂ x₃ x₄ x₅ x₆ (firstOf (nodeAt nodes n .count) at) tail (firstsOf nodes (at + nodeAt nodes n .count) ns))
+    ∙ ap (λ t. stepped (stepped (stepped (stepped (stepped t 1 7 (columnOf nodes 1 (n ∷ ns))) 2 7 (columnOf nodes 2 (n ∷ ns))) 4 7 (columnOf nodes 4 (n ∷ ns))) 5 7 (columnOf nodes 5 (n ∷ ns))) 6 7 (columnOf nodes 6 (n ∷ ns))) (in-column-0 x₀ x₁ x₂ (firstOf (nodeAt nodes n .count) at) x₄ x₅ x₆ (getD nodes (n * 7 + 0) 0) (stepped tail 3 7 (firstsOf nodes (at + nodeAt nodes n .count) ns)) (columnOf nodes 0 ns))
+    ∙ ap (λ t. stepped (stepped (stepped (stepped t 2 7 (columnOf nodes 2 (n ∷ ns))) 4 7 (columnOf nodes 4 (n ∷ ns))) 5 7 (columnOf nodes 5 (n ∷ ns))) 6 7 (columnOf nodes 6 (n ∷ ns))) (in-column-1 (getD nodes (n * 7 + 0) 0) x₁ x₂ (firstOf (nodeAt nodes n .count) at) x₄ x₅ x₆ (getD nodes (n * 7 + 1) 0) (stepped (stepped tail 3 7 (firstsOf nodes (at + nodeAt nodes n .count) ns)) 0 7 (columnOf nodes 0 ns)) (columnOf nodes 1 ns))
+    ∙ ap (λ t. stepped (stepped (stepped t 4 7 (columnOf nodes 4 (n ∷ ns))) 5 7 (columnOf nodes 5 (n ∷ ns))) 6 7 (columnOf nodes 6 (n ∷ ns))) (in-column-2 (getD nodes (n * 7 + 0) 0) (getD nodes (n * 7 + 1) 0) x₂ (firstOf (nodeAt nodes n .count) at) x₄ x₅ x₆ (getD nodes (n * 7 + 2) 0) (stepped (stepped (stepped tail 3 7 (firstsOf nodes (at + nodeAt nodes n .count) ns)) 0 7 (columnOf nodes 0 ns)) 1 7 (columnOf nodes 1 ns)) (columnOf nodes 2 ns))
+    ∙ ap (λ t. stepped (stepped t 5 7 (columnOf nodes 5 (n ∷ ns))) 6 7 (columnOf nodes 6 (n ∷ ns))) (in-column-4 (getD nodes (n * 7 + 0) 0) (getD nodes (n * 7 + 1) 0) (getD nodes (n * 7 + 2) 0) (firstOf (nodeAt nodes n .count) at) x₄ x₅ x₆ (getD nodes (n * 7 + 4) 0) (stepped (stepped (stepped (stepped tail 3 7 (firstsOf nodes (at + nodeAt nodes n .count) ns)) 0 7 (columnOf nodes 0 ns)) 1 7 (columnOf nodes 1 ns)) 2 7 (columnOf nodes 2 ns)) (columnOf nodes 4 ns))
+    ∙ ap (λ t. stepped t 6 7 (columnOf nodes 6 (n ∷ ns))) (in-column-5 (getD nodes (n * 7 + 0) 0) (getD nodes (n * 7 + 1) 0) (getD nodes (n * 7 + 2) 0) (firstOf (nodeAt nodes n .count) at) (getD nodes (n * 7 + 4) 0) x₅ x₆ (getD nodes (n * 7 + 5) 0) (stepped (stepped (stepped (stepped (stepped tail 3 7 (firstsOf nodes (at + nodeAt nodes n .count) ns)) 0 7 (columnOf nodes 0 ns)) 1 7 (columnOf nodes 1 ns)) 2 7 (columnOf nodes 2 ns)) 4 7 (columnOf nodes 4 ns)) (columnOf nodes 5 ns))
+    ∙ in-column-6 (getD nodes (n * 7 + 0) 0) (getD nodes (n * 7 + 1) 0) (getD nodes (n * 7 + 2) 0) (firstOf (nodeAt nodes n .count) at) (getD nodes (n * 7 + 4) 0) (getD nodes (n * 7 + 5) 0) x₆ (getD nodes (n * 7 + 6) 0) (stepped (stepped (stepped (stepped (stepped (stepped tail 3 7 (firstsOf nodes (at + nodeAt nodes n .count) ns)) 0 7 (columnOf nodes 0 ns)) 1 7 (columnOf nodes 1 ns)) 2 7 (columnOf nodes 2 ns)) 4 7 (columnOf nodes 4 ns)) 5 7 (columnOf nodes 5 ns)) (columnOf nodes 6 ns)
+    ∙ ap (λ k. getD nodes k 0 ∷ getD nodes (n * 7 + 1) 0 ∷ getD nodes (n * 7 + 2) 0 ∷ firstOf (nodeAt nodes n .count) at ∷ getD nodes (n * 7 + 4) 0 ∷ getD nodes (n * 7 + 5) 0 ∷ getD nodes (n * 7 + 6) 0 ∷ laidNodes tail nodes (at + nodeAt nodes n .count) ns) (add-zero (n * 7))
     ∙ ap (λ t. nodeCells (movedNodes nodes at (n ∷ [])) ++ t) (rows nodes ns (at + nodeAt nodes n .count) tail (omega arith))
-    ∙ ap (λ t. nodeCells (movedNodes nodes at (n ∷ ns)) ++ t) (sym (drop-row x₀ x₁ x₂ x₃ x₄ x₅ tail (length ns)))
+    ∙ ap (λ t. nodeCells (movedNodes nodes at (n ∷ ns)) ++ t) (sym (drop-row x₀ x₁ x₂ x₃ x₄ x₅ x₆ tail (length ns)))
 
-pub nodes-laid : (nodes order : List ℕ) → length order * 6 ≤ length nodes → zeroedFrom (laidNodes nodes nodes 0 order) (length order * 6) ≡ nodesAfter nodes order
+pub nodes-laid : (nodes order : List ℕ) → length order * 7 ≤ length nodes → zeroedFrom (laidNodes nodes nodes 0 order) (length order * 7) ≡ nodesAfter nodes order
 nodes-laid nodes order h =
-    ap (λ t. zeroedFrom t (length order * 6)) (rows nodes order 0 nodes h)
-    ∙ zeroed (nodeCells (movedNodes nodes 0 order)) (drop (length order * 6) nodes) (length nodes) (length order * 6) (length-movedNodes nodes 0 order)
-    (sym (length-append (nodeCells (movedNodes nodes 0 order)) (drop (length order * 6) nodes) ∙ omega (arith, length-movedNodes nodes 0 order, length-drop (length order * 6) nodes)))
+    ap (λ t. zeroedFrom t (length order * 7)) (rows nodes order 0 nodes h)
+    ∙ zeroed (nodeCells (movedNodes nodes 0 order)) (drop (length order * 7) nodes) (length nodes) (length order * 7) (length-movedNodes nodes 0 order)
+    (sym (length-append (nodeCells (movedNodes nodes 0 order)) (drop (length order * 7) nodes) ∙ omega (arith, length-movedNodes nodes 0 order, length-drop (length order * 7) nodes)))
 
 -- Entries.
 

@@ -3,3 +3,5 @@ pub mod Containers
 pub mod Laying
 pub mod Moving
 pub mod Same
+pub mod Again
+pub mod Descending

@@ -20,52 +20,52 @@ use Rattle.keepmove.proofs.Laying.{length-stepped, column-other, sets-r
 pub nearer : (s s′ : List ℕ) (k to : ℕ) → take to s′ ≡ take to s → k ≤ to → take k s′ ≡ take k s
 nearer s s′ k to f h = sym (take-take k to s′ h) ∙ ap (take k) f ∙ take-take k to s h
 
-pub column-moved : {nodes s s₁ nodes′ : List ℕ} {to kept column : ℕ} → s₁ ≡ sets s to (columnOf nodes column (take kept s)) → nodes′ ≡ stepped nodes column 6 (take kept (drop to s₁))
+pub column-moved : {nodes s s₁ nodes′ : List ℕ} {to kept column : ℕ} → s₁ ≡ sets s to (columnOf nodes column (take kept s)) → nodes′ ≡ stepped nodes column 7 (take kept (drop to s₁))
     → to + kept ≤ length s → ColumnMoved nodes s to kept column nodes′ s₁
 column-moved {nodes} {s} {s₁} {nodes′} {to} {kept} {column} p q h =
     let vs = columnOf nodes column (take kept s) in
     let size : length vs ≡ kept = length-column nodes column (take kept s) ∙ length-take-le kept s (omega arith) in
     record {
-      laid = q ∙ ap (stepped nodes column 6) (ap (λ x. take kept (drop to x)) p ∙ sets-read s to vs kept size h);
+      laid = q ∙ ap (stepped nodes column 7) (ap (λ x. take kept (drop to x)) p ∙ sets-read s to vs kept size h);
       front = ap (take to) p ∙ take-sets to s to vs (omega arith);
       same = ap length p ∙ length-sets s to vs;
     }
 
-pub firsts-moved : {nodes s s₁ nodes′ : List ℕ} {to kept : ℕ} → s₁ ≡ sets s to (firstsOf nodes 0 (take kept s)) → nodes′ ≡ stepped nodes 3 6 (take kept (drop to s₁))
+pub firsts-moved : {nodes s s₁ nodes′ : List ℕ} {to kept : ℕ} → s₁ ≡ sets s to (firstsOf nodes 0 (take kept s)) → nodes′ ≡ stepped nodes 3 7 (take kept (drop to s₁))
     → to + kept ≤ length s → FirstsMoved nodes s to kept nodes′ s₁
 firsts-moved {nodes} {s} {s₁} {nodes′} {to} {kept} p q h =
     let vs = firstsOf nodes 0 (take kept s) in
     let size : length vs ≡ kept = length-firsts nodes 0 (take kept s) ∙ length-take-le kept s (omega arith) in
     record {
-      laid = q ∙ ap (stepped nodes 3 6) (ap (λ x. take kept (drop to x)) p ∙ sets-read s to vs kept size h);
+      laid = q ∙ ap (stepped nodes 3 7) (ap (λ x. take kept (drop to x)) p ∙ sets-read s to vs kept size h);
       front = ap (take to) p ∙ take-sets to s to vs (omega arith);
       same = ap length p ∙ length-sets s to vs;
     }
 
 -- the lengths stay
 pub column-length : {nodes s nodes′ s′ : List ℕ} {to kept column : ℕ} → ColumnMoved nodes s to kept column nodes′ s′ → length nodes′ ≡ length nodes
-column-length {nodes} {s} {to = to} {kept = kept} {column = column} w = ap length (w .laid) ∙ length-stepped nodes column 6 (columnOf nodes column (take kept s))
+column-length {nodes} {s} {to = to} {kept = kept} {column = column} w = ap length (w .laid) ∙ length-stepped nodes column 7 (columnOf nodes column (take kept s))
 
 pub firsts-length : {nodes s nodes′ s′ : List ℕ} {to kept : ℕ} → FirstsMoved nodes s to kept nodes′ s′ → length nodes′ ≡ length nodes
-firsts-length {nodes} {s} {to = to} {kept = kept} w = ap length (w .laid) ∙ length-stepped nodes 3 6 (firstsOf nodes 0 (take kept s))
+firsts-length {nodes} {s} {to = to} {kept = kept} w = ap length (w .laid) ∙ length-stepped nodes 3 7 (firstsOf nodes 0 (take kept s))
 
 -- a column after others
-column-after : {nodes s nodes₁ s₁ : List ℕ} {to kept c : ℕ} (j : ℕ) → ColumnMoved nodes s to kept c nodes₁ s₁ → kept ≤ to → c < 6 → j < 6 → (c ≡ j → ⊥)
+column-after : {nodes s nodes₁ s₁ : List ℕ} {to kept c : ℕ} (j : ℕ) → ColumnMoved nodes s to kept c nodes₁ s₁ → kept ≤ to → c < 7 → j < 7 → (c ≡ j → ⊥)
     → columnOf nodes₁ j (take kept s₁) ≡ columnOf nodes j (take kept s)
 column-after {nodes} {s} {nodes₁} {s₁} {to} {kept} {c} j w h a b o =
     ap₂ (λ x y. columnOf x j y) (w .laid) (nearer s s₁ kept to (w .front) h) ∙ column-other nodes c j (columnOf nodes c (take kept s)) (take kept s) a b o
 
 pub three-moved : {nodes s nodes₁ s₁ nodes₂ s₂ nodes₃ s₃ : List ℕ} {to kept c : ℕ} → ColumnMoved nodes s to kept c nodes₁ s₁ → ColumnMoved nodes₁ s₁ to kept (c + 1) nodes₂ s₂
-    → ColumnMoved nodes₂ s₂ to kept (c + 2) nodes₃ s₃ → kept ≤ to → c + 2 < 6 → ThreeMoved nodes s to kept c nodes₃ s₃
+    → ColumnMoved nodes₂ s₂ to kept (c + 2) nodes₃ s₃ → kept ≤ to → c + 2 < 7 → ThreeMoved nodes s to kept c nodes₃ s₃
 three-moved {nodes} {s} {nodes₁} {s₁} {nodes₂} {s₂} {nodes₃} {s₃} {to} {kept} {c} u v w h l =
-    let two : nodes₂ ≡ stepped nodes₁ (c + 1) 6 (columnOf nodes (c + 1) (take kept s)) =
-    v .laid ∙ ap (stepped nodes₁ (c + 1) 6) (column-after (c + 1) u h (omega arith) (omega arith) (λ p. omega arith)) in
+    let two : nodes₂ ≡ stepped nodes₁ (c + 1) 7 (columnOf nodes (c + 1) (take kept s)) =
+    v .laid ∙ ap (stepped nodes₁ (c + 1) 7) (column-after (c + 1) u h (omega arith) (omega arith) (λ p. omega arith)) in
     let last : columnOf nodes₂ (c + 2) (take kept s₂) ≡ columnOf nodes (c + 2) (take kept s) =
     column-after (c + 2) v h (omega arith) (omega arith) (λ p. omega arith) ∙ column-after (c + 2) u h (omega arith) (omega arith) (λ p. omega arith) in
     record {
       laid =
           w .laid
-          ∙ ap₂ (λ x y. stepped x (c + 2) 6 y) (two ∙ ap (λ x. stepped x (c + 1) 6 (columnOf nodes (c + 1) (take kept s))) (u .laid)) last;
+          ∙ ap₂ (λ x y. stepped x (c + 2) 7 y) (two ∙ ap (λ x. stepped x (c + 1) 7 (columnOf nodes (c + 1) (take kept s))) (u .laid)) last;
       front = w .front ∙ v .front ∙ u .front;
       same = w .same ∙ v .same ∙ u .same;
     }
@@ -73,49 +73,50 @@ three-moved {nodes} {s} {nodes₁} {s₁} {nodes₂} {s₂} {nodes₃} {s₃} {t
 pub three-length : {nodes s nodes′ s′ : List ℕ} {to kept c : ℕ} → ThreeMoved nodes s to kept c nodes′ s′ → length nodes′ ≡ length nodes
 three-length {nodes} {s} {to = to} {kept = kept} {c = c} w =
     ap length (w .laid)
-    ∙ length-stepped _ (c + 2) 6 (columnOf nodes (c + 2) (take kept s))
-    ∙ length-stepped _ (c + 1) 6 (columnOf nodes (c + 1) (take kept s))
-    ∙ length-stepped nodes c 6 (columnOf nodes c (take kept s))
+    ∙ length-stepped _ (c + 2) 7 (columnOf nodes (c + 2) (take kept s))
+    ∙ length-stepped _ (c + 1) 7 (columnOf nodes (c + 1) (take kept s))
+    ∙ length-stepped nodes c 7 (columnOf nodes c (take kept s))
 
-pub nodes-moved : {nodes s nodes₁ s₁ nodes₂ s₂ nodes₃ s₃ nodes₄ s₄ nodes₅ : List ℕ} {to kept : ℕ} → FirstsMoved nodes s to kept nodes₁ s₁ → ThreeMoved nodes₁ s₁ to kept 0 nodes₂ s₂
-    → ColumnMoved nodes₂ s₂ to kept 4 nodes₃ s₃ → ColumnMoved nodes₃ s₃ to kept 5 nodes₄ s₄ → nodes₅ ≡ zeroedFrom nodes₄ (kept * 6)
-    → kept ≤ to → to + kept ≤ length s → kept * 6 ≤ length nodes → nodes₅ ≡ nodesAfter nodes (take kept s)
-nodes-moved {nodes} {s} {nodes₁} {s₁} {nodes₂} {s₂} {nodes₃} {s₃} {nodes₄} {s₄} {nodes₅} {to} {kept} f a b d z h l m =
+-- three columns from one on, laid over a store
+abbrev threeOf : (store : List ℕ) → (c : ℕ) → (xs ys zs : List ℕ) → List ℕ
+threeOf store c xs ys zs = stepped (stepped (stepped store c 7 xs) (c + 1) 7 ys) (c + 2) 7 zs
+
+pub nodes-moved : {nodes s nodes₁ s₁ nodes₂ s₂ nodes₃ s₃ nodes₄ : List ℕ} {to kept : ℕ} → FirstsMoved nodes s to kept nodes₁ s₁ → ThreeMoved nodes₁ s₁ to kept 0 nodes₂ s₂
+    → ThreeMoved nodes₂ s₂ to kept 4 nodes₃ s₃ → nodes₄ ≡ zeroedFrom nodes₃ (kept * 7)
+    → kept ≤ to → to + kept ≤ length s → kept * 7 ≤ length nodes → nodes₄ ≡ nodesAfter nodes (take kept s)
+nodes-moved {nodes} {s} {nodes₁} {s₁} {nodes₂} {s₂} {nodes₃} {s₃} {nodes₄} {to} {kept} f a b z h l m =
     let order = take kept s in
     let size : length order ≡ kept = length-take-le kept s (omega arith) in
     let o₁ : take kept s₁ ≡ order = nearer s s₁ kept to (f .front) h in
     let o₂ : take kept s₂ ≡ order = nearer s₁ s₂ kept to (a .front) h ∙ o₁ in
-    let fs = firstsOf nodes 0 order in
-    let one : nodes₂ ≡ stepped (stepped (stepped nodes₁ 0 6 (columnOf nodes 0 order)) 1 6 (columnOf nodes 1 order)) 2 6 (columnOf nodes 2 order) =
+    let one : nodes₂ ≡ threeOf nodes₁ 0 (columnOf nodes 0 order) (columnOf nodes 1 order) (columnOf nodes 2 order) =
     a .laid
-    ∙ ap (λ x. stepped (stepped (stepped nodes₁ 0 6 (columnOf nodes₁ 0 x)) 1 6 (columnOf nodes₁ 1 x)) 2 6 (columnOf nodes₁ 2 x)) o₁
-    ∙ ap (λ x. stepped (stepped (stepped nodes₁ 0 6 x) 1 6 (columnOf nodes₁ 1 order)) 2 6 (columnOf nodes₁ 2 order)) (of-first 0 (omega arith) (λ p. omega arith))
-    ∙ ap₂ (λ x y. stepped (stepped (stepped nodes₁ 0 6 (columnOf nodes 0 order)) 1 6 x) 2 6 y) (of-first 1 (omega arith) (λ p. omega arith)) (of-first 2 (omega arith) (λ p. omega arith)) in
-    let four : columnOf nodes₂ 4 (take kept s₂) ≡ columnOf nodes 4 order =
-    ap (columnOf nodes₂ 4) o₂ ∙ of-two one 4 (omega arith) (λ p. omega arith) (λ p. omega arith) (λ p. omega arith) (λ p. omega arith) in
-    let five : columnOf nodes₃ 5 (take kept s₃) ≡ columnOf nodes 5 order =
-    column-after 5 b h (omega arith) (omega arith) (λ p. omega arith)
-    ∙ ap (columnOf nodes₂ 5) o₂ ∙ of-two one 5 (omega arith) (λ p. omega arith) (λ p. omega arith) (λ p. omega arith) (λ p. omega arith) in
-    let all : nodes₄ ≡ stepped (stepped nodes₂ 4 6 (columnOf nodes 4 order)) 5 6 (columnOf nodes 5 order) =
-    d .laid ∙ ap₂ (λ x y. stepped x 5 6 y) (b .laid ∙ ap (stepped nodes₂ 4 6) four) five in
+    ∙ ap (λ x. threeOf nodes₁ 0 (columnOf nodes₁ 0 x) (columnOf nodes₁ 1 x) (columnOf nodes₁ 2 x)) o₁
+    ∙ ap (λ x. threeOf nodes₁ 0 x (columnOf nodes₁ 1 order) (columnOf nodes₁ 2 order)) (of-first 0 (omega arith) (λ p. omega arith))
+    ∙ ap₂ (λ x y. threeOf nodes₁ 0 (columnOf nodes 0 order) x y) (of-first 1 (omega arith) (λ p. omega arith)) (of-first 2 (omega arith) (λ p. omega arith)) in
+    let two : nodes₃ ≡ threeOf nodes₂ 4 (columnOf nodes 4 order) (columnOf nodes 5 order) (columnOf nodes 6 order) =
+    b .laid
+    ∙ ap (λ x. threeOf nodes₂ 4 (columnOf nodes₂ 4 x) (columnOf nodes₂ 5 x) (columnOf nodes₂ 6 x)) o₂
+    ∙ ap (λ x. threeOf nodes₂ 4 x (columnOf nodes₂ 5 order) (columnOf nodes₂ 6 order)) (of-two one 4 (omega arith) (omega arith))
+    ∙ ap₂ (λ x y. threeOf nodes₂ 4 (columnOf nodes 4 order) x y) (of-two one 5 (omega arith) (omega arith)) (of-two one 6 (omega arith) (omega arith)) in
     z
-    ∙ ap (λ x. zeroedFrom x (kept * 6)) all
-    ∙ ap (λ x. zeroedFrom (stepped (stepped x 4 6 (columnOf nodes 4 order)) 5 6 (columnOf nodes 5 order)) (kept * 6))
-    (one ∙ ap (λ x. stepped (stepped (stepped x 0 6 (columnOf nodes 0 order)) 1 6 (columnOf nodes 1 order)) 2 6 (columnOf nodes 2 order)) (f .laid))
-    ∙ ap (λ k. zeroedFrom (stepped (stepped (stepped (stepped (stepped (stepped nodes 3 6 fs) 0 6 (columnOf nodes 0 order)) 1 6 (columnOf nodes 1 order)) 2 6 (columnOf nodes 2 order)) 4 6 (columnOf nodes 4 order)) 5 6 (columnOf nodes 5 order)) (k * 6)) (sym size)
+    ∙ ap (λ x. zeroedFrom x (kept * 7)) two
+    ∙ ap (λ x. zeroedFrom (threeOf x 4 (columnOf nodes 4 order) (columnOf nodes 5 order) (columnOf nodes 6 order)) (kept * 7))
+    (one ∙ ap (λ x. threeOf x 0 (columnOf nodes 0 order) (columnOf nodes 1 order) (columnOf nodes 2 order)) (f .laid))
+    ∙ ap (λ k. zeroedFrom (threeOf (threeOf (stepped nodes 3 7 (firstsOf nodes 0 order)) 0 (columnOf nodes 0 order) (columnOf nodes 1 order) (columnOf nodes 2 order)) 4 (columnOf nodes 4 order) (columnOf nodes 5 order) (columnOf nodes 6 order)) (k * 7)) (sym size)
     ∙ nodes-laid nodes order (omega arith)
   where
-    of-two : nodes₂ ≡ stepped (stepped (stepped nodes₁ 0 6 (columnOf nodes 0 (take kept s))) 1 6 (columnOf nodes 1 (take kept s))) 2 6 (columnOf nodes 2 (take kept s)) → (j : ℕ) → j < 6 → (3 ≡ j → ⊥) → (0 ≡ j → ⊥) → (1 ≡ j → ⊥) → (2 ≡ j → ⊥)
-        → columnOf nodes₂ j (take kept s) ≡ columnOf nodes j (take kept s)
-    of-two e j l p₃ p₀ p₁ p₂ =
-        ap (λ x. columnOf x j (take kept s)) e
-        ∙ column-other (stepped (stepped nodes₁ 0 6 (columnOf nodes 0 (take kept s))) 1 6 (columnOf nodes 1 (take kept s))) 2 j (columnOf nodes 2 (take kept s)) (take kept s) (omega arith) l p₂
-        ∙ column-other (stepped nodes₁ 0 6 (columnOf nodes 0 (take kept s))) 1 j (columnOf nodes 1 (take kept s)) (take kept s) (omega arith) l p₁
-        ∙ column-other nodes₁ 0 j (columnOf nodes 0 (take kept s)) (take kept s) (omega arith) l p₀
-        ∙ ap (λ x. columnOf x j (take kept s)) (f .laid) ∙ column-other nodes 3 j (firstsOf nodes 0 (take kept s)) (take kept s) (omega arith) l p₃
-
-    of-first : (j : ℕ) → j < 6 → (3 ≡ j → ⊥) → columnOf nodes₁ j (take kept s) ≡ columnOf nodes j (take kept s)
+    of-first : (j : ℕ) → j < 7 → (3 ≡ j → ⊥) → columnOf nodes₁ j (take kept s) ≡ columnOf nodes j (take kept s)
     of-first j l o = ap (λ x. columnOf x j (take kept s)) (f .laid) ∙ column-other nodes 3 j (firstsOf nodes 0 (take kept s)) (take kept s) (omega arith) l o
+
+    of-two : nodes₂ ≡ threeOf nodes₁ 0 (columnOf nodes 0 (take kept s)) (columnOf nodes 1 (take kept s)) (columnOf nodes 2 (take kept s)) → (j : ℕ) → 3 < j → j < 7
+        → columnOf nodes₂ j (take kept s) ≡ columnOf nodes j (take kept s)
+    of-two e j m l =
+        ap (λ x. columnOf x j (take kept s)) e
+        ∙ column-other (stepped (stepped nodes₁ 0 7 (columnOf nodes 0 (take kept s))) 1 7 (columnOf nodes 1 (take kept s))) 2 j (columnOf nodes 2 (take kept s)) (take kept s) (omega arith) l (λ p. omega arith)
+        ∙ column-other (stepped nodes₁ 0 7 (columnOf nodes 0 (take kept s))) 1 j (columnOf nodes 1 (take kept s)) (take kept s) (omega arith) l (λ p. omega arith)
+        ∙ column-other nodes₁ 0 j (columnOf nodes 0 (take kept s)) (take kept s) (omega arith) l (λ p. omega arith)
+        ∙ ap (λ x. columnOf x j (take kept s)) (f .laid) ∙ column-other nodes 3 j (firstsOf nodes 0 (take kept s)) (take kept s) (omega arith) l (λ p. omega arith)
 
 -- Entries.
 

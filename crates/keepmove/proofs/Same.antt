@@ -15,7 +15,7 @@ use Rattle.grammar.specs.State.{Node, Entry, blank, unlinked, nodeAt, entryAt, 
 use Rattle.stores.specs.Written.{Keeps}
 use Rattle.stores.proofs.Lookups.{node-kept, entry-kept}
 use Rattle.keepvisit.specs.Visit.{Stores, stores, Visited, bad, visited, member, fresh, linked, childrenOf, children, chainOf, chains, placeIn, visit, visitFrom}
-use Rattle.keepmove.specs.Moved.{firstOf, renewed, movedNodes, relinked, movedEntries, nodesAfter, entriesAfter}
+use Rattle.keepmove.specs.Moved.{firstOf, renewed, movedNodes, relinked, movedEntries, run, nodesAfter, entriesAfter}
 use Rattle.keepmove.specs.Laid.{total}
 use Rattle.keepvisit.proofs.Members.{never}
 use Rattle.keepvisit.proofs.Pushing.{length-linked, length-childrenOf}
@@ -35,7 +35,7 @@ entry-laid : (m : ℕ) (es : List Entry) (e : ℕ) → entryAt (padded m (entryC
 entry-laid m es e = entry-kept es e (laid-keeps m (entryCells es))
 
 -- How many entries stand before a node's own.
-pub before : (nodes order : List ℕ) → ℕ → ℕ
+unfoldable pub before : (nodes order : List ℕ) → ℕ → ℕ
 before nodes [] n = 0
 before nodes (x ∷ xs) n = cond (eqb n x) 0 (nodeAt nodes x .count + before nodes xs n)
 
@@ -123,10 +123,6 @@ own t order at [] n h = never h
 own t order at (x ∷ xs) n h = own-step t order at n x xs (λ m. own t order (at + nodeAt (t .nodes) x .count) xs n m) (eqb n x) refl h
 
 -- A walk along such entries: they stand one behind another.
-pub run : (at count : ℕ) → List ℕ
-run at zero = []
-run at (suc more) = at ∷ run (at + 1) more
-
 module _ (es order : List ℕ) (all : List Entry) (look : (i : ℕ) → entryAt es i ≡ getD all i unlinked) where
   head-at : (front rest : List Entry) (e : Entry) (at : ℕ) → all ≡ front ++ (e ∷ rest) → length front ≡ at → entryAt es at ≡ e
   head-at front rest e at is l = look at ∙ ap₂ (λ x y. getD x y unlinked) is (sym l) ∙ getD-append-seam front e rest unlinked
@@ -194,7 +190,7 @@ module _ (t : Stores) (order : List ℕ) (n : ℕ) (h : member n order ≡ true)
       (its-entries .front) (before (t .nodes) order n) (children t n) (its-entries .back) own-is (its-entries .size)
 
 -- The entries of a kept node are among those kept.
-run-below : (at count e : ℕ) → member e (run at count) ≡ true → e < at + count
+pub run-below : (at count e : ℕ) → member e (run at count) ≡ true → e < at + count
 unfolding member run
 run-below at zero e h = never h
 run-below at (suc more) e h = go (eqb e at) refl h (λ m. run-below (at + 1) more e m)

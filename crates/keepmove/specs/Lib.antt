@@ -1,3 +1,4 @@
 pub mod Moved
 pub mod Laid
 pub mod Parts
+pub mod Down

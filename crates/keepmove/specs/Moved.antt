@@ -1,4 +1,3 @@
--- No export and no promise rests on this page.
 -- The stores after a move, from the order of first visit.
 -- 02, K11: "to the front of the stores, in order of first visit from that node, depth first, entries container by container in that order,
 -- and zero the rest".
@@ -15,6 +14,7 @@ abbrev pub firstOf : (count at : ℕ) → ℕ
 firstOf zero at = nothing
 firstOf (suc more) at = at
 
+-- "Kept nodes keep the input they name": every number but the first entry's stays.
 abbrev pub renewed : Node → ℕ → Node
 renewed n first =
     record {
@@ -24,6 +24,7 @@ renewed n first =
       first = first;
       count = n .count;
       end = n .end;
+      input = n .input;
     }
 
 -- the nodes in that order, the entries of the first beginning at `at`
@@ -42,6 +43,11 @@ unfoldable pub movedEntries : Stores → (order : List ℕ) → (at : ℕ) → L
 movedEntries t order at [] = []
 movedEntries t order at (n ∷ ns) =
     relinked order at (children t n) ++ movedEntries t order (at + nodeAt (t .nodes) n .count) ns
+
+-- so many numbers one behind another, from one on
+unfoldable pub run : (at count : ℕ) → List ℕ
+run at zero = []
+run at (suc more) = at ∷ run (at + 1) more
 
 -- The stores after the move: "to the front of the stores .. and zero the rest".
 abbrev pub nodesAfter : (nodes order : List ℕ) → List ℕ

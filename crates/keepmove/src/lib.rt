@@ -8,6 +8,7 @@ ghost use Rattle.refusals.specs.Limits.{mostRecords};
 ghost use Rattle.keepvisit.specs.Visit.{linked, childrenOf, stores};
 ghost use Rattle.keepmove.specs.Moved.{firstOf, nodesAfter};
 ghost use Rattle.keepmove.specs.Laid.{newAt, kidsOf, allKids, linksOf, allLinks, total, firstsOf, columnOf, stepped, zeroedFrom};
+ghost use Rattle.keepmove.specs.Down.{Rising, NoneRises, MovedDown};
 ghost use Rattle.keepmove.specs.Parts.{ColumnMoved, ThreeMoved, FirstsMoved, Movable, EntriesMoved, AllMoved};
 ghost use Rattle.grammar.specs.State.{nodeWidth, entryWidth};
 
@@ -219,15 +220,59 @@ fn move_firsts(nodes: &mut [u32], s: &mut [u32], to: usize, kept: u32)
     lay_nodes(nodes, 3, s, to, kept);
 }
 
+// Whether no kept node stands before its new place. So it is with what a reading left, but for nodes that are shared from elsewhere.
+fn none_rises(s: &[u32], kept: u32) -> bool
+    requires { ⌜ kept ≤ length (now s) ⌝ }
+    ensures { λ r. ⌜ Rising kept (now (s .entry)) r ⌝ }
+{
+    let mut i = 0u32;
+    while i < kept {
+        if s[i as usize] < i {
+            return false;
+        }
+        i += 1;
+    }
+    true
+}
+
+// Then each record is moved from where it stands, one after another.
+fn move_down(nodes: &mut [u32], s: &[u32], kept: u32)
+    requires { ⌜ (kept ≤ length (now s)) × (NoneRises kept (now s)) × (total (now nodes) (take kept (now s)) ≤ mostRecords) × (kept * nodeWidth ≤ length (now nodes)) ⌝ }
+    ensures { λ _. ⌜ MovedDown (now (nodes .entry)) (now (s .entry)) kept (now (nodes .exit)) ⌝ }
+{
+    let mut i = 0u32;
+    let mut at = 0u32;
+    while i < kept {
+        let node = stores::node_of(nodes, s[i as usize]);
+        let count = node.count;
+        let moved = stores::Node {
+            letter: node.letter,
+            place: node.place,
+            size: node.size,
+            first: first_at(count, at),
+            count: count,
+            end: node.end,
+            input: node.input,
+        };
+        stores::write_node(nodes, i, moved);
+        at += count;
+        i += 1;
+    }
+}
+
 // The kept nodes to the front, zeros behind them.
 fn move_nodes(nodes: &mut [u32], s: &mut [u32], to: usize, kept: u32)
     requires { ⌜ (kept ≤ to) × (to + kept ≤ length (now s)) × (total (now nodes) (take kept (now s)) ≤ mostRecords) × (kept * nodeWidth ≤ length (now nodes)) ⌝ }
     ensures { λ _. ⌜ now (nodes .exit) ≡ nodesAfter (now (nodes .entry)) (take kept (now (s .entry))) ⌝ }
 {
+    if none_rises(s, kept) {
+        move_down(nodes, s, kept);
+        zero_from(nodes, kept as usize * stores::NODE_WIDTH);
+        return;
+    }
     move_firsts(nodes, s, to, kept);
     move_three(nodes, s, to, kept, 0);
-    move_column(nodes, s, to, kept, 4);
-    move_column(nodes, s, to, kept, 5);
+    move_three(nodes, s, to, kept, 4);
     zero_from(nodes, kept as usize * stores::NODE_WIDTH);
 }
 

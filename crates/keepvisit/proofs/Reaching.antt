@@ -5,13 +5,9 @@ use mathlib.Core.Bool.{Bool, true, false, cond, _||_}
 use mathlib.Core.List.{List, [], _∷_, _++_}
 use lib.Dec.{ltb, eqb}
 use borrow.Author.Tests.{eq-eqb}
-use Rattle.keepvisit.specs.Visit.{Stores, Visited, bad, visited, member, fresh, chains, chainOf, children, visit, visitFrom}
+use Rattle.keepvisit.specs.Visit.{Stores, Visited, bad, visited, member, fresh, chains, chainOf, children, visit, visitFrom, Reaches, here, down}
 use Rattle.keepvisit.proofs.Members.{member-append, never}
 use Rattle.keepvisit.proofs.Closed.{either, empty, bad-not, kept-root, kept-children}
-
-pub data Reaches (t : Stores) (root : ℕ) : ℕ → Type 0 where
-  here : Reaches t root root
-  down : (a c : ℕ) → Reaches t root a → member c (children t a) ≡ true → Reaches t root c
 
 -- a member of two lists put together is one of either
 in-either : {P : Type 0} (a : ℕ) (xs ys : List ℕ) → member a (xs ++ ys) ≡ true → (member a xs ≡ true → P) → (member a ys ≡ true → P) → P

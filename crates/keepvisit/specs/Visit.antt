@@ -1,6 +1,6 @@
--- No export and no promise rests on this page.
 -- The visit behind a move: a node and everything reachable from it, in order of first visit, over any stores, also those that no reading made.
 -- 02, K11: "move it and everything reachable from it to the front of the stores, in order of first visit from that node, depth first".
+use mathlib.Core.Path.{_≡_}
 use Prim.Native.Nat.{ℕ, zero, suc}
 use mathlib.Core.Bool.{Bool, true, false, cond, not, _&&_, _||_}
 use mathlib.Core.List.{List, [], _∷_, _++_}
@@ -74,6 +74,11 @@ visit (suc turns) t pending order = turn t (λ p o. visit turns t p o) pending o
 
 abbrev pub visitFrom : Stores → ℕ → Visited
 visitFrom t root = visit (suc (t .entryLimit)) t (root ∷ []) []
+
+-- "everything reachable from it"
+pub data Reaches (t : Stores) (root : ℕ) : ℕ → Type 0 where
+  here : Reaches t root root
+  down : (a c : ℕ) → Reaches t root a → member c (children t a) ≡ true → Reaches t root c
 
 -- The numbers given by the visit.
 

@@ -42,7 +42,7 @@ fn say_answer(answer: Answered) {
 
 // The first node of a value, as the reader leaves it.
 fn show(input: &[u8]) {
-    let mut nodes = [0u32; 30];
+    let mut nodes = [0u32; 35];
     say(b"read");
     say_bytes(input);
     say(b" -> ");
@@ -102,7 +102,7 @@ fn others() {
 
 // A node that no reading leaves: of a letter, with the whole input as its fields.
 fn damaged(letter: u8, fields: &[u8], size: u32, count: u32) {
-    let nodes = [letter as u32, 0, size, refusals::NOTHING, count, size];
+    let nodes = [letter as u32, 0, size, refusals::NOTHING, count, size, 0];
     say(&[letter]);
     say_bytes(fields);
     say(b" -> ");
@@ -111,7 +111,7 @@ fn damaged(letter: u8, fields: &[u8], size: u32, count: u32) {
 
 // A number beyond the store, a letter that is not kept, a wrong size and count, a bad digit, a zero last digit, bytes that are no string.
 fn refused() {
-    let nodes = [0x4E, 0, 0, refusals::NOTHING, 0, 0];
+    let nodes = [0x4E, 0, 0, refusals::NOTHING, 0, 0, 0];
     say(b"node 1 of 1 -> ");
     say_answer(leaf::leaf_of(b"", &nodes, 1, 1));
     say(b"node 1 of 2, one in the store -> ");

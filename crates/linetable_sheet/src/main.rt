@@ -72,7 +72,7 @@ fn show_node(input: &[u8], nodes: &[u32], used: u32, node: u32, count: u32) {
 
 // A table in the middle of an input, which is asked for by its node.
 fn run_in(name: &[u8], input: &[u8], node: u32, count: u32) {
-    let mut nodes = [0u32; 18];
+    let mut nodes = [0u32; 21];
     say(name);
     say(b": ");
     match reader::deserialize_value(input, &mut nodes, &mut [0; 4], &mut [0; 1], 2) {

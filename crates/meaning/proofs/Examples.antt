@@ -40,7 +40,7 @@ meantAs s o (stops n p) = none
 
 -- what an input is read as, with room enough
 abbrev meant : List ℕ → Option Value
-meant s = meantAs s (readOf s 120 40 5 9) (readOf s 120 40 5 9 .answer)
+meant s = meantAs s (readOf s 140 40 5 9) (readOf s 140 40 5 9 .answer)
 
 abbrev backAs : List ℕ → Outcome → Answer Counts → Answer (List ℕ)
 backAs s o (gives c) = written (tablesAfter s o c) 0 9 200
@@ -48,7 +48,7 @@ backAs s o (stops n p) = stops n p
 
 -- and what it is written back as
 abbrev back : List ℕ → Answer (List ℕ)
-back s = backAs s (readOf s 120 40 5 9) (readOf s 120 40 5 9 .answer)
+back s = backAs s (readOf s 140 40 5 9) (readOf s 140 40 5 9 .answer)
 
 -- P4 and P6 of 01: (1, true); and the shared 5 means what it means twice. A tuple's children are its own and none of theirs: ((none,), true)
 pub sheets :
@@ -98,7 +98,7 @@ groupless =
     ∷ 0 ∷ 0 ∷ 0 ∷ 0 ∷ 0x73 ∷ 0 ∷ 0 ∷ 0 ∷ 0 ∷ 0x73 ∷ 0 ∷ 0 ∷ 0 ∷ 0 ∷ []
 
 abbrev readAgain : Answer (List ℕ) → Answer Counts
-readAgain (gives bs) = readOf bs 120 40 5 9 .answer
+readAgain (gives bs) = readOf bs 140 40 5 9 .answer
 readAgain (stops n p) = stops n p
 
 abbrev lengthOf : Answer (List ℕ) → Answer ℕ
@@ -109,7 +109,7 @@ abbrev shallowAs : List ℕ → Outcome → Answer Counts → Option Value × An
 shallowAs s o (gives c) = (valueOf 3 (tablesAfter s o c) 0, lengthOf (written (tablesAfter s o c) 0 3 200), readAgain (written (tablesAfter s o c) 0 3 200))
 shallowAs s o (stops n p) = (none, stops n p, stops n p)
 
-pub out-of-order : shallowAs groupless (readOf groupless 120 40 5 9) (readOf groupless 120 40 5 9 .answer) ≡ (none, gives 67, stops invalidBytecode 0)
+pub out-of-order : shallowAs groupless (readOf groupless 140 40 5 9) (readOf groupless 140 40 5 9 .answer) ≡ (none, gives 67, stops invalidBytecode 0)
 unfolding afterLead afterByte allows bind run letters found classOf digits pylong numbers fields contained codeFields reference header front attach strings suits child kids couples rules firstLine partsFrom ended body enter close after one value plain reading readOf padded sound soundAt chain whole badString badPart badEnd look magnitude then each into words digitsFrom digitBytes integerBytes ascii codeString shapeOf sameBytes having namedIn apartFrom inGroups manners partsAs parted writing written allOf valueOf has
 out-of-order = refl
 

@@ -195,32 +195,32 @@ module _ (w : Within) (many room : ℕ) where
       sym (ap (λ n. also all (asks w n node steps)) z ∙ also-last all) ∙ k .comes
 
 -- The slots reserved before a place.
-module _ (t : Tables) (start many : ℕ) where
+module _ (t : Tables) (source start many : ℕ) where
   pub record Counting (slots node : ℕ) : Type 0 where
     pub within : node ≤ many
     pub few : slots ≤ node
-    pub comes : slots + flaggedBefore t start (many - node) node ≡ flaggedBefore t start many 0
+    pub comes : slots + flaggedBefore t source start (many - node) node ≡ flaggedBefore t source start many 0
 
   pub count-start : Counting 0 0
   count-start =
       let z : many - 0 ≡ many = omega arith in
-      let e = ap (λ k. flaggedBefore t start k 0) z in
+      let e = ap (λ k. flaggedBefore t source start k 0) z in
       record { within = omega arith; few = omega arith; comes = omega (arith, e) }
 
-  pub count-more : {slots node r slots′ : ℕ} → Counting slots node → node < many → r ≡ reserved t start node → r ≤ 1 → slots′ ≡ slots + r
+  pub count-more : {slots node r slots′ : ℕ} → Counting slots node → node < many → r ≡ reserved t source start node → r ≤ 1 → slots′ ≡ slots + r
       → Counting slots′ (node + 1)
   unfolding flaggedBefore
   count-more {slots} {node} {r} {slots′} k h e one s =
       let z : many - node ≡ suc (many - (node + 1)) = omega arith in
-      let next = ap (λ n. flaggedBefore t start n node) z in
+      let next = ap (λ n. flaggedBefore t source start n node) z in
       let f = k .few in
       let c = k .comes in
       record { within = omega arith; few = omega (arith, f, one, s); comes = omega (arith, next, c, e, s) }
 
-  pub count-end : {slots node : ℕ} → Counting slots node → many ≤ node → slots ≡ flaggedBefore t start many 0
+  pub count-end : {slots node : ℕ} → Counting slots node → many ≤ node → slots ≡ flaggedBefore t source start many 0
   unfolding flaggedBefore
   count-end {slots} {node} k h =
       let z : many - node ≡ 0 = omega (arith, k .within) in
-      let last = ap (λ n. flaggedBefore t start n node) z in
+      let last = ap (λ n. flaggedBefore t source start n node) z in
       let c = k .comes in
       omega (arith, last, c)

@@ -20,16 +20,17 @@ pub record Span : Type 0 where
   pub closed : Bool
   pub slotsBefore : ℕ
 
--- Whether a node's header stands in a span; the question goes by places.
-abbrev pub inside : Tables → (start end node : ℕ) → Bool
-inside t start end m = leb start (headerOf (nodeOf t m)) && ltb (headerOf (nodeOf t m)) end
+-- Whether a node is of the span's input, by its number, and its header stands in the span: the question goes by places, and those of a
+-- value read from another input say nothing of this one's. 02, K11: "Kept nodes keep the input they name".
+abbrev pub inside : Tables → (source start end node : ℕ) → Bool
+inside t source start end m = eqb (nodeOf t m .input) source && leb start (headerOf (nodeOf t m)) && ltb (headerOf (nodeOf t m)) end
 
 -- "every reference in a span (header included) names a slot reserved in that span". What is inside names its children by entries, a
 -- reference by an entry of the node that it names; each node owns at most one slot, reserved at its header. So the answer is yes exactly
 -- where no entry of a node inside names one outside.
-unfoldable pub allInside : Tables → (start end : ℕ) → List ℕ → Bool
-allInside t start end [] = true
-allInside t start end (v ∷ vs) = inside t start end v && allInside t start end vs
+unfoldable pub allInside : Tables → (source start end : ℕ) → List ℕ → Bool
+allInside t source start end [] = true
+allInside t source start end (v ∷ vs) = inside t source start end v && allInside t source start end vs
 
 -- a child's number beyond the nodes used is no child
 unfoldable pub allUsed : Tables → List ℕ → Bool
@@ -52,36 +53,38 @@ abbrev pub andThen : Bool → Answer Bool → Answer Bool
 andThen b (gives c) = gives (b && c)
 andThen b (stops number place) = stops number place
 
-abbrev pub onward : Tables → (start end : ℕ) → Answer (List ℕ) → (ℕ → Answer Bool) → Answer Bool
-onward t start end (stops number place) rest = stops number place
-onward t start end (gives vs) rest = andThen (allInside t start end vs) (rest (length vs))
+abbrev pub onward : Tables → (source start end : ℕ) → Answer (List ℕ) → (ℕ → Answer Bool) → Answer Bool
+onward t source start end (stops number place) rest = stops number place
+onward t source start end (gives vs) rest = andThen (allInside t source start end vs) (rest (length vs))
 
 -- The question, over so many nodes from one on, with so many steps along chains left: together no more than entries are used.
-unfoldable pub closedFrom : Tables → (start end more node steps : ℕ) → Answer Bool
-closedFrom t start end zero m steps = gives true
-closedFrom t start end (suc more) m steps =
-    cond (inside t start end m)
-    (onward t start end (childrenAt t steps m) (λ taken. closedFrom t start end more (m + 1) (steps - taken)))
-    (closedFrom t start end more (m + 1) steps)
+unfoldable pub closedFrom : Tables → (source start end more node steps : ℕ) → Answer Bool
+closedFrom t source start end zero m steps = gives true
+closedFrom t source start end (suc more) m steps =
+    cond (inside t source start end m)
+    (onward t source start end (childrenAt t steps m) (λ taken. closedFrom t source start end more (m + 1) (steps - taken)))
+    (closedFrom t source start end more (m + 1) steps)
 
--- "the slots reserved before the node": one for each flagged header before its own.
-abbrev pub reserved : Tables → (start node : ℕ) → ℕ
-reserved t start m = cond (ltb (headerOf (nodeOf t m)) start) (flagOf (getD (t .input) (headerOf (nodeOf t m)) 0)) 0
+-- "the slots reserved before the node": one for each flagged header before its own, of its own input, since by K11 "Slots of a new read begin
+-- at 0 again".
+abbrev pub reserved : Tables → (source start node : ℕ) → ℕ
+reserved t source start m =
+    cond (eqb (nodeOf t m .input) source && ltb (headerOf (nodeOf t m)) start) (flagOf (getD (t .input) (headerOf (nodeOf t m)) 0)) 0
 
-unfoldable pub flaggedBefore : Tables → (start more node : ℕ) → ℕ
-flaggedBefore t start zero m = 0
-flaggedBefore t start (suc more) m = reserved t start m + flaggedBefore t start more (m + 1)
+unfoldable pub flaggedBefore : Tables → (source start more node : ℕ) → ℕ
+flaggedBefore t source start zero m = 0
+flaggedBefore t source start (suc more) m = reserved t source start m + flaggedBefore t source start more (m + 1)
 
-abbrev pub told : Tables → (start end : ℕ) → Answer Bool → Answer Span
-told t start end (stops number place) = stops number place
-told t start end (gives truth) =
-    gives (record { start = start; end = end; closed = truth; slotsBefore = flaggedBefore t start (nodesIn (t .nodes) (t .usedNodes)) 0 })
+abbrev pub told : Tables → (source start end : ℕ) → Answer Bool → Answer Span
+told t source start end (stops number place) = stops number place
+told t source start end (gives truth) =
+    gives (record { start = start; end = end; closed = truth; slotsBefore = flaggedBefore t source start (nodesIn (t .nodes) (t .usedNodes)) 0 })
 
 -- 14 at 0; then 16 at the node's number where its record is not sound or its bytes are none; then the question's own 16.
 unfoldable pub spanOf : Tables → ℕ → Answer Span
 spanOf t n =
     cond (ltb mostBytes (length (t .input))) (stops inputTooLong 0)
     (cond (soundAt (t .input) (t .nodes) (t .usedNodes) n && spanned (t .input) (nodeOf t n))
-    (told t (headerOf (nodeOf t n)) (nodeOf t n .end)
-    (closedFrom t (headerOf (nodeOf t n)) (nodeOf t n .end) (nodesIn (t .nodes) (t .usedNodes)) 0 (entriesIn (t .entries) (t .usedEntries))))
+    (told t (nodeOf t n .input) (headerOf (nodeOf t n)) (nodeOf t n .end)
+    (closedFrom t (nodeOf t n .input) (headerOf (nodeOf t n)) (nodeOf t n .end) (nodesIn (t .nodes) (t .usedNodes)) 0 (entriesIn (t .entries) (t .usedEntries))))
     (stops badTable n))

@@ -28,15 +28,16 @@ pub record Within : Type 0 where
   pub entries : List ℕ
   pub many : ℕ
   pub room : ℕ
+  pub source : ℕ
   pub start : ℕ
   pub end : ℕ
 
 abbrev pub bounded : (nodes entries : List ℕ) → Bounds → Within
 bounded nodes entries b =
-    record { nodes = nodes; entries = entries; many = b .many; room = b .room; start = b .start; end = b .end }
+    record { nodes = nodes; entries = entries; many = b .many; room = b .room; source = b .source; start = b .start; end = b .end }
 
 abbrev pub has : Within → ℕ → Bool
-has w v = inside (among [] (w .nodes)) (w .start) (w .end) v
+has w v = inside (among [] (w .nodes)) (w .source) (w .start) (w .end) v
 
 abbrev pub joined : Bool → Option Bool → Option Bool
 joined b none = none
@@ -91,7 +92,7 @@ answeredOf (stops number place) = answered.Refused number place
 -- a sound node's, where the question came to this
 abbrev pub spannedBy : Tables → Bounds → Asked → Answered
 spannedBy t b (asked.Is truth) =
-    answered.Told (record { start = b .start; end = b .end; closed = truth; «slots_before» = flaggedBefore t (b .start) (b .many) 0 })
+    answered.Told (record { start = b .start; end = b .end; closed = truth; «slots_before» = flaggedBefore t (b .source) (b .start) (b .many) 0 })
 spannedBy t b (asked.Fails m) = answered.Refused badTable m
 
 abbrev pub spanAt : (input nodes entries : List ℕ) → Bounds → Answered

@@ -27,10 +27,11 @@ pub enum Answered {
     Refused(u32, u32),
 }
 
-// How many nodes and entries are used, and a span.
+// How many nodes and entries are used, and a span of the input of this number.
 struct Bounds {
     many: u32,
     room: u32,
+    source: u32,
     start: u32,
     end: u32,
 }
@@ -91,10 +92,13 @@ fn spanned(s: &[u8], node: stores::Node) -> bool
     node.end as usize <= s.len()
 }
 
-// Whether a node's header stands in a span.
-fn inside(nodes: &[u32], start: u32, end: u32, node: u32) -> bool
-    ensures { λ r. ⌜ r ≡ definition.inside (among [] (now (nodes .entry))) start end node ⌝ }
+// Whether a node is of this input and its header stands in a span.
+fn inside(nodes: &[u32], source: u32, start: u32, end: u32, node: u32) -> bool
+    ensures { λ r. ⌜ r ≡ definition.inside (among [] (now (nodes .entry))) source start end node ⌝ }
 {
+    if stores::input_of(nodes, node) != source {
+        return false;
+    }
     let header = header_of(nodes, node);
     if header < start {
         return false;
@@ -123,7 +127,7 @@ fn walk(nodes: &[u32], entries: &[u32], b: Bounds, first: u32, count: u32) -> Wa
         if b.many <= child {
             return Walked::Faulty;
         }
-        all = both(all, inside(nodes, b.start, b.end, child));
+        all = both(all, inside(nodes, b.source, b.start, b.end, child));
         e = stores::next_of(entries, e);
         i += 1;
     }
@@ -134,7 +138,7 @@ fn walk(nodes: &[u32], entries: &[u32], b: Bounds, first: u32, count: u32) -> Wa
 fn visit(nodes: &[u32], entries: &[u32], b: Bounds, steps: u32, node: u32) -> Walked
     ensures { λ r. ⌜ r ≡ visits (bounded (now (nodes .entry)) (now (entries .entry)) b) steps node ⌝ }
 {
-    if !inside(nodes, b.start, b.end, node) {
+    if !inside(nodes, b.source, b.start, b.end, node) {
         return Walked::Took(0, true);
     }
     let count = stores::count_of(nodes, node);
@@ -184,10 +188,13 @@ fn flag_at(s: &[u8], at: u32) -> u32
     word(s[at]) / 128
 }
 
-// One where a node's header is flagged and stands before a place.
-fn reserves(s: &[u8], nodes: &[u32], start: u32, node: u32) -> u32
-    ensures { λ r. ⌜ (r ≡ definition.reserved (among (now (s .entry)) (now (nodes .entry))) start node) × (r ≤ 1) ⌝ }
+// One where a node is of this input and its header is flagged and stands before a place.
+fn reserves(s: &[u8], nodes: &[u32], source: u32, start: u32, node: u32) -> u32
+    ensures { λ r. ⌜ (r ≡ definition.reserved (among (now (s .entry)) (now (nodes .entry))) source start node) × (r ≤ 1) ⌝ }
 {
+    if stores::input_of(nodes, node) != source {
+        return 0;
+    }
     let header = header_of(nodes, node);
     if start <= header {
         return 0;
@@ -196,14 +203,14 @@ fn reserves(s: &[u8], nodes: &[u32], start: u32, node: u32) -> u32
 }
 
 // How many of so many nodes do.
-fn flagged_before(s: &[u8], nodes: &[u32], many: u32, start: u32) -> u32
+fn flagged_before(s: &[u8], nodes: &[u32], many: u32, source: u32, start: u32) -> u32
     requires { ⌜ many ≤ mostRecords ⌝ }
-    ensures { λ r. ⌜ r ≡ definition.flaggedBefore (among (now (s .entry)) (now (nodes .entry))) start many 0 ⌝ }
+    ensures { λ r. ⌜ r ≡ definition.flaggedBefore (among (now (s .entry)) (now (nodes .entry))) source start many 0 ⌝ }
 {
     let mut slots = 0u32;
     let mut node = 0u32;
     while node < many {
-        slots += reserves(s, nodes, start, node);
+        slots += reserves(s, nodes, source, start, node);
         node += 1;
     }
     slots
@@ -220,7 +227,7 @@ fn span_at(s: &[u8], nodes: &[u32], entries: &[u32], b: Bounds) -> Answered
             start: b.start,
             end: b.end,
             closed,
-            slots_before: flagged_before(s, nodes, b.many, b.start),
+            slots_before: flagged_before(s, nodes, b.many, b.source, b.start),
         }),
     }
 }
@@ -248,6 +255,7 @@ pub fn span_of(
     let b = Bounds {
         many: stores::nodes_in(nodes, used_nodes),
         room: stores::entries_in(entries, used_entries),
+        source: stores::input_of(nodes, node),
         start: header_of(nodes, node),
         end: stores::end_of(nodes, node),
     };

@@ -1,60 +1,35 @@
 -- DEMAND 1: no export asks anything; each call returns; and it ends in its answer, or in a refusal of 01's table with every store lent for
--- writing all zero. By cases of the definition that each contract cites, with Numbers. Assumes nothing.
-use mathlib.Core.Path.{_≡_, refl, ap, _∙_}
-use Prim.Native.Nat.{ℕ, _/_, min}
-use mathlib.Core.Bool.{Bool}
-use mathlib.Core.List.{List}
-use mathlib.Core.Option.{none, some}
+-- writing all zero, but for those that 02 exempts. By cases of the definition that each contract cites. Assumes nothing.
+use Prim.Native.Nat.{_/_, min}
 use lib.ListN.{length}
 use mir.Syntax.{w32}
 use mir.Val.{ofZ}
 use base.Logic.{emp, id⊢}
 use contract.Monad.{fact-mono}
 use denote.Ref.{now}
-use Rattle.grammar.specs.Reading.{Answer, gives, stops}
-use Rattle.grammar.specs.State.{State}
-use Rattle.grammar.specs.Answer.{outcomeOf, reading, readOf}
-use Rattle.grammar.specs.Leaf.{Leaf, leafOf}
+use Rattle.grammar.specs.Leaf.{leafOf}
 use Rattle.grammar.specs.Record.{tablesOf}
-use Rattle.leaf.specs.Answers.{toldOf, answeredOf}
-use Rattle.leaf.specs.declared.Answered.the-variants as leaf
 use Rattle.linetable.specs.Answer.{located, firstLine}
 use Rattle.locate.specs.Part.{locatedAt}
-use Rattle.localsplus.specs.declared.Split.{Split}
-use Rattle.localsplus.specs.declared.Split.the-variants as split
 use Rattle.localsplus.specs.Kind.{localBit, cellBit, freeBit}
 use Rattle.localsplus.specs.Lists.{positions, derefMap, cellToArgument}
 use Rattle.localsplus.specs.Sum.{argumentSum}
-use Rattle.localsplus.specs.Answer.{roomsOf, splitOf, stored as storedOf}
-use Rattle.varint.specs.declared.Written.{Written}
-use Rattle.varint.specs.declared.Written.the-variants as varint
-use Rattle.varintread.specs.declared.Found.{Found}
-use Rattle.varintread.specs.declared.Found.the-variants as found
+use Rattle.localsplus.specs.Answer.{roomsOf, splitOf}
 use Rattle.varint.specs.Writing.{littleEndian, bigEndian, bigEndianWithStart}
 use Rattle.varintread.specs.Reading.{readVarint, readVarintWithStart}
 use Rattle.varint.specs.Answers.{stored, storedSigned}
-use Rattle.varintread.proofs.Refusals.{Told, varint-told, with-start-told}
+use Rattle.varintread.proofs.Refusals.{varint-told, with-start-told}
 use Rattle.exceptiontable.specs.Reading.{decodedOf}
 use Rattle.exceptiontable.specs.Writing.{encodedOf}
 use Rattle.totals.specs.Totals.{totalsOf, addedOf}
 use Rattle.printedtotals.specs.Lines.{printedOf}
-use Rattle.output.specs.declared.Wrote.the-variants as wrote
-use Rattle.sillgarland.specs.Leaves.{leafStruct}
-use Rattle.sillgarland.specs.Locals.{splitStruct}
-use Rattle.sources.specs.Marks.{sources, counts, told}
+use Rattle.sources.specs.Marks.{sources}
 use Rattle.sources.proofs.Beside.{beside-located}
 use Rattle.readalone.specs.Alone.{lent}
 use Rattle.goldens.specs.Moving.{toFields, toPlain}
-use Rattle.sillgarland.specs.Values.{readStruct, ReadAs, wroteStruct, WroteAs}
-use Rattle.sillgarland.specs.Varints.{writtenAs, foundStruct}
-use Rattle.sillgarland.specs.declared.leaves.SillLeaf.{SillLeaf}
-use Rattle.sillgarland.specs.declared.locals.SillSplit.{SillSplit}
-use Rattle.sillgarland.specs.declared.values.SillRead.{SillRead}
-use Rattle.sillgarland.specs.declared.varints.SillWritten.{SillWritten}
-use Rattle.sillgarland.specs.declared.varints.SillFound.{SillFound}
 use Rattle.sillgarland.proofs as sillgarland
 use Rattle.promises.specs.Calls.{sillWrite}
-use Rattle.promises.specs.Demand1.{Ends, answers, refuses, Zero, VarintEnds, FoundEnds, Demand1}
+use Rattle.promises.specs.Demand1.{Demand1}
 use Rattle.promises.proofs.Reading.{writtenBy}
 use Rattle.promises.proofs.LineEnds.{locate-ends, locations-end, salvage-ends, marks-in-table, sources-end}
 use Rattle.promises.proofs.Joins.{join-ends, line-ends}
@@ -67,47 +42,9 @@ use Rattle.promises.proofs.RowStarts.{index-ends, before-ends, at-ends}
 use Rattle.nodespan.specs.Span.{spanOf}
 use Rattle.promises.proofs.Spans.{span-in-table, span-ends}
 use Rattle.promises.proofs.Nightly.{totals-in-table, added-in-table, totalled-ends, printed-in-table, printed-ends}
-use Rattle.promises.proofs.Numbers.{Tabled, reading-in-table, leaf-in-table, located-in-table, located-at-in-table, TabledSplit, split-in-table, TabledStore, stored-in-table, signed-in-table, told-in-table, written-in-table}
-
--- Each kind of definition: what its contract says of an outcome gives the end.
-read-ends : (s : List ℕ) (nodes entries slots : List ℕ) (nesting : ℕ) (r : SillRead) (ns es ss : List ℕ)
-    → ReadAs (readOf s (length nodes) (length entries) (length slots) nesting) r ns es ss
-    → Ends r (λ counts. readStruct (gives counts)) (λ number place. readStruct (stops number place)) (Zero nodes ns × Zero entries es × Zero slots ss)
-unfolding readOf
-read-ends s nodes entries slots nesting r ns es ss h = go (reading s (length nodes) (length entries) (length slots) nesting) refl h
-  where
-    go : (a : Answer (ℕ × State)) → reading s (length nodes) (length entries) (length slots) nesting ≡ a → ReadAs (outcomeOf (length nodes) (length entries) (length slots) a) r ns es ss
-        → Ends r (λ counts. readStruct (gives counts)) (λ number place. readStruct (stops number place)) (Zero nodes ns × Zero entries es × Zero slots ss)
-    go (gives x) e k = answers _ (k .numbers)
-    go (stops n p) e k =
-        refuses n p (reading-in-table s (length nodes) (length entries) (length slots) nesting n p e) (k .numbers) (k .holds-nodes, k .holds-entries, k .holds-slots)
-
-write-ends : (a : Answer (List ℕ)) → Tabled a → (out : List ℕ) (r : SillWritten) (left : List ℕ) → WroteAs a (length out) r left
-    → Ends r (λ count. wroteStruct (wrote.Done count)) (λ number place. wroteStruct (wrote.Refused number place)) (Zero out left)
-write-ends (gives bytes) t out r left h = answers _ (h .numbers)
-write-ends (stops n p) t out r left h = refuses n p t (h .numbers) (h .holds)
-
-leaf-ends : (a : Answer Leaf) → Tabled a → (r : SillLeaf) → r ≡ leafStruct (answeredOf a)
-    → Ends r (λ told. leafStruct (leaf.Told told)) (λ number place. leafStruct (leaf.Refused number place)) Unit
-leaf-ends (gives l) t r h = answers (toldOf l) h
-leaf-ends (stops n p) t r h = refuses n p t h tt
-
-varint-ends : (o : Written × List ℕ) (lent : List ℕ) → TabledStore (length lent) o → (r : SillWritten) (left : List ℕ) → (r, left) ≡ writtenAs o → VarintEnds r (Zero lent left)
-varint-ends (varint.Done count, xs) lent t r left e = answers count (ap (λ x. x .0) e)
-varint-ends (varint.Refused n p, xs) lent t r left e = refuses n p (t .0) (ap (λ x. x .0) e) (ap (λ x. x .1) e ∙ t .1)
-
-split-ends : (x : Split) → TabledSplit x → (r : SillSplit) → r ≡ splitStruct x → (l c f m a l′ c′ f′ m′ a′ ls cs fs ms bs : List ℕ)
-    → l′ ≡ storedOf x (length l) ls → c′ ≡ storedOf x (length c) cs → f′ ≡ storedOf x (length f) fs → m′ ≡ storedOf x (length m) ms → a′ ≡ storedOf x (length a) bs
-    → Ends r (λ (d : ℕ × ℕ × ℕ × Bool). splitStruct (split.Done (d .0) (d .1) (d .2) (d .3))) (λ number place. splitStruct (split.Refused number place))
-    (Zero l l′ × Zero c c′ × Zero f f′ × Zero m m′ × Zero a a′)
-unfolding storedOf
-split-ends (split.Done locals cells frees present) t r e l c f m a l′ c′ f′ m′ a′ ls cs fs ms bs hl hc hf hm ha = answers (locals, cells, frees, present) e
-split-ends (split.Refused n p) t r e l c f m a l′ c′ f′ m′ a′ ls cs fs ms bs hl hc hf hm ha = refuses n p t e (hl, hc, hf, hm, ha)
-
-found-ends : (count at : ℕ) (x : Found) → Told count at at x → (r : SillFound) → r ≡ foundStruct at x → FoundEnds at r
-found-ends count at (found.Number value next) t r e = answers (some (value, next)) e
-found-ends count at found.Nothing t r e = answers none e
-found-ends count at (found.Refused n p) t r e = refuses n p (told-in-table (t .1)) e tt
+use Rattle.promises.proofs.Numbers.{leaf-in-table, located-in-table, located-at-in-table, split-in-table, stored-in-table, signed-in-table, written-in-table}
+use Rattle.promises.proofs.ValueEnds.{read-ends, write-ends, leaf-ends, varint-ends, split-ends, found-ends}
+use Rattle.promises.proofs.Reclaiming.{keep-ends, more-ends}
 
 pub demand-1 : Demand1
 demand-1 =
@@ -129,6 +66,27 @@ demand-1 =
                 λ c.
                 write-ends (writtenBy sillWrite c) (written-in-table (sillWrite .tables c) (sillWrite .root c) (sillWrite .nesting c) (sillWrite .room c))
                 (now (c .args .1 .1 .1 .1 .1 .1 .1 .0)) (c .result) _ (c .meets);
+          };
+      sill-keep =
+          record {
+            asks-nothing = λ κs a. tt;
+            returns = λ M. sillgarland.reclaiming.sill_keep.Met.met;
+            ends =
+                λ c.
+                let a = c .args in
+                let b = a .1 .1 .1 in
+                keep-ends (now (a .0)) (now (a .1 .0)) (now (a .1 .1 .0)) (b .0) (b .1 .0) (b .1 .1 .0) (now (b .1 .1 .1 .0)) (c .result) _ _ _ _ (c .meets);
+          };
+      sill-keep-need = record { asks-nothing = λ κs a. tt; returns = λ M. sillgarland.reclaiming.sill_keep_need.Met.met; ends = λ c. c .meets };
+      sill-read-more =
+          record {
+            asks-nothing = λ κs a. tt;
+            returns = λ M. sillgarland.reclaiming.sill_read_more.Met.met;
+            ends =
+                λ c.
+                let a = c .args in
+                let b = a .1 .1 .1 .1 in
+                more-ends (now (a .0)) (now (a .1 .0)) (now (a .1 .1 .0)) (now (a .1 .1 .1 .0)) (b .0) (b .1 .0) (b .1 .1 .0) (b .1 .1 .1 .0) (c .result) _ _ _ (c .meets);
           };
       sill-leaf =
           record {

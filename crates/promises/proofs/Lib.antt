@@ -9,6 +9,8 @@ pub mod Spans
 pub mod Goldens
 pub mod Piecewise
 pub mod Nightly
+pub mod ValueEnds
+pub mod Reclaiming
 pub mod Demand1
 pub mod Demand2
 pub mod Equal

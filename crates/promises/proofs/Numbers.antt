@@ -14,7 +14,7 @@ use Rattle.refusals.specs.Limits.{mostBytes, mostNesting}
 use Rattle.clearing.specs.Lent.{zeros}
 use Rattle.grammar.specs.Reading.{Kind, level, node, entry, slot, Answer, gives, stops}
 use Rattle.grammar.specs.Letters.{among}
-use Rattle.grammar.specs.Room.{Rooms, numberOf}
+use Rattle.grammar.specs.Room.{Rooms, numberOf, run}
 use Rattle.grammar.specs.Steps.{kindsPart, linePart}
 use Rattle.grammar.specs.Answer.{plain, roomsOf, reading}
 use Rattle.grammar.specs.Counted.{claimsOf}
@@ -100,22 +100,22 @@ stops-number {A} {n} {m} {p} {q} e h = let i : n ≡ m = ap number e in (omega (
     number (gives x) = 0
     number (stops n p) = n
 
+-- in any room, of an input that is not too long
+pub run-in-table : (s : List ℕ) → length s ≤ mostBytes → (R : Rooms) (n p : ℕ) → run R (plain s) ≡ stops n p → InTable n
+run-in-table s small R n p e = go (fitted R (claimsOf s))
+  where
+    go : Fitted R (claimsOf s) → InTable n
+    go (all h) = among-in-table n ofInput refl (refused-in s small n p (sym (exact-where-all-fit R (plain s) h) ∙ e) .0)
+    go (some-over o) = stops-number (sym (refused-where-one-is-over R (plain s) o) ∙ e) (kind-in-table (o .first .kind))
+
 pub reading-in-table : (s : List ℕ) (nodes entries slots nesting n p : ℕ) → reading s nodes entries slots nesting ≡ stops n p → InTable n
 reading-in-table s nodes entries slots nesting n p e = go (ltb mostBytes (length s)) refl
   where
-    R : Rooms
-    R = roomsOf nodes entries slots nesting
-
-    at-fit : length s ≤ mostBytes → Fitted R (claimsOf s) → InTable n
-    at-fit small (all h) =
-        among-in-table n ofInput refl
-        (refused-in s small n p (sym (exact-where-all-fit R (plain s) h) ∙ (sym (within-room s nodes entries slots nesting small) ∙ e)) .0)
-    at-fit small (some-over o) =
-        stops-number (sym (refused-where-one-is-over R (plain s) o) ∙ (sym (within-room s nodes entries slots nesting small) ∙ e)) (kind-in-table (o .first .kind))
-
     go : (b : Bool) → ltb mostBytes (length s) ≡ b → InTable n
     go true q = stops-number (sym (too-long s nodes entries slots nesting (ltb-true mostBytes (length s) q)) ∙ e) (omega arith, omega arith)
-    go false q = at-fit (ltb-false mostBytes (length s) q) (fitted R (claimsOf s))
+    go false q =
+        let small = ltb-false mostBytes (length s) q in
+        run-in-table s small (roomsOf nodes entries slots nesting) n p (sym (within-room s nodes entries slots nesting small) ∙ e)
 
 -- The leaf question.
 pub leaf-in-table : (s nodes : List ℕ) (used n : ℕ) → Tabled (leafOf s nodes used n)

@@ -8,6 +8,9 @@ use Rattle.join.proofs.Promised.{join-keeps-its-promises}
 use Rattle.join.proofs.Reading.{line-keeps-its-promises}
 use Rattle.starts.proofs.Promised.{starts-keep-their-promises}
 use Rattle.alone.proofs.Promised.{spans-keep-their-promises}
+use Rattle.carried.proofs.Promised.{moves-keep-their-promises}
+use Rattle.appended.proofs.Promised.{appends-keep-their-promises}
+use Rattle.oneinput.proofs.Promised.{inputs-keep-their-promises}
 use Rattle.taggedfields.proofs.Promised.{fields-keep-their-promises}
 use Rattle.settings.proofs.Promised.{settings-keep-their-promises}
 use Rattle.editions.proofs.Promised.{editions-keep-their-promises}
@@ -26,6 +29,9 @@ requests-promised =
       line = line-keeps-its-promises;
       row-starts = starts-keep-their-promises;
       spans = spans-keep-their-promises;
+      moves = moves-keep-their-promises;
+      appends = appends-keep-their-promises;
+      inputs = inputs-keep-their-promises;
       totals = totals-keep-their-promises;
       printed-totals = printed-totals-keep-their-promises;
       tagged-fields = fields-keep-their-promises;

@@ -35,30 +35,30 @@ and-tabled : (b : Bool) (a : Answer Bool) → Tabled a → Tabled (andThen b a)
 and-tabled b (gives c) h = tt
 and-tabled b (stops n p) h = h
 
-onward-tabled : (t : Tables) (start end : ℕ) (a : Answer (List ℕ)) (rest : ℕ → Answer Bool) → Tabled a → ((k : ℕ) → Tabled (rest k))
-    → Tabled (onward t start end a rest)
-onward-tabled t start end (gives vs) rest h later = and-tabled (allInside t start end vs) (rest (length vs)) (later (length vs))
-onward-tabled t start end (stops n p) rest h later = h
+onward-tabled : (t : Tables) (source start end : ℕ) (a : Answer (List ℕ)) (rest : ℕ → Answer Bool) → Tabled a → ((k : ℕ) → Tabled (rest k))
+    → Tabled (onward t source start end a rest)
+onward-tabled t source start end (gives vs) rest h later = and-tabled (allInside t source start end vs) (rest (length vs)) (later (length vs))
+onward-tabled t source start end (stops n p) rest h later = h
 
-closed-tabled : (t : Tables) (start end more m steps : ℕ) → Tabled (closedFrom t start end more m steps)
+closed-tabled : (t : Tables) (source start end more m steps : ℕ) → Tabled (closedFrom t source start end more m steps)
 unfolding closedFrom
-closed-tabled t start end zero m steps = tt
-closed-tabled t start end (suc more) m steps =
-    if-tabled (inside t start end m) _ _
-    (onward-tabled t start end (childrenAt t steps m) _ (children-tabled t steps m) (λ taken. closed-tabled t start end more (m + 1) (steps - taken)))
-    (closed-tabled t start end more (m + 1) steps)
+closed-tabled t source start end zero m steps = tt
+closed-tabled t source start end (suc more) m steps =
+    if-tabled (inside t source start end m) _ _
+    (onward-tabled t source start end (childrenAt t steps m) _ (children-tabled t steps m) (λ taken. closed-tabled t source start end more (m + 1) (steps - taken)))
+    (closed-tabled t source start end more (m + 1) steps)
 
-told-tabled : (t : Tables) (start end : ℕ) (a : Answer Bool) → Tabled a → Tabled (told t start end a)
-told-tabled t start end (gives c) h = tt
-told-tabled t start end (stops n p) h = h
+told-tabled : (t : Tables) (source start end : ℕ) (a : Answer Bool) → Tabled a → Tabled (told t source start end a)
+told-tabled t source start end (gives c) h = tt
+told-tabled t source start end (stops n p) h = h
 
 pub span-in-table : (t : Tables) (n : ℕ) → Tabled (spanOf t n)
 unfolding spanOf
 span-in-table t n =
     if-tabled (ltb mostBytes (length (t .input))) _ _ (omega arith, omega arith)
     (if-tabled (soundAt (t .input) (t .nodes) (t .usedNodes) n && spanned (t .input) (nodeOf t n)) _ _
-    (told-tabled t (headerOf (nodeOf t n)) (nodeOf t n .end) (closedFrom t (headerOf (nodeOf t n)) (nodeOf t n .end) all 0 steps)
-    (closed-tabled t (headerOf (nodeOf t n)) (nodeOf t n .end) all 0 steps)) (omega arith, omega arith))
+    (told-tabled t (nodeOf t n .input) (headerOf (nodeOf t n)) (nodeOf t n .end) (closedFrom t (nodeOf t n .input) (headerOf (nodeOf t n)) (nodeOf t n .end) all 0 steps)
+    (closed-tabled t (nodeOf t n .input) (headerOf (nodeOf t n)) (nodeOf t n .end) all 0 steps)) (omega arith, omega arith))
   where
     all : ℕ
     all = nodesIn (t .nodes) (t .usedNodes)

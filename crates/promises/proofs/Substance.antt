@@ -34,7 +34,7 @@ use Rattle.promises.proofs.Reading.{Exactly}
 use Rattle.promises.proofs.Demand3.{exactly-so}
 
 -- the answer of a call with twenty numbers in each store, as the sheets have it
-called : (R : Reader) (exactly : Exactly R) (s : List ℕ) (c : CallWith R s 20 20 20 2000) → R .ends (c .call) .answer ≡ readOf s 20 20 20 2000 .answer
+called : (R : Reader) (exactly : Exactly R) (s : List ℕ) (c : CallWith R s 21 21 21 2000) → R .ends (c .call) .answer ≡ readOf s 21 21 21 2000 .answer
 called R exactly s c =
     ap (λ o. o .answer) (exactly (c .call)) ∙ (λ i. readOf (c .input i) (c .nodes-lent i) (c .entries-lent i) (c .slots-lent i) (c .allowed i) .answer)
 
@@ -53,11 +53,11 @@ bytes-4 (suc (suc (suc (suc (suc (suc zero)))))) = omega arith
 bytes-4 (suc (suc (suc (suc (suc (suc (suc zero))))))) = omega arith
 bytes-4 (suc (suc (suc (suc (suc (suc (suc (suc i)))))))) = omega arith
 
-call-1 : (R : Reader) → Callable R → CallWith R p1 20 20 20 2000
-call-1 R can = can p1 bytes-1 (omega arith) 20 20 20 2000 (omega arith) (omega arith) (omega arith) (omega arith)
+call-1 : (R : Reader) → Callable R → CallWith R p1 21 21 21 2000
+call-1 R can = can p1 bytes-1 (omega arith) 21 21 21 2000 (omega arith) (omega arith) (omega arith) (omega arith)
 
-call-4 : (R : Reader) → Callable R → CallWith R p4 20 20 20 2000
-call-4 R can = can p4 bytes-4 (omega arith) 20 20 20 2000 (omega arith) (omega arith) (omega arith) (omega arith)
+call-4 : (R : Reader) → Callable R → CallWith R p4 21 21 21 2000
+call-4 R can = can p4 bytes-4 (omega arith) 21 21 21 2000 (omega arith) (omega arith) (omega arith) (omega arith)
 
 refusing-everything-is-out : (R : Reader) → Demand3 R → Callable R → RefusesAll R → ⊥
 refusing-everything-is-out R d can refuses =
@@ -119,13 +119,13 @@ true-proper : (letter : ℕ) → among letter singles ≡ true → Proper (true-
 unfolding Proper countOf
 true-proper letter h = (refl, omega arith, (refl, (h, tt)))
 
-call-pair : (R : Reader) → Callable R → (letter : ℕ) → among letter singles ≡ true → CallWith R (canonical (true-and letter)) 20 20 20 2000
+call-pair : (R : Reader) → Callable R → (letter : ℕ) → among letter singles ≡ true → CallWith R (canonical (true-and letter)) 21 21 21 2000
 unfolding canonical countOf
 call-pair R can letter h =
-    can (canonical (true-and letter)) (below-at (canonical (true-and letter)) (octets (true-and letter) (true-proper letter h))) (omega arith) 20 20 20 2000
+    can (canonical (true-and letter)) (below-at (canonical (true-and letter)) (octets (true-and letter) (true-proper letter h))) (omega arith) 21 21 21 2000
     (omega arith) (omega arith) (omega arith) (omega arith)
 
-pair-fits : (R : Reader) (letter : ℕ) (c : CallWith R (canonical (true-and letter)) 20 20 20 2000) → ReadFits (true-and letter) R (c .call)
+pair-fits : (R : Reader) (letter : ℕ) (c : CallWith R (canonical (true-and letter)) 21 21 21 2000) → ReadFits (true-and letter) R (c .call)
 unfolding depthOf nodesOf entriesOf canonical countOf
 pair-fits R letter c =
     record { nesting = rw (c .allowed) (omega arith); bytes = omega arith; nodes = rw (c .nodes-lent) (omega arith); entries = rw (c .entries-lent) (omega arith) }

@@ -19,7 +19,7 @@ pub record JustWrites (v : Value) (W : Writer) (w : W .Calls) : Type 0 where
   pub long : length (canonical v) ≤ W .room w
   pub not-too-long : length (canonical v) ≤ mostOutput
 
--- six numbers for each node and two for each entry, nesting as much as the value takes, and no more than 01 counts
+-- seven numbers for each node and two for each entry, nesting as much as the value takes, and no more than 01 counts
 pub record JustReads (v : Value) (R : Reader) (c : R .Calls) : Type 0 where
   pub deep : depthOf v ≤ R .nesting c
   pub not-too-deep : depthOf v ≤ mostNesting

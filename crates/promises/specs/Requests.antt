@@ -14,6 +14,9 @@ use Rattle.sources.specs.Beside.{BesideLocated}
 use Rattle.sources.specs.Repaired.{Repaired}
 use Rattle.starts.specs.Promised.{Promised as StartsPromised}
 use Rattle.alone.specs.Promised.{Promised as SpansPromised}
+use Rattle.carried.specs.Promised.{Promised as MovesPromised}
+use Rattle.appended.specs.Promised.{Promised as AppendsPromised}
+use Rattle.oneinput.specs.Promised.{Promised as InputsPromised}
 
 pub record Requests : Type 0 where
   -- K1: "Write the same entries back in shortest form .. a written table reads as the same entries."
@@ -30,6 +33,12 @@ pub record Requests : Type 0 where
   pub row-starts : StartsPromised
   -- K7: "On yes, the span read alone gives the same value once each index in it is lowered by the slots reserved before the node."
   pub spans : SpansPromised
+  -- K11: "The kept value is the same, shared nodes stay shared, slots are cleared, and the reported room freed is what a new read can claim."
+  pub moves : MovesPromised
+  -- K11: "New reads append to the kept nodes from these counts; demand 3 then counts kept plus new"
+  pub appends : AppendsPromised
+  -- K11: "Kept nodes keep the input they name; appended nodes take an input number"
+  pub inputs : InputsPromised
   -- K14: "Accepted plus refused is inputs", and totals of parts add up
   pub totals : TotalsPromised
   -- K14: "print exact counts in this form and order"

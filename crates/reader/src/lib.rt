@@ -83,9 +83,10 @@ fn value(
                         first: l.first,
                         count: l.count,
                         end: l.walk.at,
+                        input: 0,
                     };
-                    stores::write_node(nodes, node, record);
                     stores::fill_slot(slots, byte / 128, slot, node);
+                    stores::write_node(nodes, node, record);
                     let after = l.walk;
                     readsteps::Step::Value(node, after)
                 }

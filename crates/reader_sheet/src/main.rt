@@ -53,7 +53,7 @@ fn sheet(title: &[u8], input: &[u8], nesting: u32) {
     show(
         title,
         input,
-        &mut [7; 19],
+        &mut [7; 22],
         &mut [7; 5],
         &mut [7; 1],
         nesting,
@@ -65,7 +65,7 @@ fn code_object(code: &[u8]) {
     show(
         b"a code object, its qualified name by reference\n",
         code,
-        &mut [7; 69],
+        &mut [7; 80],
         &mut [7; 23],
         &mut [7; 3],
         4,
@@ -73,7 +73,7 @@ fn code_object(code: &[u8]) {
     show(
         b"the same, nesting 3: a name is too deep\n",
         code,
-        &mut [7; 69],
+        &mut [7; 80],
         &mut [7; 23],
         &mut [7; 3],
         3,
@@ -81,7 +81,7 @@ fn code_object(code: &[u8]) {
     show(
         b"the same, ten entries: none for the exception table\n",
         code,
-        &mut [7; 69],
+        &mut [7; 80],
         &mut [7; 21],
         &mut [7; 3],
         4,

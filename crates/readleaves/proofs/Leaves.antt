@@ -52,7 +52,7 @@ module _ {s : List ℕ} {room : Room} {allowance : ℕ} {w : Walk} {ss : List �
     leaf-head = head-in opens refl
 
     -- a node without children: their loop ends where it begins
-    pub takes-leaf : {ns ns′ ss′ : List ℕ} → ns′ ≡ nodeWritten ns (w .nodes) (record { letter = h .letter; place = h .place; size = h .size; first = nothing; count = 0; end = h .place + h .size })
+    pub takes-leaf : {ns ns′ ss′ : List ℕ} → ns′ ≡ nodeWritten ns (w .nodes) (record { letter = h .letter; place = h .place; size = h .size; first = nothing; count = 0; end = h .place + h .size; input = 0 })
         → ss′ ≡ fill (h .flag) (w .slots) (w .nodes) ss
         → Takes s room allowance w ns ss (taken.Value (w .nodes) (record { at = h .place + h .size; nodes = w .nodes + 1; entries = w .entries; slots = w .slots + h .flag })) ns′ ss′
     takes-leaf en ek =

@@ -136,7 +136,7 @@ module _ {s : List ℕ} {room : Room} {allowance : ℕ} {w : Walk} {ns es ss : L
         }
 
     pub value-whole : {l : Line} {size : ℕ} {ns″ ss″ : List ℕ} → r ≡ linked.Line l → size ≡ sizeOf (childrenOf kids) (hd .place) (hd .size) (l .line)
-        → ns″ ≡ nodeWritten ns′ (w .nodes) (record { letter = hd .letter; place = hd .place; size = size; first = l .first; count = l .count; end = l .walk .at })
+        → ns″ ≡ nodeWritten ns′ (w .nodes) (record { letter = hd .letter; place = hd .place; size = size; first = l .first; count = l .count; end = l .walk .at; input = 0 })
         → ss″ ≡ fill (hd .flag) (w .slots) (w .nodes) ss′
         → ReadsValue s room allowance w ns es ss (step.Value (w .nodes) (l .walk)) ns″ es′ ss″
     unfolding after run
@@ -159,10 +159,10 @@ module _ {s : List ℕ} {room : Room} {allowance : ℕ} {w : Walk} {ns es ss : L
 
     -- the same where letter and flag are read from the header byte again
     pub value-closed : {l : Line} {size byte : ℕ} {ns″ ss″ : List ℕ} → r ≡ linked.Line l → size ≡ sizeOf (childrenOf kids) (hd .place) (hd .size) (l .line) → byte ≡ getD s (w .at) 0
-        → ns″ ≡ nodeWritten ns′ (w .nodes) (record { letter = letterOf byte; place = hd .place; size = size; first = l .first; count = l .count; end = l .walk .at })
+        → ns″ ≡ nodeWritten ns′ (w .nodes) (record { letter = letterOf byte; place = hd .place; size = size; first = l .first; count = l .count; end = l .walk .at; input = 0 })
         → ss″ ≡ fill (flagOf byte) (w .slots) (w .nodes) ss′
         → ReadsValue s room allowance w ns es ss (step.Value (w .nodes) (l .walk)) ns″ es′ ss″
     value-closed {l} {size} q ez is en ek =
         value-whole q ez
-        (en ∙ ap (λ x. nodeWritten ns′ (w .nodes) (record { letter = x; place = hd .place; size = size; first = l .first; count = l .count; end = l .walk .at })) (ap letterOf is ∙ sym (ahead .lettered)))
+        (en ∙ ap (λ x. nodeWritten ns′ (w .nodes) (record { letter = x; place = hd .place; size = size; first = l .first; count = l .count; end = l .walk .at; input = 0 })) (ap letterOf is ∙ sym (ahead .lettered)))
         (ek ∙ ap (λ x. fill x (w .slots) (w .nodes) ss′) (ap flagOf is ∙ sym (ahead .flagged)))

@@ -159,9 +159,10 @@ fn leaf(
                 first: refusals::NOTHING,
                 count: 0,
                 end: after.at,
+                input: 0,
             };
-            stores::write_node(nodes, node, record);
             stores::fill_slot(slots, h.flag, w.slots, node);
+            stores::write_node(nodes, node, record);
             Taken::Value(node, after)
         }
     }

@@ -77,15 +77,15 @@ module _ (w : Walk) (ns es ss : List ℕ) (st : State) (h : Holds w ns es ss st)
 pub holds-close : {a : Walk} {ns es ss : List ℕ} {l : Line} {c : Chain} → l .walk ≡ a → HoldsChain l ns es ss c
     → (st : State) (node slot letter flag : ℕ) (f : Fields) (size : ℕ) → node ≡ length (st .nodes) → slot ≡ length (st .slots)
     → size ≡ sizeOf (f .children) (f .place) (f .size) (l .line) → node < a .nodes → slot + flag ≤ a .slots
-    → Holds a (nodeWritten ns node (record { letter = letter; place = f .place; size = size; first = l .first; count = l .count; end = a .at })) es
+    → Holds a (nodeWritten ns node (record { letter = letter; place = f .place; size = size; first = l .first; count = l .count; end = a .at; input = 0 })) es
     (fill flag slot node ss) (close st letter flag f c)
 unfolding close
 holds-close {a} {ns} {es} {ss} {l} {c} wa hc st node slot letter flag f size en es′ ez nl sl =
     let h : Holds a ns es ss (c .st) = subst (λ w. Holds w ns es ss (c .st)) wa (hc .walk) in
-    let r : Node = record { letter = letter; place = f .place; size = size; first = l .first; count = l .count; end = a .at } in
+    let r : Node = record { letter = letter; place = f .place; size = size; first = l .first; count = l .count; end = a .at; input = 0 } in
     let q : size ≡ sizeOf (f .children) (f .place) (f .size) (c .line) = ez ∙ ap (sizeOf (f .children) (f .place) (f .size)) (hc .line) in
-    let e : r ≡ record { letter = letter; place = f .place; size = sizeOf (f .children) (f .place) (f .size) (c .line); first = c .first; count = length (c .kids); end = c .st .at } =
-    λ i. record { letter = letter; place = f .place; size = q i; first = hc .first i; count = hc .count i; end = h .at i } in
+    let e : r ≡ record { letter = letter; place = f .place; size = sizeOf (f .children) (f .place) (f .size) (c .line); first = c .first; count = length (c .kids); end = c .st .at; input = 0 } =
+    λ i. record { letter = letter; place = f .place; size = q i; first = hc .first i; count = hc .count i; end = h .at i; input = 0 } in
     record {
       at = h .at;
       nodes = h .nodes ∙ sym (length-set (c .st .nodes) (length (st .nodes)) _);

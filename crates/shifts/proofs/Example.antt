@@ -21,8 +21,8 @@ whole =
     record {
       at = 27;
       nodes =
-          record { letter = 0x29; place = 1; size = 1; first = 0; count = 3; end = 27 } ∷ record { letter = 0x69; place = 3; size = 4; first = nothing; count = 0; end = 7 }
-          ∷ record { letter = 0x5B; place = 8; size = 4; first = 1; count = 2; end = 22 } ∷ record { letter = 0x69; place = 13; size = 4; first = nothing; count = 0; end = 17 } ∷ [];
+          record { letter = 0x29; place = 1; size = 1; first = 0; count = 3; end = 27; input = 0 } ∷ record { letter = 0x69; place = 3; size = 4; first = nothing; count = 0; end = 7; input = 0 }
+          ∷ record { letter = 0x5B; place = 8; size = 4; first = 1; count = 2; end = 22; input = 0 } ∷ record { letter = 0x69; place = 13; size = 4; first = nothing; count = 0; end = 17; input = 0 } ∷ [];
       entries =
           record { child = 1; next = 3 } ∷ record { child = 3; next = 2 } ∷ record { child = 3; next = nothing } ∷ record { child = 2; next = 4 } ∷ record { child = 1; next = nothing } ∷ [];
       slots = 2 ∷ 3 ∷ 4 ∷ [];
@@ -45,7 +45,7 @@ abbrev part : State
 part =
     record {
       at = 15;
-      nodes = record { letter = 0x5B; place = 1; size = 4; first = 0; count = 2; end = 15 } ∷ record { letter = 0x69; place = 6; size = 4; first = nothing; count = 0; end = 10 } ∷ [];
+      nodes = record { letter = 0x5B; place = 1; size = 4; first = 0; count = 2; end = 15; input = 0 } ∷ record { letter = 0x69; place = 6; size = 4; first = nothing; count = 0; end = 10; input = 0 } ∷ [];
       entries = record { child = 1; next = 1 } ∷ record { child = 1; next = nothing } ∷ [];
       slots = 1 ∷ 2 ∷ [];
       met = 11 ∷ [];

@@ -74,6 +74,7 @@ module _ (k : Shift) where
             (n .first);
         count = n .count;
         end = k .places + n .end;
+        input = n .input;
       })) .letter ≡ n .letter
       go true = refl
       go false = refl
@@ -89,6 +90,7 @@ module _ (k : Shift) where
             (n .first);
         count = n .count;
         end = k .places + n .end;
+        input = n .input;
       })) .size ≡ n .size
       go true = refl
       go false = refl
@@ -104,6 +106,7 @@ module _ (k : Shift) where
             (n .first);
         count = n .count;
         end = k .places + n .end;
+        input = n .input;
       })) .count ≡ n .count
       go true = refl
       go false = refl
@@ -215,7 +218,7 @@ module _ (k : Shift) where
   fill-raised (suc g) i v n ss e = rw (slot-raised v n e) (map-set (raisedSlot k) ss i (v + 1))
 
   closed-node : (n : Node) → eqb (n .letter) 0 ≡ false
-      → record { letter = n .letter; place = k .places + n .place; size = n .size; first = raisedLink k (n .first); count = n .count; end = k .places + n .end } ≡ raisedNode k n
+      → record { letter = n .letter; place = k .places + n .place; size = n .size; first = raisedLink k (n .first); count = n .count; end = k .places + n .end; input = n .input } ≡ raisedNode k n
   closed-node n e = rw e refl
 
   pub close-raised : (st : State) (l g : ℕ) (f : Fields) (c : Chain) → eqb l 0 ≡ false
@@ -228,7 +231,7 @@ module _ (k : Shift) where
       (set-append-add (k .nodes) (map (raisedNode k) (c .st .nodes)) (length (st .nodes)) _
       ∙ ap (λ zs. k .nodes ++ zs)
       (ap (set (map (raisedNode k) (c .st .nodes)) (length (st .nodes)))
-      (closed-node (record { letter = l; place = f .place; size = sizeOf (f .children) (f .place) (f .size) (c .line); first = c .first; count = length (c .kids); end = c .st .at }) e)
+      (closed-node (record { letter = l; place = f .place; size = sizeOf (f .children) (f .place) (f .size) (c .line); first = c .first; count = length (c .kids); end = c .st .at; input = 0 }) e)
       ∙ map-set (raisedNode k) (c .st .nodes) (length (st .nodes)) _))
       refl
       (fill-raised g (length (st .slots)) (length (st .nodes)) _ (c .st .slots) refl) refl)

@@ -40,6 +40,7 @@ raisedNode k n =
       first = raisedLink k (n .first);
       count = n .count;
       end = k .places + n .end;
+      input = n .input;
     })
 
 abbrev pub raisedEntry : Shift → Entry → Entry

@@ -3,3 +3,4 @@ pub mod Splitting
 pub mod Reading
 pub mod Writing
 pub mod Lines
+pub mod Keeping

@@ -13,3 +13,4 @@ pub mod Starts
 pub mod Nightly
 pub mod Settingfiles
 pub mod Goldenfiles
+pub mod Reclaiming

@@ -9,6 +9,7 @@ pub mod locations;
 pub mod nightly;
 pub mod origins;
 pub mod piecewise;
+pub mod reclaiming;
 pub mod repairs;
 pub mod rowstarts;
 pub mod settingfiles;

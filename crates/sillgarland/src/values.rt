@@ -37,7 +37,7 @@ pub extern "C" fn sill_read(
     read_numbers(answer)
 }
 
-fn read_numbers(answer: Outcome) -> SillRead
+pub fn read_numbers(answer: Outcome) -> SillRead
     ensures { λ r. ⌜ r ≡ readStruct (answerOf answer) ⌝ }
 {
     match answer {

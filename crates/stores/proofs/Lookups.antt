@@ -14,13 +14,14 @@ node-cell : (ns : List Node) (v : ℕ) → nodeAt (nodeCells ns) v ≡ getD ns v
 node-cell [] v = refl
 node-cell (n ∷ ns) zero = refl
 node-cell (n ∷ ns) (suc m) =
-    let e₀ : suc m * nodeWidth ≡ suc (suc (suc (suc (suc (suc (m * nodeWidth)))))) = omega arith in
-    let e₁ : suc m * nodeWidth + 1 ≡ suc (suc (suc (suc (suc (suc (m * nodeWidth + 1)))))) = omega arith in
-    let e₂ : suc m * nodeWidth + 2 ≡ suc (suc (suc (suc (suc (suc (m * nodeWidth + 2)))))) = omega arith in
-    let e₃ : suc m * nodeWidth + 3 ≡ suc (suc (suc (suc (suc (suc (m * nodeWidth + 3)))))) = omega arith in
-    let e₄ : suc m * nodeWidth + 4 ≡ suc (suc (suc (suc (suc (suc (m * nodeWidth + 4)))))) = omega arith in
-    let e₅ : suc m * nodeWidth + 5 ≡ suc (suc (suc (suc (suc (suc (m * nodeWidth + 5)))))) = omega arith in
-    rw (e₁, e₂, e₃, e₄, e₅, e₀) (node-cell ns m)
+    let e₀ : suc m * nodeWidth ≡ suc (suc (suc (suc (suc (suc (suc (m * nodeWidth))))))) = omega arith in
+    let e₁ : suc m * nodeWidth + 1 ≡ suc (suc (suc (suc (suc (suc (suc (m * nodeWidth + 1))))))) = omega arith in
+    let e₂ : suc m * nodeWidth + 2 ≡ suc (suc (suc (suc (suc (suc (suc (m * nodeWidth + 2))))))) = omega arith in
+    let e₃ : suc m * nodeWidth + 3 ≡ suc (suc (suc (suc (suc (suc (suc (m * nodeWidth + 3))))))) = omega arith in
+    let e₄ : suc m * nodeWidth + 4 ≡ suc (suc (suc (suc (suc (suc (suc (m * nodeWidth + 4))))))) = omega arith in
+    let e₅ : suc m * nodeWidth + 5 ≡ suc (suc (suc (suc (suc (suc (suc (m * nodeWidth + 5))))))) = omega arith in
+    let e₆ : suc m * nodeWidth + 6 ≡ suc (suc (suc (suc (suc (suc (suc (m * nodeWidth + 6))))))) = omega arith in
+    rw (e₁, e₂, e₃, e₄, e₅, e₆, e₀) (node-cell ns m)
 
 entry-cell : (es : List Entry) (e : ℕ) → entryAt (entryCells es) e ≡ getD es e unlinked
 entry-cell [] e = refl
@@ -42,6 +43,7 @@ node-kept {store} ns v k =
       first = cell-kept (nodeCells ns) (v * nodeWidth + 3) k i;
       count = cell-kept (nodeCells ns) (v * nodeWidth + 4) k i;
       end = cell-kept (nodeCells ns) (v * nodeWidth + 5) k i;
+      input = cell-kept (nodeCells ns) (v * nodeWidth + 6) k i;
     })
     ∙ node-cell ns v
 

@@ -5,7 +5,7 @@ use Prim.Native.Nat.{ℕ, zero, suc, _+_, _*_, _≤_, _<_}
 use native.Mathlib.Omega.{arith}
 use mathlib.Core.List.{List, [], _∷_, _++_}
 use lib.ListN.{length, getD, set, length-append, length-set}
-use lib.Seq.{sets, length-sets, set-at, set-comm}
+use lib.Seq.{sets, length-sets, set-at}
 use Rattle.refusals.specs.Limits.{nothing}
 use Rattle.clearing.specs.Lent.{padded}
 use Rattle.grammar.specs.State.{Node, Entry, blank, unlinked, nodeWidth, entryWidth, nodeCells, entryCells}
@@ -18,7 +18,7 @@ use Rattle.stores.proofs.Padded.{set-padded, sets-inside, padded-zeros}
 
 nodeCells-append : (xs ys : List Node) → nodeCells (xs ++ ys) ≡ nodeCells xs ++ nodeCells ys
 nodeCells-append [] ys = refl
-nodeCells-append (x ∷ xs) ys = ap (λ t. x .letter ∷ x .place ∷ x .size ∷ x .first ∷ x .count ∷ x .end ∷ t) (nodeCells-append xs ys)
+nodeCells-append (x ∷ xs) ys = ap (λ t. x .letter ∷ x .place ∷ x .size ∷ x .first ∷ x .count ∷ x .end ∷ x .input ∷ t) (nodeCells-append xs ys)
 
 entryCells-append : (xs ys : List Entry) → entryCells (xs ++ ys) ≡ entryCells xs ++ entryCells ys
 entryCells-append [] ys = refl
@@ -45,7 +45,7 @@ node-set (x ∷ xs) (suc m) r h =
     (ap (λ t. nodeCells (x ∷ []) ++ t) (node-set xs m r (omega arith))
     ∙ sym (sets-after (nodeCells (x ∷ [])) (nodeCells xs) (m * nodeWidth) (nodeCells (r ∷ []))))
 
-entry-set : (es : List Entry) (e : ℕ) (r : Entry) → e < length es → entryCells (set es e r) ≡ entryWritten (entryCells es) e r
+pub entry-set : (es : List Entry) (e : ℕ) (r : Entry) → e < length es → entryCells (set es e r) ≡ entryWritten (entryCells es) e r
 entry-set [] e r h = absurd (omega arith)
 entry-set (x ∷ xs) zero r h = refl
 entry-set (x ∷ xs) (suc m) r h =
@@ -132,15 +132,10 @@ pub fill-some : (flag slot node : ℕ) (slots : List ℕ) → (flag ≡ 0 → �
 fill-some zero slot node slots h = absurd (h refl)
 fill-some (suc f) slot node slots h = refl
 
--- What the code of `write_node` and `write_entry` stores, one number after another; a node's end, which stands last, comes first.
-set-under : (xs : List ℕ) (at : ℕ) (vs : List ℕ) (i v : ℕ) → at + length vs ≤ i → sets (set xs i v) at vs ≡ set (sets xs at vs) i v
-set-under xs at [] i v h = refl
-set-under xs at (w ∷ vs) i v h =
-    ap (λ (l : List ℕ). sets l (suc at) vs) (set-comm xs i at v w (λ e. omega arith)) ∙ set-under (set xs at w) (suc at) vs i v (omega arith)
-
+-- What the code of `write_node` and `write_entry` stores, one number after another.
 pub node-stores : (store : List ℕ) (n : ℕ) (r : Node)
-    → set (set (set (set (set (set store (n * nodeWidth + 5) (r .end)) (n * nodeWidth) (r .letter)) (n * nodeWidth + 1) (r .place)) (n * nodeWidth + 2) (r .size))
-    (n * nodeWidth + 3) (r .first)) (n * nodeWidth + 4) (r .count)
+    → set (set (set (set (set (set (set store (n * nodeWidth) (r .letter)) (n * nodeWidth + 1) (r .place)) (n * nodeWidth + 2) (r .size))
+    (n * nodeWidth + 3) (r .first)) (n * nodeWidth + 4) (r .count)) (n * nodeWidth + 5) (r .end)) (n * nodeWidth + 6) (r .input)
     ≡ nodeWritten store n r
 node-stores store n r =
     let e₁ : n * nodeWidth + 1 ≡ suc (n * nodeWidth) = omega arith in
@@ -148,8 +143,8 @@ node-stores store n r =
     let e₃ : n * nodeWidth + 3 ≡ suc (suc (suc (n * nodeWidth))) = omega arith in
     let e₄ : n * nodeWidth + 4 ≡ suc (suc (suc (suc (n * nodeWidth)))) = omega arith in
     let e₅ : n * nodeWidth + 5 ≡ suc (suc (suc (suc (suc (n * nodeWidth))))) = omega arith in
-    rw (e₁, e₂, e₃, e₄, e₅)
-    (set-under store (n * nodeWidth) (r .letter ∷ r .place ∷ r .size ∷ r .first ∷ r .count ∷ []) (suc (suc (suc (suc (suc (n * nodeWidth)))))) (r .end) (omega arith))
+    let e₆ : n * nodeWidth + 6 ≡ suc (suc (suc (suc (suc (suc (n * nodeWidth)))))) = omega arith in
+    rw (e₁, e₂, e₃, e₄, e₅, e₆) refl
 
 pub entry-stores : (store : List ℕ) (e child next : ℕ)
     → set (set store (e * entryWidth) child) (e * entryWidth + 1) next ≡ entryWritten store e (record { child = child; next = next })

@@ -24,7 +24,7 @@ EntryIn store e = e * entryWidth + entryWidth ≤ length store
 
 -- a node's numbers as the code carries them, in the words of the grammar
 abbrev pub nodeOf : Node → state.Node
-nodeOf n = record { letter = n .letter; place = n .place; size = n .size; first = n .first; count = n .count; end = n .end }
+nodeOf n = record { letter = n .letter; place = n .place; size = n .size; first = n .first; count = n .count; end = n .end; input = n .input }
 
 abbrev pub nodeWritten : List ℕ → ℕ → state.Node → List ℕ
 nodeWritten store n node = sets store (n * nodeWidth) (nodeCells (node ∷ []))

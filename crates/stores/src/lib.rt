@@ -10,7 +10,7 @@ ghost use Rattle.refusals.specs.Limits.{mostRecords, nothing};
 ghost use Rattle.stores.specs.Written.{NodeIn, EntryIn, nodeOf, nodeWritten, entryWritten, entryLinked};
 
 // How many numbers a node and an entry are.
-pub const NODE_WIDTH: usize = 6;
+pub const NODE_WIDTH: usize = 7;
 
 pub const ENTRY_WIDTH: usize = 2;
 
@@ -22,6 +22,7 @@ pub struct Node {
     pub first: u32,
     pub count: u32,
     pub end: u32,
+    pub input: u32,
 }
 
 // What is above a limit counts as the limit.
@@ -57,18 +58,19 @@ pub fn entries_in(entries: &[u32], used: u32) -> u32
     at_most(used as usize, entry_capacity(entries.len()))
 }
 
-// A complete node's record. The end goes first: with it last LLVM gives a level of the reader 16 bytes more.
+// A complete node's record.
 pub fn write_node(nodes: &mut [u32], n: u32, node: Node)
     requires { ⌜ NodeIn (now nodes) n ⌝ }
     ensures { λ _. ⌜ now (nodes .exit) ≡ nodeWritten (now (nodes .entry)) n (nodeOf node) ⌝ }
 {
     let base = n as usize * NODE_WIDTH;
-    nodes[base + 5] = node.end;
     nodes[base] = node.letter;
     nodes[base + 1] = node.place;
     nodes[base + 2] = node.size;
     nodes[base + 3] = node.first;
     nodes[base + 4] = node.count;
+    nodes[base + 5] = node.end;
+    nodes[base + 6] = node.input;
 }
 
 // An entry's record: a child that nothing follows yet.
@@ -119,6 +121,7 @@ pub fn node_of(nodes: &[u32], n: u32) -> Node
         first: cell(nodes, base + 3),
         count: cell(nodes, base + 4),
         end: cell(nodes, base + 5),
+        input: cell(nodes, base + 6),
     }
 }
 
@@ -158,6 +161,12 @@ pub fn end_of(nodes: &[u32], n: u32) -> u32
     cell(nodes, n as usize * NODE_WIDTH + 5)
 }
 
+pub fn input_of(nodes: &[u32], n: u32) -> u32
+    ensures { λ r. ⌜ r ≡ nodeAt (now (nodes .entry)) n .input ⌝ }
+{
+    cell(nodes, n as usize * NODE_WIDTH + 6)
+}
+
 pub fn child_of(entries: &[u32], e: u32) -> u32
     ensures { λ r. ⌜ r ≡ entryAt (now (entries .entry)) e .child ⌝ }
 {
@@ -183,6 +192,7 @@ pub fn node_at(nodes: &[u32], n: u32) -> Node
         first: nodes[base + 3],
         count: nodes[base + 4],
         end: nodes[base + 5],
+        input: nodes[base + 6],
     }
 }
 

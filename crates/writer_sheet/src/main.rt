@@ -9,7 +9,7 @@ use printing::say_refused;
 use reader::Outcome;
 
 // How many numbers the nodes of the longest value take.
-const NODES: usize = 108;
+const NODES: usize = 126;
 
 fn say_answer(answer: Wrote) {
     match answer {
@@ -135,7 +135,7 @@ fn containers() {
 // A code whose first line is negative and whose name is a reference to its bytes; its third part damaged; too little room.
 fn code(input: &[u8]) {
     written(input, 2000, &mut [0xEE; 81]);
-    damaged(input, 20, 28, &mut [0xEE; 6]);
+    damaged(input, 23, 28, &mut [0xEE; 6]);
     written(input, 3, &mut [0xEE; 4]);
 }
 
@@ -164,7 +164,7 @@ fn codes() {
 fn refused() {
     written(b"\x2E", 0, &mut [0xEE; 6]);
     written(b"\x3E\x01\x00\x00\x00\xCE", 1, &mut [0xEE; 6]);
-    damaged(b"\xA9\x01\x46", 7, 4, &mut [0xEE; 6]);
+    damaged(b"\xA9\x01\x46", 8, 4, &mut [0xEE; 6]);
     damaged(b"\x3E\x02\x00\x00\x00\x46\x4E", 4, 0, &mut [0xEE; 6]);
     written(b"\x7A\x02\x61\x62", 1, &mut [0xEE; 6]);
 }

@@ -21,9 +21,9 @@ use Rattle.grammar.proofs.Lettered.{class-passes}
 use Rattle.writing.specs.Shape.{classed, formed}
 use Rattle.writing.specs.Unread.{SameFrom, SameBytes}
 
--- a record whose chain begins at another entry, and that ends elsewhere
-abbrev pub linked : (first end : ℕ) → Node → Node
-linked first end n = record { letter = n .letter; place = n .place; size = n .size; first = first; count = n .count; end = end }
+-- a record whose chain begins at another entry, that ends elsewhere and is of another input
+abbrev pub linked : (first end input : ℕ) → Node → Node
+linked first end input n = record { letter = n .letter; place = n .place; size = n .size; first = first; count = n .count; end = end; input = input }
 
 -- The size that the fields of a form say.
 abbrev sizeOf : List ℕ → Form → ℕ → ℕ
@@ -161,39 +161,39 @@ module _ (s s′ : List ℕ) (long : length s ≡ length s′) where
     same-fields letter.dict e = refl
 
 -- The rules of a record.
-reads-linked : (first end : ℕ) (r : Answer Fields) (n : Node) → readsAs r n ≡ readsAs r (linked first end n)
-reads-linked first end (gives f) n = refl
-reads-linked first end (stops number place) n = refl
+reads-linked : (first end input : ℕ) (r : Answer Fields) (n : Node) → readsAs r n ≡ readsAs r (linked first end input n)
+reads-linked first end input (gives f) n = refl
+reads-linked first end input (stops number place) n = refl
 
-reads-on : (s s′ : List ℕ) → length s ≡ length s′ → (first end : ℕ) (form : Form) (n : Node) → SameFrom s s′ (n .place) (n .size)
-    → readsAs (fields s form (n .place)) n ≡ true → readsAs (fields s′ form (n .place)) (linked first end n) ≡ true
-reads-on s s′ long first end form n h e =
-    ap (λ r. readsAs r (linked first end n)) (sym (same-fields s s′ long (n .place) (n .size) h form (reads-size s form n e)))
-    ∙ sym (reads-linked first end (fields s form (n .place)) n) ∙ e
+reads-on : (s s′ : List ℕ) → length s ≡ length s′ → (first end input : ℕ) (form : Form) (n : Node) → SameFrom s s′ (n .place) (n .size)
+    → readsAs (fields s form (n .place)) n ≡ true → readsAs (fields s′ form (n .place)) (linked first end input n) ≡ true
+reads-on s s′ long first end input form n h e =
+    ap (λ r. readsAs r (linked first end input n)) (sym (same-fields s s′ long (n .place) (n .size) h form (reads-size s form n e)))
+    ∙ sym (reads-linked first end input (fields s form (n .place)) n) ∙ e
 
-module _ (s s′ : List ℕ) (long : length s ≡ length s′) (first end : ℕ) (n : Node) where
+module _ (s s′ : List ℕ) (long : length s ≡ length s′) (first end input : ℕ) (n : Node) where
   pub numbers-sum : SameFrom s s′ (n .place) codeNumbers → sumAt s (n .place) ≡ sumAt s′ (n .place)
   numbers-sum h =
       let word : (i : ℕ) → i ≤ 16 → le32 s (n .place + i) ≡ le32 s′ (n .place + i) = λ i l. same-le32 s s′ long (n .place) codeNumbers h (n .place + i) (omega arith) (omega arith) in
       rw (same-le32 s s′ long (n .place) codeNumbers h (n .place) (omega arith) (omega arith), word 8 (omega arith), word 16 (omega arith)) refl
 
-  same-ruled : (c : Class) → SameBytes s s′ n c → ruled s n c ≡ ruled s′ (linked first end n) c
+  same-ruled : (c : Class) → SameBytes s s′ n c → ruled s n c ≡ ruled s′ (linked first end input n) c
   same-ruled refers h = refl
   same-ruled (refuses number) h = refl
   same-ruled (keeps form) h =
-      each-way (readsAs (fields s form (n .place)) n) (readsAs (fields s′ form (n .place)) (linked first end n)) (reads-on s s′ long first end form n h)
-      (reads-on s′ s (sym long) (n .first) (n .end) form (linked first end n) (λ i a b. sym (h i a b)))
+      each-way (readsAs (fields s form (n .place)) n) (readsAs (fields s′ form (n .place)) (linked first end input n)) (reads-on s s′ long first end input form n h)
+      (reads-on s′ s (sym long) (n .first) (n .end) (n .input) form (linked first end input n) (λ i a b. sym (h i a b)))
   same-ruled (contains letter.bytes) h = refl
   same-ruled (contains letter.text) h = rw (same-contents s s′ long (n .place) (n .size) h) refl
   same-ruled (contains letter.short) h = rw (same-contents s s′ long (n .place) (n .size) h) refl
   same-ruled codes h = rw (long, numbers-sum (h .0)) refl
 
-  pub same-sound : SameBytes s s′ n (classOf (n .letter)) → sound s n ≡ sound s′ (linked first end n)
+  pub same-sound : SameBytes s s′ n (classOf (n .letter)) → sound s n ≡ sound s′ (linked first end input n)
   unfolding sound
   same-sound h = rw (long, same-ruled (classOf (n .letter)) h) refl
 
   -- The shape of a record that keeps them.
-  pub same-classed : (kids : List ℕ) (c : Class) → classOf (n .letter) ≡ c → ruled s n c ≡ true → SameBytes s s′ n c → classed s n kids c ≡ classed s′ (linked first end n) kids c
+  pub same-classed : (kids : List ℕ) (c : Class) → classOf (n .letter) ≡ c → ruled s n c ≡ true → SameBytes s s′ n c → classed s n kids c ≡ classed s′ (linked first end input n) kids c
   same-classed kids refers q e h = refl
   same-classed kids (refuses number) q e h = refl
   same-classed kids (keeps letter.single) q e h = refl
@@ -202,7 +202,7 @@ module _ (s s′ : List ℕ) (long : length s ≡ length s′) (first end : ℕ)
       full : n .size ≡ size
       full = reads-size s (letter.fixed size) n e
 
-      go : (b : Bool) → eqb size 4 ≡ b → formed s n kids (letter.fixed size) ≡ formed s′ (linked first end n) kids (letter.fixed size)
+      go : (b : Bool) → eqb size 4 ≡ b → formed s n kids (letter.fixed size) ≡ formed s′ (linked first end input n) kids (letter.fixed size)
       go true p = let l = eqb-true size 4 p in rw (p, same-le32 s s′ long (n .place) (n .size) h (n .place) (omega arith) (omega (arith, full, l))) refl
       go false p = let l = wide (n .letter) size q p in rw (p, same-le64 s s′ long (n .place) (n .size) h (n .place) (omega arith) (omega (arith, full, l))) refl
   same-classed kids (keeps letter.double) q e h =

@@ -42,7 +42,7 @@ module _ (t t′ : Tables) (same : SameRead t t′) where
   abbrev isSound : ℕ → Bool
   isSound n = soundAt (t .input) (t .nodes) (t .usedNodes) n
 
-  pub relinked : (n : ℕ) → n < used → nodeOf t′ n ≡ linked (nodeOf t′ n .first) (nodeOf t′ n .end) (nodeOf t n)
+  pub relinked : (n : ℕ) → n < used → nodeOf t′ n ≡ linked (nodeOf t′ n .first) (nodeOf t′ n .end) (nodeOf t′ n .input) (nodeOf t n)
   relinked n l = let h = same .each-node n l in rw (h .letter, h .place, h .size, h .count) refl
 
   -- Chains and records.
@@ -58,7 +58,7 @@ module _ (t t′ : Tables) (same : SameRead t t′) where
   same-sound-at n =
       both-agree (ltb n used) (ltb n (nodesIn (t′ .nodes) (t′ .usedNodes))) (ap (ltb n) (same .nodes-in))
       (λ p. let l = ltb-true n used p in
-      same-sound (t .input) (t′ .input) (same .length-of) (nodeOf t′ n .first) (nodeOf t′ n .end) (nodeOf t n) (same .each-node n l .bytes) ∙ ap (sound (t′ .input)) (sym (relinked n l)))
+      same-sound (t .input) (t′ .input) (same .length-of) (nodeOf t′ n .first) (nodeOf t′ n .end) (nodeOf t′ n .input) (nodeOf t n) (same .each-node n l .bytes) ∙ ap (sound (t′ .input)) (sym (relinked n l)))
 
   pub same-whole : (n : ℕ) → whole t n ≡ whole t′ n
   unfolding whole
@@ -141,7 +141,7 @@ module _ (t t′ : Tables) (same : SameRead t t′) where
       same-end =
           let h = same .each-node n (sound-at t n own .0) in
           let b : SameBytes (t .input) (t′ .input) (nodeOf t n) codes = rw code at (h .bytes) in
-          rw (← h .place, numbers-sum (t .input) (t′ .input) (same .length-of) 0 0 (nodeOf t n) (b .0), part-node 0 (omega arith) .size, part-node 3 (omega arith) .count, part-node 4 (omega arith) .size)
+          rw (← h .place, numbers-sum (t .input) (t′ .input) (same .length-of) 0 0 0 (nodeOf t n) (b .0), part-node 0 (omega arith) .size, part-node 3 (omega arith) .count, part-node 4 (omega arith) .size)
           refl
 
   -- The whole test.

@@ -1,5 +1,5 @@
 -- 01's P4, `29 02 69 01 00 00 00 54`, with the stores that its reading leaves, and the same with other headers, another link behind the last
--- entry, other first entries where none is counted and no ends: two lendings that differ, and are written alike.
+-- entry, other first entries where none is counted, no ends and other inputs: two lendings that differ, and are written alike.
 use mathlib.Core.Path.{_≡_, refl, sym, _∙_}
 use Prim.Native.Nat.{ℕ, zero, suc, _<_}
 use native.Mathlib.Omega.{arith}
@@ -21,21 +21,21 @@ use Rattle.writing.proofs.Unread.{links-and-bytes-unread}
 abbrev pairs : (header header′ header″ : ℕ) → List ℕ
 pairs a b c = a ∷ 2 ∷ b ∷ 1 ∷ 0 ∷ 0 ∷ 0 ∷ c ∷ []
 
-abbrev lent : (input : List ℕ) → (unlinked last end end′ : ℕ) → Tables
-lent input unlinked last end end′ =
+abbrev lent : (input : List ℕ) → (unlinked last end end′ of : ℕ) → Tables
+lent input unlinked last end end′ of =
     record {
       input = input;
-      nodes = 0x29 ∷ 1 ∷ 1 ∷ 0 ∷ 2 ∷ end ∷ 0x69 ∷ 3 ∷ 4 ∷ unlinked ∷ 0 ∷ end′ ∷ 0x54 ∷ 8 ∷ 0 ∷ unlinked ∷ 0 ∷ end ∷ [];
+      nodes = 0x29 ∷ 1 ∷ 1 ∷ 0 ∷ 2 ∷ end ∷ of ∷ 0x69 ∷ 3 ∷ 4 ∷ unlinked ∷ 0 ∷ end′ ∷ of ∷ 0x54 ∷ 8 ∷ 0 ∷ unlinked ∷ 0 ∷ end ∷ of ∷ [];
       entries = 1 ∷ 1 ∷ 2 ∷ last ∷ [];
       usedNodes = 3;
       usedEntries = 2;
     }
 
 abbrev asRead : Tables
-asRead = lent (pairs 0x29 0x69 0x54) nothing nothing 8 7
+asRead = lent (pairs 0x29 0x69 0x54) nothing nothing 8 7 0
 
 abbrev changed : Tables
-changed = lent (pairs 0 0xFF 0x4E) 7 0 0 0
+changed = lent (pairs 0 0xFF 0x4E) 7 0 0 0 3
 
 -- the bytes behind the three headers
 unchanged : (i : ℕ) → (i ≡ 0 → ⊥) → (i ≡ 2 → ⊥) → (i ≡ 7 → ⊥) → getD (asRead .input) i 0 ≡ getD (changed .input) i 0

@@ -1,4 +1,4 @@
--- 01, 'Writing it back': "Links past the count and bytes before the place are not read"; 02, K7, of the end: "not read by the writer". Any
+-- 01, 'Writing it back': "Links past the count and bytes before the place are not read"; 02, K7, of the end: "not read by the writer"; nor is the input's number. Any
 -- two lendings that differ only there are written alike, whatever stores they are: answer and bytes. By induction on the allowance, each
 -- node by the record test that both pass alike. Assumes nothing.
 use mathlib.Core.Path.{_≡_, refl, sym, ap, ap₂, _∙_}
@@ -72,7 +72,7 @@ module _ (t t′ : Tables) (same : SameRead t t′) where
   same-shape n kids h =
       let l = sound-at t n (whole-some t n kids (h .linked) .0) .0 in
       let d = same .each-node n l in
-      same-classed (t .input) (t′ .input) (same .length-of) (nodeOf t′ n .first) (nodeOf t′ n .end) (nodeOf t n) kids (classOf (nodeOf t n .letter)) refl (sound-ruled (t .input) (nodeOf t n) (h .own) .1) (d .bytes)
+      same-classed (t .input) (t′ .input) (same .length-of) (nodeOf t′ n .first) (nodeOf t′ n .end) (nodeOf t′ n .input) (nodeOf t n) kids (classOf (nodeOf t n .letter)) refl (sound-ruled (t .input) (nodeOf t n) (h .own) .1) (d .bytes)
       ∙ ap₂ (λ m x. classed (t′ .input) m kids (classOf x)) (sym (relinked t t′ same n l)) (d .letter)
 
   same-looked : (f f′ : ℕ → Writing) (g g′ : ℕ → List ℕ → Writing) (n : ℕ) → ((v : ℕ) → f v ≡ f′ v)
@@ -155,14 +155,14 @@ bytes-before-unread t s′ from long first h =
           };
     })
 
--- The plain form for ends: stores of nodes, as long as one another, that differ only in these.
+-- The plain form for ends and inputs: stores of nodes, as long as one another, that differ only in these.
 abbrev recorded : List ℕ → Tables → Tables
 recorded nodes t = record { input = t .input; nodes = nodes; entries = t .entries; usedNodes = t .usedNodes; usedEntries = t .usedEntries }
 
-pub ends-unread : (t : Tables) (nodes : List ℕ) → length (t .nodes) ≡ length nodes → (ends : ℕ → ℕ)
-    → ((n : ℕ) → nodeAt nodes n ≡ linked (nodeOf t n .first) (ends n) (nodeOf t n))
+pub ends-unread : (t : Tables) (nodes : List ℕ) → length (t .nodes) ≡ length nodes → (ends inputs : ℕ → ℕ)
+    → ((n : ℕ) → nodeAt nodes n ≡ linked (nodeOf t n .first) (ends n) (inputs n) (nodeOf t n))
     → (root nesting room : ℕ) → written t root nesting room ≡ written (recorded nodes t) root nesting room
-ends-unread t nodes long ends but =
+ends-unread t nodes long ends inputs but =
     links-and-bytes-unread t (recorded nodes t)
     (record {
       length-of = refl;

@@ -1,6 +1,7 @@
 -- No export and no promise rests on this page.
 -- Two lendings to the writer that differ only in what it does not read.
--- 01, 'Writing it back': "Links past the count and bytes before the place are not read." 02, K7, of a node's end: "not read by the writer".
+-- 01, 'Writing it back': "Links past the count and bytes before the place are not read." 02, K7, of a node's end: "not read by the writer". 02, K11: nor is the number of a
+-- node's input, which only names it.
 use mathlib.Core.Path.{_≡_}
 use Prim.Native.Nat.{ℕ, zero, suc, _+_, _≤_, _<_}
 use mathlib.Core.List.{List}
@@ -32,7 +33,7 @@ SameLinks t t′ (suc more) e e′ =
     → (entryAt (t .entries) e .child ≡ entryAt (t′ .entries) e′ .child)
     × SameLinks t t′ more (entryAt (t .entries) e .next) (entryAt (t′ .entries) e′ .next))
 
--- nothing is asked of the ends
+-- nothing is asked of the ends and the inputs
 pub record SameNode (t t′ : Tables) (n n′ : Node) : Type 0 where
   pub letter : n .letter ≡ n′ .letter
   pub place : n .place ≡ n′ .place

@@ -37,6 +37,7 @@ pub fn fill(input: &[u8], stores: &mut Stores) {
             node.add(3).write(NOTHING);
             node.add(4).write(0);
             node.add(5).write(place as u32 + size);
+            node.add(6).write(0);
             let cell = entries.add(2 * entry as usize);
             cell.write(entry + 1);
             cell.add(1).write(if entry + 1 == count { NOTHING } else { entry + 1 });
@@ -44,7 +45,7 @@ pub fn fill(input: &[u8], stores: &mut Stores) {
         }
     }
     let first = if count == 0 { NOTHING } else { 0 };
-    stores.nodes[..NODE].copy_from_slice(&[u32::from(input[0]), 1, 4, first, count, at as u32]);
+    stores.nodes[..NODE].copy_from_slice(&[u32::from(input[0]), 1, 4, first, count, at as u32, 0]);
 }
 
 /// The little-endian word at a place, which is not checked.

@@ -5,6 +5,8 @@ mod exceptions;
 #[cfg(carried)]
 mod floor;
 #[cfg(carried)]
+mod keep;
+#[cfg(carried)]
 mod linetable;
 #[cfg(carried)]
 mod pieces;
@@ -64,6 +66,9 @@ fn main() -> ExitCode {
             if wanted("read") {
                 read::run(modules.clone());
             }
+            if wanted("keep") {
+                keep::run(modules.clone());
+            }
             if wanted("write") {
                 write::run(modules);
             }
@@ -74,7 +79,7 @@ fn main() -> ExitCode {
 
 /// What is timed; all where none is named.
 #[cfg(carried)]
-const PARTS: [&str; 8] = ["varint", "exceptions", "lines", "pieces", "starts", "settings", "read", "write"];
+const PARTS: [&str; 9] = ["varint", "exceptions", "lines", "pieces", "starts", "settings", "read", "keep", "write"];
 
 /// The modules of the file, as CPython marshals them.
 #[cfg(carried)]

@@ -88,7 +88,7 @@ pub fn with_plain_instructions(mut module: Vec<u8>) -> Vec<u8> {
 const PLAIN: u8 = 30;
 
 /// How many numbers a node is.
-pub const NODE: usize = 6;
+pub const NODE: usize = 7;
 
 pub struct Stores {
     pub nodes: Vec<u32>,
@@ -106,6 +106,20 @@ impl Stores {
         stores.entries.truncate(2 * counts.entries as usize);
         stores.slots.truncate(counts.slots as usize);
         stores
+    }
+
+    pub fn copied(&self) -> Self {
+        Self { nodes: self.nodes.clone(), entries: self.entries.clone(), slots: self.slots.clone() }
+    }
+
+    /// As long as these and a node more, and empty.
+    pub fn with_one_more(&self) -> Self {
+        let [nodes, entries, slots] = [self.nodes.len() + NODE, self.entries.len(), self.slots.len()];
+        Self { nodes: vec![0; nodes], entries: vec![0; entries], slots: vec![0; slots] }
+    }
+
+    pub fn read_again(&mut self, input: &[u8]) {
+        black_box(self.read(input));
     }
 
     fn read(&mut self, input: &[u8]) -> Read {

@@ -28,6 +28,19 @@ pub fn timed_again<'a>(mut work: impl FnMut() + 'a) -> Box<dyn FnMut() -> Durati
     })
 }
 
+/// The same, with something done before each time that does not count.
+pub fn timed_after<'a>(
+    mut before: impl FnMut() + 'a,
+    mut work: impl FnMut() + 'a,
+) -> Box<dyn FnMut() -> Duration + 'a> {
+    Box::new(move || {
+        before();
+        let start = processor_time();
+        work();
+        processor_time() - start
+    })
+}
+
 /// The processor time that this thread has used: waiting for a processor does not count.
 fn processor_time() -> Duration {
     #[repr(C)]

@@ -146,7 +146,7 @@ fn hold_table(name: &str, table: &[u8]) -> Result<(), String> {
     // By node the input has a header and a length before the table, so the table is a little shorter.
     let (short, count) = (&table[..table.len() - 250], each - instructions(&table[table.len() - 250..]));
     let input = Part::new(&[&headed(b's', short.len()), short].concat());
-    let nodes = [u32::from(b's'), 5, short.len() as u32, u32::MAX, 0, 5 + short.len() as u32];
+    let nodes = [u32::from(b's'), 5, short.len() as u32, u32::MAX, 0, 5 + short.len() as u32, 0];
     let (bytes, mut out) = (input.bytes(), Lent::new(4 * count as usize));
     // SAFETY: input and stores are lent for their lengths.
     let by_node = unsafe {

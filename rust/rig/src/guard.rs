@@ -2,7 +2,9 @@
 //! touch, so one byte read or written outside ends the run. The answers are held to the same as without.
 use crate::exceptions::{self, Exceptions};
 use crate::join::{self, Joins};
+use crate::keep::{self, Keeps};
 use crate::memory::{Mode, lend};
+use crate::more::{self, Mores};
 use crate::moves::{self, Moves};
 use crate::pieces::{self, Pieces};
 use crate::read::Reads;
@@ -74,6 +76,16 @@ pub fn hold() -> bool {
             let answer = join::by_the_model(&asked);
             last_asked(&Joins::row(&asked, &answer));
             tally.count("line tables joined, and their lines", held::<Joins>(&asked, &answer));
+        }
+        for asked in keep::random_asks(28, OF_EACH) {
+            let answer = keep::by_the_model(&asked);
+            last_asked(&Keeps::row(&asked, &answer));
+            tally.count("values kept, in any stores", held::<Keeps>(&asked, &answer));
+        }
+        for asked in more::random_asks(29, OF_EACH) {
+            let answer = more::by_the_model(&asked);
+            last_asked(&Mores::row(&asked, &answer));
+            tally.count("values read behind others", held::<Mores>(&asked, &answer));
         }
         for asked in totals::random_asks(26, OF_EACH) {
             let answer = totals::by_the_model(&asked);

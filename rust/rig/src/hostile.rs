@@ -75,7 +75,7 @@ fn single_records() -> impl Iterator<Item = Case> {
         let (counted, long, negative) = (after(count, 0), after(digits, 1), after(digits.wrapping_neg(), 0x41));
         [counted, long, negative, vec![0xC3; 28]].map(|input| Case {
             input,
-            nodes: vec![letter, 0, size, 0, count, 0, u32::from(b'N'), 0, 0, NOTHING, 0, 0],
+            nodes: vec![letter, 0, size, 0, count, 0, 7, u32::from(b'N'), 0, 0, NOTHING, 0, 0, 0],
             entries: (1..=12).flat_map(|next| [1, if next < 12 { next } else { NOTHING }]).collect(),
             used: [2, 12],
             root: 0,
@@ -110,7 +110,8 @@ fn of_nothing(random: &mut Random) -> Case {
             _ => 0,
         };
         let count = if b"([<>):{c".contains(&letter) { random.below(5) as u32 } else { 0 };
-        let record = [u32::from(letter), any(random, bytes), size, any(random, entries), count, any(random, bytes)];
+        let [place, end, number] = [bytes, bytes, 3].map(|most| any(random, most));
+        let record = [u32::from(letter), place, size, any(random, entries), count, end, number];
         case.nodes.extend_from_slice(&record);
         with_length(&mut case.input, &record);
     }
@@ -120,7 +121,7 @@ fn of_nothing(random: &mut Random) -> Case {
 
 /// Mostly the length field says what the record counts.
 fn with_length(input: &mut [u8], record: &[u32; NODE_WIDTH]) {
-    let [_, place, size, _, count, _] = *record;
+    let [_, place, size, _, count, ..] = *record;
     if let Some(field) = input.get_mut(place as usize..(place as usize).saturating_add(size as usize))
         && matches!(size, 1 | 4)
     {
@@ -168,8 +169,8 @@ fn damage(random: &mut Random, case: &mut Case) {
         }
         _ => {
             if let Some(at) = any(random, case.nodes.len()) {
-                let within = [0, case.input.len(), case.input.len(), case.entries.len() / 2, 6, case.input.len()]
-                    [at % NODE_WIDTH];
+                let (bytes, entries) = (case.input.len(), case.entries.len() / 2);
+                let within = [0, bytes, bytes, entries, 6, bytes, 3][at % NODE_WIDTH];
                 case.nodes[at] = match at % NODE_WIDTH {
                     0 => u32::from(random.one_of(LETTERS)) + 256 * u32::from(random.below(30) == 0),
                     _ if random.below(2) == 0 => {

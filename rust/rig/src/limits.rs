@@ -25,13 +25,13 @@ pub fn hold() -> bool {
     bytes.push(b'N');
     record(&mut tally, "one byte more", &bytes, Some((refusals::INPUT_TOO_LONG, 0)));
     tally.count("one byte more: the leaf question, a node's line table", too_long(&Part::new(&bytes)));
-    let none = [u32::from(b'N'), 0, 0, NOTHING, 0, 0];
+    let none = [u32::from(b'N'), 0, 0, NOTHING, 0, 0, 0];
     let too_long = Store { input: &bytes, nodes: &none, entries: &[], used: [1, 0] };
     tally.count("one byte more: writing", written(&too_long, 0, Some((refusals::INPUT_TOO_LONG, 0))));
     let nodes = Store { input: &[], nodes: &none.repeat(most + 1), entries: &[], used: [u32::MAX; 2] };
     tally.count("writing the last node that counts", written(&nodes, MOST_RECORDS - 1, None));
     tally.count("one node more: writing", written(&nodes, MOST_RECORDS, Some((refusals::BAD_TABLE, most))));
-    let of_one = |first: u32| [none, [u32::from(b')'), 0, 1, first, 1, 1]].concat();
+    let of_one = |first: u32| [none, [u32::from(b')'), 0, 1, first, 1, 1, 0]].concat();
     let entries = [0, NOTHING].repeat(most + 1);
     for (class, first, refused) in [
         ("writing by the last entry that counts", MOST_RECORDS - 1, None),
@@ -72,7 +72,7 @@ fn written(store: &Store, root: u32, refused: Option<(u32, usize)>) -> Result<()
 }
 
 fn too_long(part: &Part) -> Result<(), String> {
-    let nodes = Lent::of(&[u32::from(b's'), 0, 0, refusals::NOTHING, 0, 0]);
+    let nodes = Lent::of(&[u32::from(b's'), 0, 0, refusals::NOTHING, 0, 0, 0]);
     let asked = leaf(part, &nodes, 1, 0);
     let (input, mut records) = (part.bytes(), Lent::new(4));
     // SAFETY: input and stores are lent for their lengths.

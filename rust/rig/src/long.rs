@@ -6,7 +6,7 @@ use crate::subject::compare;
 use crate::values::{self, ROUNDS};
 use crate::varint::{self, Varints};
 use crate::write::{self, Writes};
-use crate::{exceptions, hostile, join, leaf, moves, settings, sweep};
+use crate::{exceptions, hostile, join, keep, leaf, more, moves, sessions, settings, sweep};
 use sillgarland_sys::refusals::MOST_NESTING;
 use std::ops::Range;
 use std::time::Instant;
@@ -55,5 +55,8 @@ fn hold_round(round: u64, made: &Made) -> bool {
         && join::hold_round(10_000 + round, 1_000_000)
         && settings::hold_round(11_000 + round, 1_000_000)
         && moves::hold_round(13_000 + round, 600_000)
+        && keep::hold_round(14_000 + round, 600_000)
+        && more::hold_round(15_000 + round, 600_000)
+        && sessions::hold(16_000 + round, 40_000)
         && sweep::hold(7000 + round, || values::inputs_to_sweep(8000 + round, 1_000_000))
 }

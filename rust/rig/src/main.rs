@@ -13,6 +13,7 @@ mod goldens;
 mod guard;
 mod hostile;
 mod join;
+mod keep;
 mod leaf;
 mod lent;
 mod limits;
@@ -22,6 +23,7 @@ mod localsplus;
 mod long;
 mod marshalled;
 mod memory;
+mod more;
 mod moves;
 mod nested;
 mod nulls;
@@ -36,6 +38,7 @@ mod read;
 mod reading;
 mod record;
 mod salvage;
+mod sessions;
 mod settings;
 #[cfg(carried)]
 mod shape;
@@ -66,8 +69,10 @@ mod writing;
 
 use exceptions::Exceptions;
 use join::Joins;
+use keep::Keeps;
 use linetable::LineTables;
 use localsplus::LocalNames;
+use more::Mores;
 use moves::Moves;
 use options::{Options, Task, USAGE};
 use pieces::Pieces;
@@ -120,6 +125,7 @@ fn run(options: Options) -> Result<bool, String> {
         Task::Joins => joins(&options),
         Task::Settings => Ok(settings::hold(20, SETTINGS)),
         Task::Moves => Ok(moves::hold(21, MOVES)),
+        Task::Keeps => Ok(keeps()),
         Task::Sources => Ok(sources::hold(17, SOURCES)),
         Task::Spans => spans(),
         Task::Starts => Ok(starts::hold(19, STARTS)),
@@ -198,11 +204,18 @@ const SETTINGS: usize = 1_000_000;
 /// How many random golden files, moved from one form into the other.
 const MOVES: usize = 600_000;
 
+/// How many random moves of a node, values read behind others, and sessions of both.
+const KEEPS: [usize; 3] = [600_000, 600_000, 40_000];
+
+fn keeps() -> bool {
+    all([keep::hold(23, KEEPS[0]), more::hold(24, KEEPS[1]), sessions::hold(25, KEEPS[2])])
+}
+
 /// How many random totals, counted, added and printed.
 const TOTALS: usize = 1_000_000;
 
 /// What documents 01 and 02 alone tell: the leaf question and writing on any stores, exception tables, joins, row starts,
-/// settings files, golden files of both forms, totals, equal values and equal bytes, and demand 3 at every room.
+/// settings files, golden files of both forms, values kept and read behind one another, totals, equal values and equal bytes, and demand 3 at every room.
 fn without_the_rust() -> Result<bool, String> {
     let found = corpus::inputs()?;
     Ok(all([
@@ -217,6 +230,7 @@ fn without_the_rust() -> Result<bool, String> {
         join::hold(19, JOINS),
         settings::hold(20, SETTINGS),
         moves::hold(21, MOVES),
+        keeps(),
         totals::hold(19, TOTALS),
         equal::hold(20, EQUAL),
         sweep::hold(13, || values::inputs_to_sweep(14, 200_000).chain(found.iter().cloned())),
@@ -246,6 +260,8 @@ fn replay_answers() -> bool {
         replay::<Starts>("vectors"),
         replay::<SettingsFiles>("vectors"),
         replay::<Moves>("vectors"),
+        replay::<Keeps>("vectors"),
+        replay::<Mores>("vectors"),
         replay::<Pieces>("vectors"),
         replay::<NightlyTotals>("vectors"),
     ]);

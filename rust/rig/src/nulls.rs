@@ -1,14 +1,15 @@
 //! A null pointer with length 0 is an empty slice: every exported function, called so, answers as for no bytes and no room.
 use crate::tally::Tally;
 use sillgarland_sys::{
-    Edition, Exceptions, Found, Indexed, Joined, Leaf, Line, Located, Moved, Read, Rewritten, Salvaged, Saved, Setting,
-    Sourced, Span, Split, Start, Totalled, Written, refusals,
+    Edition, Exceptions, Found, Indexed, Joined, Kept, Leaf, Line, Located, Moved, Read, Rewritten, Salvaged, Saved,
+    Setting, Sourced, Span, Split, Start, Totalled, Written, refusals,
 };
 use sillgarland_sys::{sill_add_totals, sill_print_totals, sill_totals};
 use sillgarland_sys::{sill_edition, sill_rewrite_settings, sill_save_edition, sill_setting};
 use sillgarland_sys::{sill_golden_from_fields, sill_golden_to_fields};
 use sillgarland_sys::{sill_index_starts, sill_start_at, sill_starts_before};
 use sillgarland_sys::{sill_join, sill_line_after, sill_read_exceptions, sill_write_exceptions};
+use sillgarland_sys::{sill_keep, sill_keep_need, sill_read_more};
 use sillgarland_sys::{sill_leaf, sill_locate_node, sill_read, sill_salvage, sill_sources, sill_span, sill_write};
 use sillgarland_sys::{sill_locate, sill_locations, sill_read_varint, sill_read_varint_with_start, sill_split};
 use sillgarland_sys::{sill_locate_begin, sill_locate_end, sill_locate_piece};
@@ -91,6 +92,12 @@ pub fn hold() -> bool {
         count(&mut tally, "sill_read", sill_read(n, 0, w, 0, w, 0, w, 0, 1), no_object);
         let no_span = Span { refusal: refusals::BAD_TABLE, place: 0, start: 0, end: 0, closed: 0, slots_before: 0 };
         count(&mut tally, "sill_span", sill_span(n, 0, null(), 0, null(), 0, 0, 0, 0), no_span);
+        let none_kept =
+            Kept { refusal: refusals::BAD_TABLE, place: 0, nodes: 0, entries: 0, free_nodes: 0, free_entries: 0 };
+        count(&mut tally, "sill_keep", sill_keep(w, 0, w, 0, w, 0, 0, 0, 0, w, 0), none_kept);
+        count(&mut tally, "sill_keep_need", sill_keep_need(0, 0), 0);
+        let more = sill_read_more(n, 0, w, 0, w, 0, w, 0, 1, 0, 0, 0);
+        count(&mut tally, "sill_read_more", more, no_object);
         count(&mut tally, "sill_leaf", sill_leaf(n, 0, null(), 0, 0, 0), no_node);
         let bad_table = Written { refusal: refusals::BAD_TABLE, place: 0, written: 0 };
         count(&mut tally, "sill_write", sill_write(n, 0, null(), 0, null(), 0, 0, 0, 0, 1, m, 0), bad_table);

@@ -16,6 +16,7 @@ usage: rig [--tables FILE]                       compare with the carried Rust, 
        rig --starts                              row starts: the model, nothing else
        rig --settings                            settings files and their editions: the model, nothing else
        rig --moves                               golden files moved into fields and back: the model, nothing else
+       rig --keeps                               values kept and read behind one another: the models, and each value alone, nothing else
        rig --totals                              nightly totals: the model, nothing else
        rig --equal                               equal values are written as equal bytes and no others, nothing else
        rig --goldens PATH..                      compare on golden files; without a PATH, say how
@@ -48,6 +49,7 @@ pub enum Task {
     Joins,
     Settings,
     Moves,
+    Keeps,
     Sources,
     Spans,
     Starts,
@@ -98,6 +100,7 @@ impl Options {
                 "--starts" => options.set(Task::Starts)?,
                 "--settings" => options.set(Task::Settings)?,
                 "--moves" => options.set(Task::Moves)?,
+                "--keeps" => options.set(Task::Keeps)?,
                 "--pieces" => options.set(Task::Pieces)?,
                 "--extremes" => options.set(Task::Extremes)?,
                 "--has-rust" => options.set(Task::HasRust)?,

@@ -198,7 +198,8 @@ impl Reading<'_> {
         self.nodes.push([0; NODE_WIDTH]);
         self.met.headers.push(header);
         let (place, size, chain) = self.fields(letter, depth)?;
-        self.nodes[node] = [u32::from(letter), place as u32, size as u32, chain.first, chain.count, self.at as u32];
+        let [place, size, end] = [place, size, self.at].map(|number| number as u32);
+        self.nodes[node] = [u32::from(letter), place, size, chain.first, chain.count, end, 0];
         if byte != letter {
             self.slots[slot] = node as u32 + 1;
         }
@@ -370,7 +371,7 @@ impl Reading<'_> {
     }
 
     fn fits(&self, part: u32, rule: Rule) -> bool {
-        let [letter, _, _, first, count, _] = self.nodes[part as usize];
+        let [letter, _, _, first, count, ..] = self.nodes[part as usize];
         let is_one_of = |letters: &[u8]| letters.contains(&(letter as u8));
         match rule {
             Rule::Bytes => is_one_of(b"s"),

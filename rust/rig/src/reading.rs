@@ -5,7 +5,7 @@ use sillgarland_sys::{self as sys, Leaf, Read, refusals};
 
 pub const STORES: [&str; 3] = ["nodes", "entries", "slots"];
 /// How many numbers a node is.
-pub const NODE_WIDTH: usize = 6;
+pub const NODE_WIDTH: usize = 7;
 pub const WIDTHS: [usize; 3] = [NODE_WIDTH, 2, 1];
 
 pub struct Reading {
@@ -79,7 +79,7 @@ impl Held<'_> {
             return Err(format!("node {number} is beyond those used"));
         }
         let at = NODE_WIDTH * number as usize;
-        let [letter, place, size, first, count, end] = self.reading.stores[0].cells()[at..at + NODE_WIDTH] else {
+        let [letter, place, size, first, count, end, _] = self.reading.stores[0].cells()[at..at + NODE_WIDTH] else {
             unreachable!()
         };
         let [place, size, end] = [place, size, end].map(|number| number as usize);

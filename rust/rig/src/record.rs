@@ -4,7 +4,7 @@ use crate::plain::is_text;
 /// What the leaf question answers of a record, kind and values, if the record is as it must be: no chain and no parts are
 /// looked at.
 pub fn kind_of(input: &[u8], record: &[u32]) -> Option<(u32, u64, u64)> {
-    let [letter, place, size, _, count, _] = record.iter().map(|cell| *cell as usize).collect::<Vec<_>>()[..] else {
+    let [letter, place, size, _, count, _, _] = record.iter().map(|cell| *cell as usize).collect::<Vec<_>>()[..] else {
         return None;
     };
     let span = input.get(place..place + size)?;

@@ -193,10 +193,13 @@ pub fn by_the_model(ask: &SpanAsk) -> Span {
     if place < lead(record[0]) || end < place + own || end > input.len() {
         return refused(BAD_TABLE, *node);
     }
-    let headers: Vec<usize> =
-        records.iter().map(|record| (record[1] as usize).saturating_sub(lead(record[0]))).collect();
-    let (start, mut steps, mut closed) = (headers[*node as usize], links.len(), true);
-    for (number, record) in records.iter().enumerate().filter(|(number, _)| (start..end).contains(&headers[*number])) {
+    // Those of another input stand nowhere in this one.
+    let header_of =
+        |other: &&[u32]| (other[6] == record[6]).then(|| (other[1] as usize).saturating_sub(lead(other[0])));
+    let headers: Vec<Option<usize>> = records.iter().map(header_of).collect();
+    let (start, mut steps, mut closed) = (place - lead(record[0]), links.len(), true);
+    let inside = |header: &Option<usize>| header.is_some_and(|header| (start..end).contains(&header));
+    for (number, record) in records.iter().enumerate().filter(|(number, _)| inside(&headers[*number])) {
         let (mut entry, count) = (record[3] as usize, record[4] as usize);
         if count > steps {
             return refused(BAD_TABLE, number as u32);
@@ -205,12 +208,12 @@ pub fn by_the_model(ask: &SpanAsk) -> Span {
         for _ in 0..count {
             let child = links.get(entry).and_then(|link| headers.get(link[0] as usize));
             let Some(child) = child else { return refused(BAD_TABLE, number as u32) };
-            closed &= (start..end).contains(child);
+            closed &= inside(child);
             entry = links[entry][1] as usize;
         }
     }
     let flagged = |header: &usize| *header < start && input.get(*header).is_some_and(|byte| *byte >= 0x80);
-    let slots_before = headers.iter().filter(|header| flagged(header)).count() as u32;
+    let slots_before = headers.iter().flatten().filter(|header| flagged(header)).count() as u32;
     let [start, end] = [start, end].map(|place| place as u32);
     Span { refusal: refusals::ACCEPTED, place: 0, start, end, closed: closed.into(), slots_before }
 }

@@ -1,9 +1,10 @@
 //! The stack that the deepest reading and writing take: containers and code nested as deep as document 01 allows are read,
-//! written, and moved as a golden's result in a thread of 1 MiB; and how many bytes of it a level of nesting costs.
+//! read behind others, written, and moved as a golden's result in a thread of 1 MiB; and how many bytes of it a level of nesting costs.
 use crate::lent::Part;
+use crate::more;
 use crate::moves;
 use crate::nested::nested;
-use crate::reading::{ample, read};
+use crate::reading::{NODE_WIDTH, ample, read};
 use crate::tally::Tally;
 use crate::writing::Source;
 use sillgarland_sys::refusals::{ACCEPTED, MOST_NESTING};
@@ -23,6 +24,8 @@ pub fn hold() -> bool {
         tally.count("kinds of value nested 2,000 deep read in a thread of 1 MiB", read);
         let written = hold_kind(kind, &format!("{name} written"), writing);
         tally.count("kinds of value nested 2,000 deep written in a thread of 1 MiB", written);
+        let behind = hold_kind(kind, &format!("{name} read behind others"), reading_more);
+        tally.count("kinds of value nested 2,000 deep read behind others in a thread of 1 MiB", behind);
         let moved = hold_kind(kind, &format!("{name} moved"), |input| moves::deep(&input));
         tally.count("goldens with a result nested 2,000 deep moved in a thread of 1 MiB", moved);
     }
@@ -57,6 +60,17 @@ fn reading(input: Vec<u8>) -> Work {
     let part = Part::new(&input);
     Box::new(move || {
         let answer = black_box(read(&part, MOST_NESTING, ample(part.bytes()))).answer;
+        if answer.refusal == ACCEPTED { Ok(()) } else { Err(format!("{answer:?}")) }
+    })
+}
+
+/// Behind one node and no entry.
+fn reading_more(input: Vec<u8>) -> Work {
+    let [nodes, entries, slots] = ample(&input);
+    let stores = [vec![0; nodes + NODE_WIDTH], vec![0; entries]];
+    let ask = more::Ask { input, stores, slots, nesting: MOST_NESTING, kept: [1, 0], number: 1 };
+    Box::new(move || {
+        let (answer, _) = black_box(more::read_more(&ask));
         if answer.refusal == ACCEPTED { Ok(()) } else { Err(format!("{answer:?}")) }
     })
 }

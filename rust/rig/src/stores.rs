@@ -101,11 +101,12 @@ pub struct LeafAsk {
     input: Vec<u8>,
     nodes: Vec<u32>,
     used: u32,
+    first: u32,
 }
 
 pub struct Leaves;
 
-/// For each node from 0 on, its kind and values; or a refusal at the node's number.
+/// For each node from the first asked on, its kind and values; or a refusal at the node's number.
 impl Subject for Leaves {
     const NAME: &'static str = "leaf";
     type Ask = LeafAsk;
@@ -121,8 +122,8 @@ impl Subject for Leaves {
 
     fn check(ask: &LeafAsk, leaves: &Vec<Leaf>) -> Result<(), String> {
         let (part, store) = (Part::new(&ask.input), Lent::of(&ask.nodes));
-        for (node, expected) in leaves.iter().enumerate() {
-            let answered = leaf(&part, &store, ask.used, node as u32);
+        for (node, expected) in (ask.first..).zip(leaves) {
+            let answered = leaf(&part, &store, ask.used, node);
             if answered != *expected {
                 return Err(format!("at node {node}: {answered:?} and not {expected:?}"));
             }
@@ -140,14 +141,17 @@ impl Subject for Leaves {
             number => format!("refused:{number}:{}", leaf.place),
         };
         let leaves: Vec<_> = leaves.iter().map(shown).collect();
-        format!("leaf {} {} {} {}", hex(&ask.input), numbers(&ask.nodes), ask.used, leaves.join(","))
+        let first = if ask.first == 0 { String::new() } else { format!("{}=", ask.first) };
+        format!("leaf {} {} {} {first}{}", hex(&ask.input), numbers(&ask.nodes), ask.used, leaves.join(","))
     }
 
     fn of_row(row: &str) -> Option<(LeafAsk, Vec<Leaf>)> {
         let ["leaf", input, nodes, used, leaves] = row.split(' ').collect::<Vec<_>>()[..] else {
             return None;
         };
-        let ask = LeafAsk { input: of_hex(input)?, nodes: of_numbers(nodes)?, used: used.parse().ok()? };
+        let (first, leaves) = leaves.split_once('=').unwrap_or(("0", leaves));
+        let [used, first] = [used, first].map(|number| number.parse().ok());
+        let ask = LeafAsk { input: of_hex(input)?, nodes: of_numbers(nodes)?, used: used?, first: first? };
         Some((ask, leaves.split(',').map(of_leaf).collect::<Option<_>>()?))
     }
 }

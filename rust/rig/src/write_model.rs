@@ -68,7 +68,7 @@ impl<'a> Store<'a> {
     pub fn node(&self, number: u32) -> Option<Node> {
         let cells = self.cells(number)?;
         kind_of(self.input, cells)?;
-        let [letter, place, size, first, count, _] = *cells else { return None };
+        let [letter, place, size, first, count, ..] = *cells else { return None };
         let node = Node { letter: letter as u8, place: place as usize, size: size as usize, first, count };
         // A walk of more steps than there are entries goes round, and so does not end.
         let steps = count.min(self.entries_known() + 1) as usize;

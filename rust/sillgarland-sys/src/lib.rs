@@ -2,8 +2,8 @@
 //! source, to one another.
 //!
 //! A slice is a pointer and a count of elements; null with count 0 is fine; lent stores do not overlap. Refusal 0 means
-//! accepted, and place is then 0; on a refusal every other field is 0 and every store lent for writing is all zero.
-//! Truth is 0 or 1.
+//! accepted, and place is then 0; on a refusal every other field is 0 and every store lent for writing is all zero, but for
+//! what the header says of a line table by piece and of a value that is kept. Truth is 0 or 1.
 #![no_std]
 
 /// What a writer answers: how many bytes it wrote.
@@ -206,6 +206,18 @@ pub struct Span {
     pub end: u32,
     pub closed: u32,
     pub slots_before: u32,
+}
+
+/// What moving a value to the front of the stores answers: how many nodes and entries are kept, and how many more fit behind them.
+#[repr(C)]
+#[derive(Clone, Copy, Debug, PartialEq, Eq)]
+pub struct Kept {
+    pub refusal: u32,
+    pub place: u32,
+    pub nodes: u32,
+    pub entries: u32,
+    pub free_nodes: u32,
+    pub free_entries: u32,
 }
 
 /// What joining two line tables answers: how many bytes were written, for how many instructions, and the line they leave.
@@ -425,6 +437,34 @@ unsafe extern "C" {
         used_entries: u32,
         node: u32,
     ) -> Span;
+    pub fn sill_keep(
+        nodes: *mut u32,
+        nodes_len: usize,
+        entries: *mut u32,
+        entries_len: usize,
+        slots: *mut u32,
+        slots_len: usize,
+        used_nodes: u32,
+        used_entries: u32,
+        node: u32,
+        stack: *mut u32,
+        stack_len: usize,
+    ) -> Kept;
+    pub safe fn sill_keep_need(used_nodes: u32, used_entries: u32) -> u64;
+    pub fn sill_read_more(
+        input: *const u8,
+        input_len: usize,
+        nodes: *mut u32,
+        nodes_len: usize,
+        entries: *mut u32,
+        entries_len: usize,
+        slots: *mut u32,
+        slots_len: usize,
+        nesting: u32,
+        kept_nodes: u32,
+        kept_entries: u32,
+        input_number: u32,
+    ) -> Read;
     pub fn sill_locate_node(
         input: *const u8,
         input_len: usize,

@@ -1,8 +1,8 @@
 //! One value as it was read: the input and the used part of the stores, lent together.
 use crate::{Code, Value};
 
-/// A node's numbers: letter, place, size, first entry, count, end.
-pub(crate) type Record = [u32; 6];
+/// A node's numbers: letter, place, size, first entry, count, end, the input's number.
+pub(crate) type Record = [u32; 7];
 
 /// A value that was read. It is a view: the input and the [`Reader`](crate::Reader)'s stores hold everything.
 #[derive(Clone, Copy)]
@@ -11,6 +11,8 @@ pub struct Golden<'a> {
     pub(crate) nodes: &'a [Record],
     pub(crate) entries: &'a [[u32; 2]],
     pub(crate) consumed: usize,
+    /// Whether the stores hold a [`Session`](crate::Session)'s other values too, or a value that was moved.
+    pub(crate) in_session: bool,
 }
 
 impl<'a> Golden<'a> {

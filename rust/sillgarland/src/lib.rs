@@ -31,7 +31,8 @@
 //! table placed it.
 //!
 //! Values back to back are an iterator ([`values`]); [`Value::walk`] meets everything in a value once, however it is shared;
-//! [`OwnedValue`] outlives its input; a [`Block`] is a line table without a code object. docs/RUST.md begins with a cut table.
+//! [`OwnedValue`] outlives its input; a [`Session`] keeps a part of a value and reads more behind it; a [`Block`] is a line table
+//! without a code object. docs/RUST.md begins with a cut table.
 #![warn(missing_docs)]
 
 mod code;
@@ -47,6 +48,7 @@ mod reader;
 mod refusal;
 mod salvage;
 mod same;
+mod session;
 mod settings;
 mod span;
 mod split;
@@ -71,6 +73,7 @@ pub use reader::Reader;
 pub use refusal::{Place, Refusal, Refused};
 pub use salvage::{Salvaged, salvage};
 pub use same::{Difference, Path, Step, What, differences_at, each_difference, first_difference};
+pub use session::{Held, Kept, Session};
 pub use settings::{
     EDITION, FromFile, MOST_CONTENTS, Setting, edition, rewrite_settings, save_edition, setting, settings_field,
     settings_fields,

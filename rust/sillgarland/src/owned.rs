@@ -28,7 +28,10 @@ pub struct OwnedValue {
 impl Value<'_> {
     /// A copy of this value that owns all that it needs: the bytes and records of the reading that it is from.
     pub fn to_owned_value(self) -> OwnedValue {
-        let Golden { input, nodes, entries, consumed } = self.golden;
+        let Golden { input, nodes, entries, consumed, in_session } = self.golden;
+        if in_session {
+            return self.read_anew(|value| value.to_owned_value());
+        }
         OwnedValue { input: input[..consumed].into(), nodes: nodes.into(), entries: entries.into(), root: self.node() }
     }
 }
@@ -37,7 +40,7 @@ impl OwnedValue {
     /// The value, to be walked and asked.
     pub fn value(&self) -> Value<'_> {
         let (input, consumed) = (&*self.input, self.input.len());
-        Golden { input, nodes: &self.nodes, entries: &self.entries, consumed }.value(self.root)
+        Golden { input, nodes: &self.nodes, entries: &self.entries, consumed, in_session: false }.value(self.root)
     }
 }
 

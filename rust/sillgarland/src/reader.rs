@@ -76,6 +76,16 @@ impl Reader {
         ]
     }
 
+    /// The three stores, as long as they have grown.
+    pub(crate) fn all_stores(&mut self) -> [&mut [u32]; 3] {
+        [self.nodes.as_flattened_mut(), self.entries.as_flattened_mut(), &mut self.slots]
+    }
+
+    /// So many nodes and entries, from the front.
+    pub(crate) fn first(&self, nodes: usize, entries: usize) -> (&[Record], &[[u32; 2]]) {
+        (&self.nodes[..nodes], &self.entries[..entries])
+    }
+
     pub(crate) fn nesting(&self) -> u32 {
         self.nesting
     }
@@ -104,6 +114,7 @@ impl Reader {
             nodes: &self.nodes[..answer.nodes as usize],
             entries: &self.entries[..answer.entries as usize],
             consumed: answer.consumed as usize,
+            in_session: false,
         }
     }
 }

@@ -1,5 +1,5 @@
 //! The bytes of a value: where they stand in the input, and whether they can stand alone.
-use crate::{Golden, NUMBERS, Value};
+use crate::{Golden, NUMBERS, Reader, Value};
 use std::fmt;
 use std::ops::Range;
 
@@ -50,12 +50,15 @@ impl<'a> Value<'a> {
     /// # Ok::<(), sillgarland::Refused>(())
     /// ```
     pub fn span(self) -> Range<usize> {
-        let [.., end] = self.record();
+        let [.., end, _] = self.record();
         self.header()..end as usize
     }
 
     /// Its bytes, and whether every reference in them names a value in them. This looks at every node of the reading.
     pub fn standing(self) -> Span {
+        if self.golden.in_session {
+            return self.read_anew(|value| value.standing());
+        }
         let Golden { input, nodes, entries, .. } = self.golden;
         let [nodes, entries] = [nodes.as_flattened(), entries.as_flattened()];
         let [used_nodes, used_entries] = [self.golden.nodes.len() as u32, self.golden.entries.len() as u32];
@@ -91,6 +94,9 @@ impl<'a> Value<'a> {
     ///
     /// Where a reference in them names a value outside, there are no such bytes, and the first of them is the error.
     pub fn alone(self) -> Result<Vec<u8>, NotAlone> {
+        if self.golden.in_session {
+            return self.read_anew(|value| value.alone());
+        }
         let Span { bytes, closed, slots_before } = self.standing();
         let within = || self.golden.values().skip(self.node as usize).take_while(|value| value.header() < bytes.end);
         if !closed {
@@ -106,6 +112,15 @@ impl<'a> Value<'a> {
             index.copy_from_slice(&lowered.to_le_bytes());
         }
         Ok(alone)
+    }
+
+    /// Asks of this value what is asked over all nodes of a reading, where the stores hold other values or moved ones: its input is
+    /// read once more, alone.
+    pub(crate) fn read_anew<T>(self, ask: impl FnOnce(Value) -> T) -> T {
+        let mut reader = Reader::new();
+        let golden = reader.read(self.golden.input).expect("what was read is read again");
+        let own = golden.values().find(|value| value.header() == self.header());
+        ask(own.expect("a value's header is where it was"))
     }
 
     /// Where its header stands: before its place, and before a string's length.
@@ -136,7 +151,7 @@ impl<'a> Value<'a> {
 #[cfg(test)]
 mod tests {
     use super::*;
-    use crate::{Reader, first_difference};
+    use crate::first_difference;
 
     fn spans(input: &[u8]) -> Vec<(usize, usize)> {
         let mut reader = Reader::new();

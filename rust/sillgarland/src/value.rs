@@ -50,7 +50,8 @@ pub enum Content<'a> {
 }
 
 impl<'a> Value<'a> {
-    /// The node's number: its header's turn in the reading. The same number is the same value, shared.
+    /// The node's number: its header's turn in the reading, or in a [`Session`](crate::Session) where it stands now. The same number is
+    /// the same value, shared.
     pub fn node(self) -> u32 {
         self.node
     }
@@ -75,7 +76,7 @@ impl<'a> Value<'a> {
     /// Values may share children, so a recursion over them may never end: forty tuples, each of the one before twice, are reached
     /// 2^40 times. [`walk`](Self::walk) meets each value once.
     pub fn children(self) -> Children<'a> {
-        let [_, _, _, first, count, _] = self.record();
+        let [_, _, _, first, count, ..] = self.record();
         Children { golden: self.golden, entry: first, left: count }
     }
 

@@ -51,7 +51,8 @@ impl ValueAt<'_> {
 
     /// The value as it was read.
     pub fn golden(&self) -> Golden<'_> {
-        Golden { input: self.input, nodes: &self.nodes, entries: &self.entries, consumed: self.consumed }
+        let Self { input, nodes, entries, consumed, .. } = self;
+        Golden { input, nodes, entries, consumed: *consumed, in_session: false }
     }
 
     /// The value with its bytes, to be kept without the input.

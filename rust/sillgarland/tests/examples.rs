@@ -1,4 +1,4 @@
-//! Runs each program of examples/ and holds what it shows; docs/RUST.md has the first of them and its output word for word.
+//! Runs each program of examples/ and holds what it shows; docs/RUST.md has two of them and what they show word for word.
 use std::path::{Path, PathBuf};
 use std::process::{Command, Output};
 
@@ -18,14 +18,19 @@ fn shown(output: &Output) -> &str {
 }
 
 #[test]
-fn the_page_has_the_program_and_what_it_shows() {
-    let output = run("cut_golden");
-    assert!(output.status.success());
-    assert!(shown(&output).ends_with("instruction 40 comes from row 212\n"));
-    let page = std::fs::read_to_string(root().join("docs/RUST.md")).unwrap();
-    let program = std::fs::read_to_string(root().join("rust/sillgarland/examples/cut_golden.rs")).unwrap();
-    assert!(page.contains(&format!("```rust\n{program}```\n")));
-    assert!(page.contains(&format!("```\n{}```\n", shown(&output))));
+fn the_page_has_the_programs_and_what_they_show() {
+    let ends = [
+        ("cut_golden", "instruction 40 comes from row 212\n"),
+        ("session", "<module>, of rates.sheet: 45 instructions\n"),
+    ];
+    for (name, end) in ends {
+        let output = run(name);
+        assert!(output.status.success() && shown(&output).ends_with(end), "{name}: {output:?}");
+        let page = std::fs::read_to_string(root().join("docs/RUST.md")).unwrap();
+        let program = std::fs::read_to_string(root().join(format!("rust/sillgarland/examples/{name}.rs"))).unwrap();
+        assert!(page.contains(&format!("```rust\n{program}```\n")), "{name}");
+        assert!(page.contains(&format!("```\n{}```\n", shown(&output))), "{name}");
+    }
 }
 
 #[test]
@@ -52,7 +57,9 @@ fn every_export_is_reached() {
     let declared = text(&root().join("rust/sillgarland-sys/src/lib.rs"));
     let sources = std::fs::read_dir(root().join("rust/sillgarland/src")).unwrap();
     let own: String = sources.map(|entry| text(&entry.unwrap().path())).collect();
-    let names = declared.lines().filter_map(|line| line.trim().strip_prefix("pub fn ")?.split('(').next());
+    let names = declared.lines().filter_map(|line| {
+        line.trim().strip_prefix("pub ")?.trim_start_matches("safe ").strip_prefix("fn ")?.split('(').next()
+    });
     let (reached, missing): (Vec<&str>, Vec<&str>) = names.partition(|name| own.contains(&format!("{name}(")));
     assert!(missing.is_empty(), "{missing:?}");
     assert!(reached.len() >= 25, "{reached:?}");

@@ -9,7 +9,7 @@ use Rattle.keepmove.proofs.lay_nodes.Statement.{statement}
 use Rattle.keepmove.proofs.lay_nodes.Tie as tie
 
 abbrev Inv-loop : tie.InvT-loop
-Inv-loop store₀ column s from size i₀ at₀ store i at = (Laying s from size column 6 store₀ i at store) × (at ≡ column + i * 6)
+Inv-loop store₀ column s from size i₀ at₀ store i at = (Laying s from size column 7 store₀ i at store) × (at ≡ column + i * 7)
 
 abbrev μ-loop : tie.MeasureT-loop
 μ-loop store₀ column s from size i₀ at₀ store i at = size - i

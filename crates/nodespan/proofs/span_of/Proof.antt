@@ -45,6 +45,9 @@ nodes-in-requires c κs = search needs
 entries-in-requires : tie.Need-entries-in-requires
 entries-in-requires c κs = search needs
 
+input-of-requires : tie.Need-input-of-requires
+input-of-requires c κs = search needs
+
 header-of-requires : tie.Need-header-of-requires
 header-of-requires c κs = search needs
 
@@ -56,9 +59,9 @@ span-at-requires c κs = search needs
 
 returns-4 : tie.Need-returns-4
 returns-4 c =
-    let a = c .before .before .before .before .before .before .before .before .before .before .before .before .before .before .args in
+    let a = c .before .before .before .before .before .before .before .before .before .before .before .before .before .before .before .args in
     let t = tablesOf (a .input .now) (a .nodes .now) (a .entries .now) (a .used-nodes) (a .used-entries) in
-    span-sound t (a .node) (le-ltb _ _ (c .before .before .before .before .before .before .before .before .before .before .if1 .left)) (sym (c .before .before .before .before .before .before .before .before .before .sound-at .ensures) ∙ not-false _ (c .before .before .before .before .before .before .before .before .if2 .left)) (c .before .before .before .before .before .before .before .node-at .ensures) (c .before .before .before .before .before .before .spanned .ensures) _ (not-false _ (c .before .before .before .before .before .if3 .left)) (c .before .before .before .before .nodes-in .ensures) (c .before .before .before .entries-in .ensures .0) (c .before .before .header-of .ensures) (c .before .end-of .ensures) (c .span-at .ensures)
+    span-sound t (a .node) (le-ltb _ _ (c .before .before .before .before .before .before .before .before .before .before .before .if1 .left)) (sym (c .before .before .before .before .before .before .before .before .before .before .sound-at .ensures) ∙ not-false _ (c .before .before .before .before .before .before .before .before .before .if2 .left)) (c .before .before .before .before .before .before .before .before .node-at .ensures) (c .before .before .before .before .before .before .before .spanned .ensures) _ (not-false _ (c .before .before .before .before .before .before .if3 .left)) (c .before .before .before .before .before .nodes-in .ensures) (c .before .before .before .before .entries-in .ensures .0) (c .before .before .before .input-of .ensures) (c .before .before .header-of .ensures) (c .before .end-of .ensures) (c .span-at .ensures)
 
 pub span-of-spec : {M : Type 1} → statement M
-span-of-spec = tie.close (tie.spec cast-if1 returns sound-at-requires returns-2 node-at-requires spanned-requires returns-3 nodes-in-requires entries-in-requires header-of-requires end-of-requires span-at-requires returns-4)
+span-of-spec = tie.close (tie.spec cast-if1 returns sound-at-requires returns-2 node-at-requires spanned-requires returns-3 nodes-in-requires entries-in-requires input-of-requires header-of-requires end-of-requires span-at-requires returns-4)

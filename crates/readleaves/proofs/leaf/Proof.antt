@@ -27,15 +27,19 @@ add-t20 c = search needs
 add-t21 : tie.Need-add-t21
 add-t21 c = omega (arith, c .before .before .before .before .before .before .before .before .before .before .before .pre .0, (leaf-head (c .before .before .before .before .before .before .front .ensures) (c .before .before .before .before .o2 .given .1)))
 
-write-node-requires : tie.Need-write-node-requires
-write-node-requires c κs = omega (arith, c .before .before .before .before .before .before .before .before .before .before .before .before .pre .0, (leaf-head (c .before .before .before .before .before .before .before .front .ensures) (c .before .before .before .before .before .o2 .given .1)))
-
 fill-slot-requires : tie.Need-fill-slot-requires
 fill-slot-requires c κs =
-    let at-o2 = c .before .before .before .before .before .before .before .before .before in
+    let at-o2 = c .before .before .before .before .before in
     let at-front = at-o2 .before .before in
     let at-pre = at-front .before .before .before .before .before in
     (omega (arith, at-pre .pre .0, (leaf-head (at-front .front .ensures) (at-o2 .o2 .given .1))), omega (arith, at-pre .pre .0, (leaf-head (at-front .front .ensures) (at-o2 .o2 .given .1))))
+
+write-node-requires : tie.Need-write-node-requires
+write-node-requires c κs =
+    let at-o2 = c .before .before .before .before .before .before .before .before .before in
+    let at-front = at-o2 .before .before in
+    let at-pre = at-front .before .before .before .before .before in
+    omega (arith, at-pre .pre .0, (leaf-head (at-front .front .ensures) (at-o2 .o2 .given .1)))
 
 same-length : tie.Need-same-length
 same-length c = search needs
@@ -56,7 +60,7 @@ same-length-4 : tie.Need-same-length-4
 same-length-4 c = search needs
 
 returns-3 : tie.Need-returns-3
-returns-3 c = takes-leaf (c .before .before .before .before .before .before .before .before .before .before .before .before .before .before .front .ensures) (c .before .before .before .before .before .before .before .before .before .before .before .before .o2 .given .1) (c .before .before .before .before .before .before .write-node .ensures) (c .before .before .fill-slot .ensures)
+returns-3 c = takes-leaf (c .before .before .before .before .before .before .before .before .before .before .before .before .before .before .front .ensures) (c .before .before .before .before .before .before .before .before .before .before .before .before .o2 .given .1) (c .before .before .write-node .ensures) (c .before .before .before .before .before .before .fill-slot .ensures)
 
 pub leaf-spec : {M : Type 1} → statement M
 leaf-spec =
@@ -69,8 +73,8 @@ leaf-spec =
     add-t19
     add-t20
     add-t21
-    write-node-requires
     fill-slot-requires
+    write-node-requires
     same-length
     returns
     same-length-2

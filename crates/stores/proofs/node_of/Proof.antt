@@ -40,15 +40,22 @@ add-cell-5 c = search needs
 cell-requires-6 : tie.Need-cell-requires-6
 cell-requires-6 c κs = search needs
 
+add-cell-6 : tie.Need-add-cell-6
+add-cell-6 c = search needs
+
+cell-requires-7 : tie.Need-cell-requires-7
+cell-requires-7 c κs = search needs
+
 returns : tie.Need-returns
 returns c =
     cc (
-      c .before .before .before .before .before .cell .ensures,
-      c .before .before .before .before .cell2 .ensures,
-      c .before .before .before .cell3 .ensures,
-      c .before .before .cell4 .ensures,
-      c .before .cell5 .ensures,
-      c .cell6 .ensures,
+      c .before .before .before .before .before .before .cell .ensures,
+      c .before .before .before .before .before .cell2 .ensures,
+      c .before .before .before .before .cell3 .ensures,
+      c .before .before .before .cell4 .ensures,
+      c .before .before .cell5 .ensures,
+      c .before .cell6 .ensures,
+      c .cell7 .ensures,
     )
 
 pub node-of-spec : {M : Type 1} → statement M
@@ -67,4 +74,6 @@ node-of-spec =
     cell-requires-5
     add-cell-5
     cell-requires-6
+    add-cell-6
+    cell-requires-7
     returns)

@@ -11,14 +11,14 @@ use Rattle.stores.proofs.write_node.Tie as tie
 mul-base : tie.Need-mul-base
 mul-base c = search needs
 
-add-nodes : tie.Need-add-nodes
-add-nodes c = search needs
-
 mul-nodes : tie.Need-mul-nodes
 mul-nodes c = search needs
 
 slice-write-nodes : tie.Need-slice-write-nodes
 slice-write-nodes c = search needs
+
+add-nodes : tie.Need-add-nodes
+add-nodes c = search needs
 
 mul-nodes-2 : tie.Need-mul-nodes-2
 mul-nodes-2 c = search needs
@@ -62,6 +62,15 @@ mul-nodes-6 c = search needs
 slice-write-nodes-6 : tie.Need-slice-write-nodes-6
 slice-write-nodes-6 c = simp length-set (omega arith)
 
+add-nodes-6 : tie.Need-add-nodes-6
+add-nodes-6 c = search needs
+
+mul-nodes-7 : tie.Need-mul-nodes-7
+mul-nodes-7 c = search needs
+
+slice-write-nodes-7 : tie.Need-slice-write-nodes-7
+slice-write-nodes-7 c = simp length-set (omega arith)
+
 same-length : tie.Need-same-length
 same-length c = search needs
 
@@ -73,9 +82,9 @@ write-node-spec =
     tie.close
     (tie.spec
     mul-base
-    add-nodes
     mul-nodes
     slice-write-nodes
+    add-nodes
     mul-nodes-2
     slice-write-nodes-2
     add-nodes-2
@@ -90,5 +99,8 @@ write-node-spec =
     add-nodes-5
     mul-nodes-6
     slice-write-nodes-6
+    add-nodes-6
+    mul-nodes-7
+    slice-write-nodes-7
     same-length
     returns)

@@ -23,7 +23,7 @@ returns : tie.Need-returns
 returns c =
     let at-shared-slice-known = c .before .before .before .before .before .before in
     let at-args = at-shared-slice-known .before in
-    puts-equal (c .before .before .write-slice .ensures) (ap (λ b. emit b ended) (float-eight (at-args .args .s .now) (λ i. omega (arith, at-shared-slice-known .shared-slice-known .given i)) (record { letter = 0; place = at-args .args .place; size = 0; first = 0; count = 0; end = 0 }) (at-args .args .letter) (omega arith) (at-args .pre .1)))
+    puts-equal (c .before .before .write-slice .ensures) (ap (λ b. emit b ended) (float-eight (at-args .args .s .now) (λ i. omega (arith, at-shared-slice-known .shared-slice-known .given i)) (record { letter = 0; place = at-args .args .place; size = 0; first = 0; count = 0; end = 0; input = 0 }) (at-args .args .letter) (omega arith) (at-args .pre .1)))
 
 write-int64-requires : tie.Need-write-int64-requires
 write-int64-requires c κs = search needs

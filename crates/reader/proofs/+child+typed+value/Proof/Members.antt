@@ -58,4 +58,4 @@ abbrev pub typed-calls : ℕ → typed-lts.Claims
 typed-calls t = (below-reads.Asked, below-reads.Learnt, run-reads.Asked, run-reads.Learnt, child-below t, child.Post)
 
 abbrev pub value-calls : ℕ → value-lts.Claims
-value-calls t = (front-reads.Asked, front-reads.Learnt, typed-below t, typed.Post, node-size-reads.Asked, node-size-reads.Learnt, byte-at-reads.Asked, byte-at-reads.Learnt, write-node-reads.Asked, write-node-reads.Learnt, fill-slot-reads.Asked, fill-slot-reads.Learnt)
+value-calls t = (front-reads.Asked, front-reads.Learnt, typed-below t, typed.Post, node-size-reads.Asked, node-size-reads.Learnt, byte-at-reads.Asked, byte-at-reads.Learnt, fill-slot-reads.Asked, fill-slot-reads.Learnt, write-node-reads.Asked, write-node-reads.Learnt)

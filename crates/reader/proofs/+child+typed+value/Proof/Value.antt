@@ -63,22 +63,22 @@ value-byte-at-requires : (t : ℕ) → value-lts.Need-byte-at-requires (value-ca
 value-byte-at-requires t c κs =
     omega (arith, head-in (c .before .before .before .before .before .before .before .before .before .before .before .before .before .before .before .before .before .before .before .front .ensures) (c .before .before .before .before .before .before .before .before .before .before .before .before .before .before .before .before .before .o3 .given .1))
 
-value-write-node-requires : (t : ℕ) → value-lts.Need-write-node-requires (value-calls t) (value-at t) value.Post
-value-write-node-requires t c κs =
-    let at-typed = c .before .before .before .before .before .before .before .before .before .before .before .before in
-    let at-o3 = at-typed .before .before .before .before .before .before .before in
-    let at-front = at-o3 .before .before in
-    let at-pre = at-front .before .before .before .before .before .before in
-    omega (arith, at-pre .pre .1 .0, (head-in (at-front .front .ensures) (at-o3 .o3 .given .1)), at-typed .typed .kept .1 .0)
-
 value-fill-slot-requires : (t : ℕ) → value-lts.Need-fill-slot-requires (value-calls t) (value-at t) value.Post
 value-fill-slot-requires t c κs =
-    let at-byte-at = c .before .before .before .before .before in
+    let at-byte-at = c .before in
     let at-typed = at-byte-at .before .before .before .before .before .before .before .before .before .before .before in
     let at-o3 = at-typed .before .before .before .before .before .before .before in
     let at-front = at-o3 .before .before in
     let at-pre = at-front .before .before .before .before .before .before in
     (omega (arith, at-byte-at .byte-at .ensures, at-pre .pre .1 .0, (head-in (at-front .front .ensures) (at-o3 .o3 .given .1)), at-typed .typed .kept .1 .1 .1 .0), omega (arith, at-byte-at .byte-at .ensures, at-pre .pre .1 .0, (head-in (at-front .front .ensures) (at-o3 .o3 .given .1))))
+
+value-write-node-requires : (t : ℕ) → value-lts.Need-write-node-requires (value-calls t) (value-at t) value.Post
+value-write-node-requires t c κs =
+    let at-typed = c .before .before .before .before .before .before .before .before .before .before .before .before .before .before .before .before in
+    let at-o3 = at-typed .before .before .before .before .before .before .before in
+    let at-front = at-o3 .before .before in
+    let at-pre = at-front .before .before .before .before .before .before in
+    omega (arith, at-pre .pre .1 .0, (head-in (at-front .front .ensures) (at-o3 .o3 .given .1)), at-typed .typed .kept .1 .0)
 
 value-same-length : (t : ℕ) → value-lts.Need-same-length (value-calls t) (value-at t) value.Post
 value-same-length t c = search needs
@@ -120,17 +120,17 @@ value-same-length-8 t c = search needs
 
 value-returns-4 : (t : ℕ) → value-lts.Need-returns-4 (value-calls t) (value-at t) value.Post
 value-returns-4 t c =
-    let at-write-node = c .before .before .before .before .before .before .before in
-    let at-byte-at = at-write-node .before .before in
+    let at-fill-slot = c .before .before .before .before .before .before .before in
+    let at-byte-at = at-fill-slot .before .before in
     let at-node-size = at-byte-at .before in
     let at-k2 = at-node-size .before .before in
     let at-typed = at-k2 .before .before .before .before .before .before .before .before in
     let at-o3 = at-typed .before .before .before .before .before .before .before in
     let at-front = at-o3 .before .before in
     let at-pre = at-front .before .before .before .before .before .before in
-    value-closed (at-pre .pre .1 .0) (at-front .front .ensures) (at-o3 .o3 .given .1) (at-typed .typed .ensures) (at-k2 .k2 .given .1) (at-node-size .node-size .ensures) (at-byte-at .byte-at .ensures .0) (at-write-node .write-node .ensures) (c .before .before .before .fill-slot .ensures)
+    value-closed (at-pre .pre .1 .0) (at-front .front .ensures) (at-o3 .o3 .given .1) (at-typed .typed .ensures) (at-k2 .k2 .given .1) (at-node-size .node-size .ensures) (at-byte-at .byte-at .ensures .0) (c .before .before .before .write-node .ensures) (at-fill-slot .fill-slot .ensures)
 
 pub value-met : {M : Type 1} (t : ℕ) → value-lts.Closed (value-calls t) (value-at t) value.Post M
 value-met t =
     value-lts.spec (value-calls t) (value-at t) value.Post
-    (value-front-requires t) (value-enum-known-o t) (value-enum-known-o-2 t) (value-enum-known-o-3 t) (value-add-typed t) (value-add-t33 t) (value-add-t34 t) (value-sub-typed t) (value-typed-requires t) (value-enum-known-k t) (value-enum-known-k-2 t) (value-node-size-requires t) (value-byte-at-requires t) (value-write-node-requires t) (value-fill-slot-requires t) (value-same-length t) (value-returns t) (value-same-length-2 t) (value-returns-2 t) (value-same-length-3 t) (value-same-length-4 t) (value-same-length-5 t) (value-returns-3 t) (value-same-length-6 t) (value-same-length-7 t) (value-same-length-8 t) (value-returns-4 t)
+    (value-front-requires t) (value-enum-known-o t) (value-enum-known-o-2 t) (value-enum-known-o-3 t) (value-add-typed t) (value-add-t33 t) (value-add-t34 t) (value-sub-typed t) (value-typed-requires t) (value-enum-known-k t) (value-enum-known-k-2 t) (value-node-size-requires t) (value-byte-at-requires t) (value-fill-slot-requires t) (value-write-node-requires t) (value-same-length t) (value-returns t) (value-same-length-2 t) (value-returns-2 t) (value-same-length-3 t) (value-same-length-4 t) (value-same-length-5 t) (value-returns-3 t) (value-same-length-6 t) (value-same-length-7 t) (value-same-length-8 t) (value-returns-4 t)

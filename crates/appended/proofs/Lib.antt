@@ -1,0 +1,9 @@
+pub mod Counting
+pub mod Nothing
+pub mod Behind
+pub mod Growing
+pub mod Accepted
+pub mod Continued
+pub mod Freed
+pub mod Promised
+pub mod Sheets

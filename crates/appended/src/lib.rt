@@ -1,0 +1,1 @@
+// What is promised of a new read behind kept nodes and entries: definitions and theorems only.

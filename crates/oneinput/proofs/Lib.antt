@@ -1,0 +1,5 @@
+pub mod Behind
+pub mod Reading
+pub mod Moving
+pub mod Appending
+pub mod Promised
