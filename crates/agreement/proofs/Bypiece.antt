@@ -9,5 +9,8 @@ locate-begin-agrees κs a asked r r′ ws ws′ p p′ = (one (p .answers) (p′
 pub locate-piece-agrees : Agree bypiece.locate_piece.ended bypiece.locate_piece.Reads.Asked bypiece.locate_piece.Reads.Learnt
 locate-piece-agrees κs a asked r r′ ws ws′ p p′ = (one (p .answers) (p′ .answers), λ i. (tt, (one (p .states) (p′ .states) i, (one (p .fills) (p′ .fills) i, tt))))
 
+pub take-agrees : Agree bypiece.onebyte.take.ended bypiece.onebyte.take.Reads.Asked bypiece.onebyte.take.Reads.Learnt
+take-agrees κs a asked r r′ ws ws′ p p′ = (one (p .answers) (p′ .answers), λ i. (tt, (tt, (one (p .states) (p′ .states) i, (one (p .fills) (p′ .fills) i, tt)))))
+
 pub locate-end-agrees : Agree bypiece.locate_end.ended bypiece.locate_end.Reads.Asked bypiece.locate_end.Reads.Learnt
 locate-end-agrees κs a asked r r′ ws ws′ p p′ = (one (p .answers) (p′ .answers), λ i. (one (p .states) (p′ .states) i, (one (p .fills) (p′ .fills) i, tt)))

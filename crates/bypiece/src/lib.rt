@@ -6,11 +6,10 @@ ghost use mathlib.Core.List.{[], _∷_};
 ghost use Prim.Native.Nat.{_-_, _≤_, min};
 ghost use lib.ListN.{length};
 ghost use lib.Seq.{sets};
-ghost use Rattle.clearing.specs.Lent.{zeros};
 ghost use Rattle.linetable.specs.Answer.{firstLine};
 ghost use Rattle.lineentry.specs.declared.Entry.the-variants.{Covers, Stop};
 ghost use Rattle.lineentry.specs.Entry.{entryAt};
-ghost use Rattle.piecestate.specs.State.{ended, heldAt};
+ghost use Rattle.piecestate.specs.State.{ended, keptAt, heldAt};
 ghost use Rattle.piecestate.specs.Answers.{told, Leaves};
 ghost use Rattle.pieces.specs.Facts.{Entered};
 ghost use Rattle.bypiece.specs.Facts.{Ending};
@@ -20,6 +19,8 @@ use lineentry::Span;
 use piecestate::Gate;
 use piecestate::Kept;
 use piecestate::Pieced;
+
+pub mod onebyte;
 
 // The numbers of a reading that has only begun.
 fn freshen(state: &mut [u32], first: u32, count: u32)
@@ -57,6 +58,18 @@ pub fn locate_begin(first_line: i32, count: u32, state: &mut [u32], records: &mu
     piecestate::refuse(records, 0, 0)
 }
 
+// A piece, by what is looked at first.
+fn any_piece(bytes: &[u8], k: Kept, state: &mut [u32], records: &mut [u32]) -> Pieced
+    requires { ⌜ (40 ≤ length (now state)) × (k ≡ keptAt (now state)) ⌝ }
+    ensures { λ r. ⌜ Leaves (piece (now (bytes .entry)) (now (state .entry)) (now (records .entry))) r (now (state .exit)) (now (records .exit)) ⌝ }
+{
+    match piecestate::look(state, k, records.len() / 4) {
+        Gate::Shut { number, place } => piecestate::refuse(records, number, place),
+        Gate::Stuck { number, place } => piecestate::stick(state, records, number, place),
+        Gate::Open => pieces::take_piece(bytes, k, state, records),
+    }
+}
+
 // Takes a piece.
 pub fn locate_piece(bytes: &[u8], state: &mut [u32], records: &mut [u32]) -> Pieced
     ensures { λ r. ⌜ Leaves (piece (now (bytes .entry)) (now (state .entry)) (now (records .entry))) r (now (state .exit)) (now (records .exit)) ⌝ }
@@ -65,11 +78,7 @@ pub fn locate_piece(bytes: &[u8], state: &mut [u32], records: &mut [u32]) -> Pie
         return piecestate::no_state(state, records);
     }
     let k = piecestate::kept_at(state);
-    match piecestate::look(state, k, records.len() / 4) {
-        Gate::Shut { number, place } => piecestate::refuse(records, number, place),
-        Gate::Stuck { number, place } => piecestate::stick(state, records, number, place),
-        Gate::Open => pieces::take_piece(bytes, k, state, records),
-    }
+    onebyte::take(bytes, k, state, records)
 }
 
 fn at_most(n: usize, most: usize) -> usize
@@ -124,7 +133,8 @@ fn end_cut(span: Span, k: Kept, state: &mut [u32], records: &mut [u32]) -> Piece
 // The end by the entry that the held bytes begin, "missing bytes become 0 only there".
 fn end_held(k: Kept, state: &mut [u32], records: &mut [u32]) -> Pieced
     requires { ⌜ Ending k (now state) (now records) × (k .size ≤ 25) ⌝ }
-    ensures { λ r. ⌜ Leaves (byHeld (now (state .entry)) (now (records .entry)) k (k .count - k .placed) (entryAt (heldAt (now (state .entry))) (k .line) 0)) r (now (state .exit)) (now (records .exit)) ⌝ }
+    ensures { λ r. ⌜ Leaves (byHeld (now (state .entry)) (now (records .entry)) k (k .count - k .placed) (entryAt (heldAt (now (state .entry))) (k .line) 0))
+        r (now (state .exit)) (now (records .exit)) ⌝ }
 {
     let size = k.size as usize;
     let mut held = [0u8; 25];

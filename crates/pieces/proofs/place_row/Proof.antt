@@ -64,7 +64,11 @@ same-length-4 : tie.Need-same-length-4 Inv-loop μ-loop
 same-length-4 c = c .before .before .fill .kept .0 ∙ c .before .before .before .before .before .before .before .before .before .before .before .before .loop .inv .same
 
 returns-4 : tie.Need-returns-4 Inv-loop μ-loop
-returns-4 c = (ends-past _ (c .before .before .before .before .before .before .before .before .before .before .before .before .loop .inv .walks) (omega arith) (sym (c .before .before .before .before .before .before .before .before .before .before .entry-here .ensures) ∙ c .before .before .before .before .before .before .before .before .span .given .1) (c .before .before .before .before .before .before .if1 .left) (c .before .before .before .before .if2 .taken), fills-past (c .before .before .before .before .before .before .before .before .before .before .before .before .loop .inv) _ (omega arith) (sym (c .before .before .before .before .before .before .before .before .before .before .entry-here .ensures) ∙ c .before .before .before .before .before .before .before .before .span .given .1) (c .before .before .before .before .before .before .if1 .left) (c .before .before .before .before .if2 .taken) (c .before .before .fill .ensures))
+returns-4 c =
+    let l′ = c .before .before .before .before .before .before .before .before .before .before .before .before .loop in
+    let e′ = c .before .before .before .before .before .before .before .before .before .before .entry-here in
+    let s′ = c .before .before .before .before .before .before .before .before .span in
+    (ends-past _ (l′ .inv .walks) (omega arith) (sym (e′ .ensures) ∙ s′ .given .1) (c .before .before .before .before .before .before .if1 .left) (c .before .before .before .before .if2 .taken), fills-past (l′ .inv) _ (omega arith) (sym (e′ .ensures) ∙ s′ .given .1) (c .before .before .before .before .before .before .if1 .left) (c .before .before .before .before .if2 .taken) (c .before .before .fill .ensures))
 
 mul-fill-2 : tie.Need-mul-fill-2 Inv-loop μ-loop
 mul-fill-2 c = let z = c .before .before .before .before .before .before .before .before .before .loop .inv .room in omega (arith, z)

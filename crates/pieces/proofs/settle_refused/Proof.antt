@@ -19,7 +19,11 @@ same-length-2 : tie.Need-same-length-2
 same-length-2 c = search needs
 
 returns : tie.Need-returns
-returns c = refused-lost (c .before .before .before .before .before .before .before .before .before .before .before .before .args .state .now) (c .before .before .before .before .before .before .before .before .before .before .before .before .args .records .now) (c .before .before .before .before .before .before .before .before .before .before .before .before .args .line) (c .before .before .before .before .before .before .before .before .before .before .before .before .args .placed) (c .before .before .before .before .before .before .before .before .before .before .before .before .args .at) (c .before .before .before .before .before .before .before .before .before .before .before .before .args .bytes) (c .before .before .before .before .before .before .before .before .before .before .before .before .args .held .now) (c .before .before .before .before .before .before .before .before .lost-entry .ensures) (c .before .before .before .before .before .before .before .if1 .taken) (c .before .before .before .before .stick .ensures)
+returns c =
+    let a = c .before .before .before .before .before .before .before .before .before .before .before .before .args in
+    refused-lost (a .state .now) (a .records .now) (a .line) (a .placed) (a .at) (a .bytes) (a .held .now)
+    (c .before .before .before .before .before .before .before .before .lost-entry .ensures) (c .before .before .before .before .before .before .before .if1 .taken)
+    (c .before .before .before .before .stick .ensures)
 
 go-on-requires : tie.Need-go-on-requires
 go-on-requires c κs = (omega arith, c .before .before .before .before .before .before .pre .1 .short (sym (c .before .before .lost-entry .ensures) ∙ c .before .if1 .left))
@@ -28,7 +32,11 @@ same-length-3 : tie.Need-same-length-3
 same-length-3 c = search needs
 
 returns-2 : tie.Need-returns-2
-returns-2 c = refused-held (c .before .before .before .before .before .before .before .before .before .args .state .now) (c .before .before .before .before .before .before .before .before .before .args .records .now) (c .before .before .before .before .before .before .before .before .before .args .line) (c .before .before .before .before .before .before .before .before .before .args .placed) (c .before .before .before .before .before .before .before .before .before .args .at) (c .before .before .before .before .before .before .before .before .before .args .bytes) (c .before .before .before .before .before .before .before .before .before .args .held .now) (c .before .before .before .before .before .lost-entry .ensures) (c .before .before .before .before .if1 .left) (c .before .before .go-on .ensures .0) (c .before .before .go-on .ensures .1)
+returns-2 c =
+    let a = c .before .before .before .before .before .before .before .before .before .args in
+    let g′ = c .before .before .go-on in
+    refused-held (a .state .now) (a .records .now) (a .line) (a .placed) (a .at) (a .bytes) (a .held .now) (c .before .before .before .before .before .lost-entry .ensures)
+    (c .before .before .before .before .if1 .left) (g′ .ensures .0) (g′ .ensures .1)
 
 pub settle-refused-spec : {M : Type 1} → statement M
 settle-refused-spec =

@@ -18,7 +18,11 @@ same-length-2 : tie.Need-same-length-2
 same-length-2 c = search needs
 
 returns : tie.Need-returns
-returns c = bare-leaves (c .before .before .before .before .before .before .before .before .before .before .before .before .args .piece .now) (c .before .before .before .before .before .before .before .before .before .before .before .before .args .bytes) (c .before .before .before .before .before .before .before .before .before .before .before .before .args .k) (c .before .before .before .before .before .before .before .before .before .before .before .before .args .state .now) (c .before .before .before .before .before .before .before .before .before .before .before .before .args .records .now) (c .before .before .before .before .before .before .before .before .before .before .before .before .pre) (c .before .before .before .before .before .before .before .if1 .taken) (c .before .before .before .before .walk-on .ensures)
+returns c =
+    let a = c .before .before .before .before .before .before .before .before .before .before .before .before .args in
+    bare-leaves (a .piece .now) (a .bytes) (a .k) (a .state .now) (a .records .now)
+    (c .before .before .before .before .before .before .before .before .before .before .before .before .pre)
+    (c .before .before .before .before .before .before .before .if1 .taken) (c .before .before .before .before .walk-on .ensures)
 
 cast-size : tie.Need-cast-size
 cast-size c = search needs
@@ -48,7 +52,12 @@ slice-aggregate-take-front : tie.Need-slice-aggregate-take-front
 slice-aggregate-take-front c = sym (length-take-le _ _ (omega (arith, c .before .before .before .before .before .before .before .before .before .before .before .before .before .before .before .pre .short, c .before .before .before .before .at-most .ensures, c .before .before .copy .kept .0, c .before .before .before .before .before .before .fetch .kept .0)))
 
 take-front-requires : tie.Need-take-front-requires
-take-front-requires c κs = fronts (c .before .before .before .before .before .before .before .before .before .before .before .before .before .before .before .before .before .args .piece .now) (c .before .before .before .before .before .before .before .before .before .before .before .before .before .before .before .before .before .args .bytes) (c .before .before .before .before .before .before .before .before .before .before .before .before .before .before .before .before .before .args .k) (c .before .before .before .before .before .before .before .before .before .before .before .before .before .before .before .before .before .args .state .now) (c .before .before .before .before .before .before .before .before .before .before .before .before .before .before .before .before .before .args .records .now) (c .before .before .before .before .before .before .before .before .before .before .before .before .before .before .before .before .before .pre) (replicate 50 0) refl (c .before .before .before .before .before .before .at-most .ensures) (c .before .before .before .before .before .before .before .before .fetch .ensures) (c .before .before .before .before .copy .ensures) (c .before .before .before .before .before .before .before .before .before .before .before .before .if1 .left)
+take-front-requires c κs =
+    let a = c .before .before .before .before .before .before .before .before .before .before .before .before .before .before .before .before .before .args in
+    fronts (a .piece .now) (a .bytes) (a .k) (a .state .now) (a .records .now)
+    (c .before .before .before .before .before .before .before .before .before .before .before .before .before .before .before .before .before .pre) (replicate 50 0) refl
+    (c .before .before .before .before .before .before .at-most .ensures) (c .before .before .before .before .before .before .before .before .fetch .ensures)
+    (c .before .before .before .before .copy .ensures) (c .before .before .before .before .before .before .before .before .before .before .before .before .if1 .left)
 
 same-length-3 : tie.Need-same-length-3
 same-length-3 c = search needs

@@ -23,7 +23,11 @@ same-length-2 : tie.Need-same-length-2
 same-length-2 c = search needs
 
 returns : tie.Need-returns
-returns c = leaves-same (piece-long (c .before .before .before .before .before .before .before .before .before .before .before .before .args .k) (c .before .before .before .before .before .before .before .before .before .before .before .before .args .state .now) (c .before .before .before .before .before .before .before .before .before .before .before .before .args .records .now) (c .before .before .before .before .before .before .before .before .before .before .before .before .pre) (c .before .before .before .before .before .before .before .before .before .before .before .before .args .piece .now) (omega (arith, bytes-upto (c .before .before .before .before .before .before .before .before .before .before .before .before .args .k) (c .before .before .before .before .before .before .before .before .before .before .before .before .args .state .now) (c .before .before .before .before .before .before .before .before .before .before .before .before .args .records .now) (c .before .before .before .before .before .before .before .before .before .before .before .before .pre)))) (c .before .before .before .before .stick .ensures)
+returns c =
+    let a = c .before .before .before .before .before .before .before .before .before .before .before .before .args in
+    let p = c .before .before .before .before .before .before .before .before .before .before .before .before .pre in
+    leaves-same (piece-long (a .k) (a .state .now) (a .records .now) p (a .piece .now) (omega (arith, bytes-upto (a .k) (a .state .now) (a .records .now) p)))
+    (c .before .before .before .before .stick .ensures)
 
 cast-bytes : tie.Need-cast-bytes
 cast-bytes c = omega (arith, bytes-upto (c .before .before .before .before .before .args .k) (c .before .before .before .before .before .args .state .now) (c .before .before .before .before .before .args .records .now) (c .before .before .before .before .before .pre))
@@ -38,10 +42,17 @@ same-length-3 : tie.Need-same-length-3
 same-length-3 c = search needs
 
 returns-2 : tie.Need-returns-2
-returns-2 c = leaves-same (piece-over (c .before .before .before .before .before .before .before .before .args .k) (c .before .before .before .before .before .before .before .before .args .state .now) (c .before .before .before .before .before .before .before .before .args .records .now) (c .before .before .before .before .before .before .before .before .pre) (c .before .before .before .before .before .before .before .before .args .piece .now) (omega (arith, bytes-upto (c .before .before .before .before .before .before .before .before .args .k) (c .before .before .before .before .before .before .before .before .args .state .now) (c .before .before .before .before .before .before .before .before .args .records .now) (c .before .before .before .before .before .before .before .before .pre))) (c .if2 .taken)) (record { answers = refl; states = refl; fills = refl })
+returns-2 c =
+    let a = c .before .before .before .before .before .before .before .before .args in
+    let p = c .before .before .before .before .before .before .before .before .pre in
+    leaves-same (piece-over (a .k) (a .state .now) (a .records .now) p (a .piece .now) (omega (arith, bytes-upto (a .k) (a .state .now) (a .records .now) p)) (c .if2 .taken))
+    (record { answers = refl; states = refl; fills = refl })
 
 take-going-requires : tie.Need-take-going-requires
-take-going-requires c κs = opened (c .before .before .before .before .before .before .before .before .before .before .args .k) (c .before .before .before .before .before .before .before .before .before .before .args .state .now) (c .before .before .before .before .before .before .before .before .before .before .args .records .now) (c .before .before .before .before .before .before .before .before .before .before .pre) (c .before .before .before .before .before .before .before .before .before .before .args .piece .now) (omega (arith, bytes-upto (c .before .before .before .before .before .before .before .before .before .before .args .k) (c .before .before .before .before .before .before .before .before .before .before .args .state .now) (c .before .before .before .before .before .before .before .before .before .before .args .records .now) (c .before .before .before .before .before .before .before .before .before .before .pre))) (c .before .before .if2 .left)
+take-going-requires c κs =
+    let a = c .before .before .before .before .before .before .before .before .before .before .args in
+    let p = c .before .before .before .before .before .before .before .before .before .before .pre in
+    opened (a .k) (a .state .now) (a .records .now) p (a .piece .now) (omega (arith, bytes-upto (a .k) (a .state .now) (a .records .now) p)) (c .before .before .if2 .left)
 
 same-length-4 : tie.Need-same-length-4
 same-length-4 c = search needs
@@ -50,7 +61,12 @@ same-length-5 : tie.Need-same-length-5
 same-length-5 c = search needs
 
 returns-3 : tie.Need-returns-3
-returns-3 c = leaves-same (piece-on (c .before .before .before .before .before .before .before .before .before .before .before .before .before .before .before .args .k) (c .before .before .before .before .before .before .before .before .before .before .before .before .before .before .before .args .state .now) (c .before .before .before .before .before .before .before .before .before .before .before .before .before .before .before .args .records .now) (c .before .before .before .before .before .before .before .before .before .before .before .before .before .before .before .pre) (c .before .before .before .before .before .before .before .before .before .before .before .before .before .before .before .args .piece .now) (omega (arith, bytes-upto (c .before .before .before .before .before .before .before .before .before .before .before .before .before .before .before .args .k) (c .before .before .before .before .before .before .before .before .before .before .before .before .before .before .before .args .state .now) (c .before .before .before .before .before .before .before .before .before .before .before .before .before .before .before .args .records .now) (c .before .before .before .before .before .before .before .before .before .before .before .before .before .before .before .pre))) (c .before .before .before .before .before .before .before .if2 .left)) (c .before .before .before .before .take-going .ensures)
+returns-3 c =
+    let a = c .before .before .before .before .before .before .before .before .before .before .before .before .before .before .before .args in
+    let p = c .before .before .before .before .before .before .before .before .before .before .before .before .before .before .before .pre in
+    leaves-same
+    (piece-on (a .k) (a .state .now) (a .records .now) p (a .piece .now) (omega (arith, bytes-upto (a .k) (a .state .now) (a .records .now) p)) (c .before .before .before .before .before .before .before .if2 .left))
+    (c .before .before .before .before .take-going .ensures)
 
 pub take-piece-spec : {M : Type 1} → statement M
 take-piece-spec =

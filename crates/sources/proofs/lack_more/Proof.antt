@@ -59,7 +59,9 @@ add-t18 : tie.Need-add-t18
 add-t18 c = search needs
 
 returns-2 : tie.Need-returns-2
-returns-2 c = rw (c .before .share-of3 .ensures .0, c .before .before .before .before .share-of2 .ensures .0, c .before .before .before .before .before .before .before .share-of .ensures .0, c .before .before .both4 .ensures, c .before .before .before .before .before .both3 .ensures, c .before .before .before .before .before .before .before .before .both2 .ensures, c .before .before .before .before .before .before .before .before .before .before .before .both .ensures, c .before .before .before .before .before .before .before .before .before .has-bit5 .ensures, c .before .before .before .before .before .before .before .before .before .before .has-bit4 .ensures, c .before .before .before .before .before .before .before .before .before .before .before .before .has-bit3 .ensures, c .before .before .before .before .before .before .before .before .before .before .before .before .before .has-bit2 .ensures, c .before .before .before .before .before .before .before .before .before .before .before .before .before .before .has-bit .ensures)
+returns-2 c =
+    rw
+    (c .before .share-of3 .ensures .0, c .before .before .before .before .share-of2 .ensures .0, c .before .before .before .before .before .before .before .share-of .ensures .0, c .before .before .both4 .ensures, c .before .before .before .before .before .both3 .ensures, c .before .before .before .before .before .before .before .before .both2 .ensures, c .before .before .before .before .before .before .before .before .before .before .before .both .ensures, c .before .before .before .before .before .before .before .before .before .has-bit5 .ensures, c .before .before .before .before .before .before .before .before .before .before .has-bit4 .ensures, c .before .before .before .before .before .before .before .before .before .before .before .before .has-bit3 .ensures, c .before .before .before .before .before .before .before .before .before .before .before .before .before .has-bit2 .ensures, c .before .before .before .before .before .before .before .before .before .before .before .before .before .before .has-bit .ensures)
 
 pub lack-more-spec : {M : Type 1} → statement M
 lack-more-spec =
