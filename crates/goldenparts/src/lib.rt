@@ -69,7 +69,8 @@ fn read_result(
     nesting: u32,
 ) -> Taken
     requires { ⌜ Standing (length (now file)) parts × (0 < parts .code .size) ⌝ }
-    ensures { λ r. ⌜ (takenOf r ≡ spanned (resultRead (lent (length (now (nodes .entry))) (length (now (entries .entry))) (length (now (slots .entry))) nesting) (goldenIn (now (file .entry)) parts) code))
+    ensures { λ r. ⌜ (takenOf r ≡ spanned (resultRead (lent (length (now (nodes .entry))) (length (now (entries .entry))) (length (now (slots .entry))) nesting)
+        (goldenIn (now (file .entry)) parts) code))
         × (now (nodes .exit) ≡ zeros (length (now (nodes .entry)))) × (now (entries .exit) ≡ zeros (length (now (entries .entry)))) × (now (slots .exit) ≡ zeros (length (now (slots .entry)))) ⌝ }
 {
     let part = parts.result;

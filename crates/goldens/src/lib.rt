@@ -167,7 +167,8 @@ pub fn to_fields(
     nesting: u32,
     out: &mut [u8],
 ) -> Moved
-    ensures { λ r. ⌜ ((r, now (out .exit)) ≡ movedAs (toFields (lent (length (now (nodes .entry))) (length (now (entries .entry))) (length (now (slots .entry))) nesting) (now (plain .entry))) (length (now (out .entry))))
+    ensures { λ r. ⌜ ((r, now (out .exit)) ≡ movedAs (toFields (lent (length (now (nodes .entry))) (length (now (entries .entry)))
+        (length (now (slots .entry))) nesting) (now (plain .entry))) (length (now (out .entry))))
         × (now (nodes .exit) ≡ zeros (length (now (nodes .entry)))) × (now (entries .exit) ≡ zeros (length (now (entries .entry)))) × (now (slots .exit) ≡ zeros (length (now (slots .entry)))) ⌝ }
 {
     clearing::clear_bytes(out);
@@ -187,7 +188,8 @@ pub fn to_plain(
     nesting: u32,
     out: &mut [u8],
 ) -> Moved
-    ensures { λ r. ⌜ ((r, now (out .exit)) ≡ movedAs (toPlain (lent (length (now (nodes .entry))) (length (now (entries .entry))) (length (now (slots .entry))) nesting) (now (fields .entry))) (length (now (out .entry))))
+    ensures { λ r. ⌜ ((r, now (out .exit)) ≡ movedAs (toPlain (lent (length (now (nodes .entry))) (length (now (entries .entry)))
+        (length (now (slots .entry))) nesting) (now (fields .entry))) (length (now (out .entry))))
         × (now (nodes .exit) ≡ zeros (length (now (nodes .entry)))) × (now (entries .exit) ≡ zeros (length (now (entries .entry)))) × (now (slots .exit) ≡ zeros (length (now (slots .entry)))) ⌝ }
 {
     clearing::clear_bytes(out);

@@ -38,7 +38,8 @@ fn gather_kids(
     count: u32,
 )
     requires { ⌜ (bound * 2 ≤ from) × (from + count ≤ length (now s)) ⌝ }
-    ensures { λ _. ⌜ now (s .exit) ≡ sets (now (s .entry)) from (kidsOf (now (entries .entry)) (now (s .entry)) bound kept (childrenOf (now (entries .entry)) (linked (now (entries .entry)) count first))) ⌝ }
+    ensures { λ _. ⌜ now (s .exit) ≡ sets (now (s .entry)) from (kidsOf (now (entries .entry)) (now (s .entry)) bound kept
+        (childrenOf (now (entries .entry)) (linked (now (entries .entry)) count first))) ⌝ }
 {
     let mut e = first;
     let mut left = count;
@@ -310,7 +311,8 @@ pub fn move_all(
     moved: u32,
 )
     requires { ⌜ (Movable (now nodes) (now entries) (now s) bound limit kept moved) × (bound * nodeWidth ≤ length (now nodes)) ⌝ }
-    ensures { λ _. ⌜ AllMoved (now (nodes .entry)) (now (entries .entry)) (now (slots .entry)) (now (s .entry)) bound limit kept (now (nodes .exit)) (now (entries .exit)) (now (slots .exit)) (now (s .exit)) ⌝ }
+    ensures { λ _. ⌜ AllMoved (now (nodes .entry)) (now (entries .entry)) (now (slots .entry)) (now (s .entry)) bound limit kept (now (nodes .exit))
+        (now (entries .exit)) (now (slots .exit)) (now (s .exit)) ⌝ }
 {
     move_entries(nodes, entries, s, bound, limit, kept, moved);
     move_nodes(nodes, s, bound as usize, kept);

@@ -24,7 +24,8 @@ pub extern "C" fn sill_golden_to_fields(
     nesting: u32,
     out: &mut [u8],
 ) -> SillMoved
-    ensures { λ r. ⌜ Moves (movedAs (toFields (lent (length (now (nodes .entry))) (length (now (entries .entry))) (length (now (slots .entry))) nesting) (now (plain .entry))) (length (now (out .entry))))
+    ensures { λ r. ⌜ Moves (movedAs (toFields (lent (length (now (nodes .entry))) (length (now (entries .entry))) (length (now (slots .entry))) nesting)
+        (now (plain .entry))) (length (now (out .entry))))
         r (now (out .exit)) (now (nodes .entry)) (now (nodes .exit)) (now (entries .entry)) (now (entries .exit)) (now (slots .entry)) (now (slots .exit)) ⌝ }
 {
     let answer = goldens::to_fields(plain, nodes, entries, slots, nesting, out);
@@ -41,7 +42,8 @@ pub extern "C" fn sill_golden_from_fields(
     nesting: u32,
     out: &mut [u8],
 ) -> SillMoved
-    ensures { λ r. ⌜ Moves (movedAs (toPlain (lent (length (now (nodes .entry))) (length (now (entries .entry))) (length (now (slots .entry))) nesting) (now (fields .entry))) (length (now (out .entry))))
+    ensures { λ r. ⌜ Moves (movedAs (toPlain (lent (length (now (nodes .entry))) (length (now (entries .entry))) (length (now (slots .entry))) nesting)
+        (now (fields .entry))) (length (now (out .entry))))
         r (now (out .exit)) (now (nodes .entry)) (now (nodes .exit)) (now (entries .entry)) (now (entries .exit)) (now (slots .entry)) (now (slots .exit)) ⌝ }
 {
     let answer = goldens::to_plain(fields, nodes, entries, slots, nesting, out);
