@@ -144,6 +144,7 @@ fn run(options: Options) -> Result<bool, String> {
             Ok(all([nulls::hold(), replay_answers()]))
         }
         Task::Replay => Ok(replay_lists()),
+        Task::Stack => Ok(stack::hold()),
         Task::Rooms => without_the_rust(),
         Task::Short => Ok(all([beside_the_rust(&options)?, without_the_rust()?, extremes::hold(), replay_lists()])),
         _ => beside_the_rust(&options),

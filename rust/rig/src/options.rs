@@ -7,6 +7,7 @@ usage: rig [--tables FILE]                       compare with the carried Rust, 
        rig --values [--tables FILE]              compare the reading of values with the carried Rust, nothing else
        rig --writes [--tables FILE]              compare the writing of values with the carried Rust, nothing else
        rig --guard                               ask all between pages that fault, nothing else
+       rig --stack                               nested 2,000 deep in a thread of 1 MiB, nothing else
        rig --rooms                               what the documents alone tell: every room, leaves, writing of any stores
        rig --exceptions                          exception tables: the model, and the carried Rust beside it, nothing else
        rig --joins [--tables FILE]               joins of line tables: the model, and the carried Rust beside it, nothing else
@@ -44,6 +45,7 @@ pub enum Task {
     Values,
     Writes,
     Guard,
+    Stack,
     Rooms,
     Exceptions,
     Joins,
@@ -86,6 +88,7 @@ impl Options {
                 "--values" => options.set(Task::Values)?,
                 "--writes" => options.set(Task::Writes)?,
                 "--guard" => options.set(Task::Guard)?,
+                "--stack" => options.set(Task::Stack)?,
                 "--rooms" => options.set(Task::Rooms)?,
                 "--replay" => options.set(Task::Replay)?,
                 "--goldens" => {

@@ -12,9 +12,9 @@ use std::hint::black_box;
 use std::thread;
 
 const STACK: usize = 1 << 20;
-/// The stack is measured in a thread that has room to spare, and what a thread uses of its own is left free.
+/// The stack is measured in a thread that has room to spare, and what a thread uses of its own (some 7 KiB) is left free.
 const MEASURED_IN: usize = 16 << 20;
-const OF_THE_THREAD: usize = 1 << 15;
+const OF_THE_THREAD: usize = 1 << 14;
 const MARK: u8 = 0xA5;
 
 pub fn hold() -> bool {
