@@ -45,7 +45,7 @@ pub record Moved (nodes entries : List ℕ) (usedNodes usedEntries root : ℕ) (
       (input : List ℕ) → Bytes input → length input ≤ mostBytes → (nesting room n : ℕ) (v : Value) → member n order ≡ true
       → valueOf (min nesting mostNesting) (tablesOf input nodes entries usedNodes usedEntries) n ≡ some v
       → written (movedTables input nodes entries usedNodes usedEntries order) (placeIn order n) nesting room ≡ written (tablesOf input nodes entries usedNodes usedEntries) n nesting room
-  -- demand 2's round trip, of the root that is kept: it is written as its value's canonical bytes, which read as that value
+  -- demand 2's round trip, of the root that is kept: it is written as its value's canonical bytes; that these read as the value is demand 2's own theorem
   pub written-back :
       (input : List ℕ) → Bytes input → length input ≤ mostBytes → (nesting room : ℕ) (v : Value)
       → valueOf (min nesting mostNesting) (tablesOf input nodes entries usedNodes usedEntries) root ≡ some v → InOrder v → length (canonical v) ≤ min room mostOutput

@@ -225,7 +225,7 @@ sizeOf (items count) place size line = size
 sizeOf pairs place size line = size
 sizeOf parts place size line = line - place
 
--- after the last child: the node written and the slot filled
+-- after the last child: the node written and the slot filled; the number of its input (02, K11) is 0 here, an append gives its own
 unfoldable pub close : State → (letter flag : ℕ) → Fields → Chain → State
 close st letter flag f c =
     record {
