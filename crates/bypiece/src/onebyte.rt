@@ -18,7 +18,7 @@ use piecestate::{Kept, Pieced};
 const ORIGIN: u32 = 0x8000_0000;
 
 // The byte is held, or the entry is complete with it; or that is not told here.
-#[derive(Drop)]
+#[derive(Clone, Copy)]
 pub enum Step {
     Held,
     Whole(Span),

@@ -18,7 +18,7 @@ pub const CELL: u32 = localsplus::CELL as u32;
 pub const FREE: u32 = localsplus::FREE as u32;
 
 // The local names of a code: their chain, and the place of their kinds, one for each.
-#[derive(Drop)]
+#[derive(Clone, Copy)]
 pub struct Locals {
     pub first: u32,
     pub count: u32,

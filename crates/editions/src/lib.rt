@@ -9,7 +9,7 @@ ghost use Rattle.editions.specs.Answers.{edition_of, in_room, saved_of};
 ghost use Rattle.editions.specs.Meeting.{length_in, met_as, or_this, searched};
 
 // The file of an edition: a refusal's number and place, or where its bytes stand in the archive.
-#[derive(Drop)]
+#[derive(Clone, Copy)]
 pub struct Edition {
     pub refusal: u32,
     pub place: u32,
@@ -18,7 +18,7 @@ pub struct Edition {
 }
 
 // A saving's answer: a refusal's number and place, or how many bytes were written.
-#[derive(Drop)]
+#[derive(Clone, Copy)]
 pub struct Kept {
     pub refusal: u32,
     pub place: u32,
@@ -26,7 +26,7 @@ pub struct Kept {
 }
 
 // A saved file: the first fault, as a refusal's number and place in the file, and whether it is of the edition that is looked for.
-#[derive(Drop)]
+#[derive(Clone, Copy)]
 pub struct Met {
     pub refusal: u32,
     pub place: u32,
@@ -34,7 +34,7 @@ pub struct Met {
 }
 
 // Whether a file was found (0 or 1), and where its bytes stand.
-#[derive(Drop)]
+#[derive(Clone, Copy)]
 pub struct Found {
     pub is: u32,
     pub start: u32,
@@ -42,7 +42,7 @@ pub struct Found {
 }
 
 // A walk's answer: the archive's first fault, or what was found.
-#[derive(Drop)]
+#[derive(Clone, Copy)]
 pub struct Searched {
     pub refusal: u32,
     pub place: u32,

@@ -12,14 +12,14 @@ ghost use Rattle.exceptiontable.specs.Writing.{bytes_of, encoded_of};
 use varintread::Found;
 
 // A number of a table and the place behind it, or a refusal's number and place.
-#[derive(Drop)]
+#[derive(Clone, Copy)]
 pub enum Taken {
     Number(u32, usize),
     Refused(u32, u32),
 }
 
 // An entry and the place behind it, or a refusal's number and place.
-#[derive(Drop)]
+#[derive(Clone, Copy)]
 pub enum Handler {
     Whole {
         start: u32,
@@ -36,14 +36,14 @@ pub enum Handler {
 }
 
 // A reading's answer: how many entries there are, or a refusal's number and place.
-#[derive(Drop)]
+#[derive(Clone, Copy)]
 pub enum Decoded {
     Done(u32),
     Refused(u32, u32),
 }
 
 // A writing's answer: how many bytes were written, or a refusal's number and place.
-#[derive(Drop)]
+#[derive(Clone, Copy)]
 pub enum Encoded {
     Done(u32),
     Refused(u32, u32),

@@ -12,7 +12,7 @@ ghost use Rattle.fields.specs.Behind.{Reads, Judges};
 pub mod header_bytes;
 
 // The children to come: so many values, pairs up to the null in a key's place, or the parts of a code.
-#[derive(Drop)]
+#[derive(Clone, Copy)]
 pub enum Kids {
     Items(u32),
     Pairs,
@@ -20,14 +20,14 @@ pub enum Kids {
 }
 
 // What the fields say: place, size and children; or a refusal with its place.
-#[derive(Drop)]
+#[derive(Clone, Copy)]
 pub enum Behind {
     Span(u32, u32, Kids),
     Refused(u32, u32),
 }
 
 // A test in front of the rest.
-#[derive(Drop)]
+#[derive(Clone, Copy)]
 pub enum Judged {
     Fine,
     Refused(u32, u32),

@@ -12,21 +12,21 @@ ghost use Rattle.goldenparts.specs.Forms.{judged, result_read, old_parts, golden
 ghost use Rattle.goldenparts.specs.Spans.{spanned, taken_of, golden_in, Standing, StandingIn, behind_field};
 
 // A part of the file.
-#[derive(Drop)]
+#[derive(Clone, Copy)]
 pub struct Span {
     pub start: u32,
     pub size: u32,
 }
 
 // The parts of a golden: its code, and the expected result.
-#[derive(Drop)]
+#[derive(Clone, Copy)]
 pub struct Spans {
     pub code: Span,
     pub result: Span,
 }
 
 // A golden's parts, or a refusal's number and place.
-#[derive(Drop)]
+#[derive(Clone, Copy)]
 pub enum Taken {
     Apart(Spans),
     Refused(u32, u32),

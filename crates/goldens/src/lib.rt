@@ -10,7 +10,7 @@ ghost use Rattle.goldenparts.specs.Spans.{golden_in, Standing};
 ghost use Rattle.goldens.specs.Moving.{written, new_form, old_form, fielded, to_fields, to_plain, in_room, moved_as};
 
 // A move's answer: a refusal's number and place, or how many bytes were written.
-#[derive(Drop)]
+#[derive(Clone, Copy)]
 pub struct Moved {
     pub refusal: u32,
     pub place: u32,

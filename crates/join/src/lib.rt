@@ -14,7 +14,7 @@ use lineentry::Entry;
 const NO_LINE: u32 = 0x8000_0000;
 
 // A refusal's number and place, or whether the table is whole, and the running line where its reading ends, kept plus 2^31.
-#[derive(Drop)]
+#[derive(Clone, Copy)]
 pub struct LineTold {
     pub refusal: u32,
     pub place: u32,
@@ -81,7 +81,7 @@ pub fn line_after(table: &[u8], first_line: i32, count: u32) -> LineTold
 }
 
 // Whether two tables meet, and then the line that the second one leaves.
-#[derive(Drop)]
+#[derive(Clone, Copy)]
 pub struct Met {
     pub joins: bool,
     pub line: u32,
@@ -138,7 +138,7 @@ fn write_both(out: &mut [u8], a: &[u8], b: &[u8])
 }
 
 // A refusal's number and place, or how many bytes were written, for how many instructions, and the line that they leave, kept plus 2^31.
-#[derive(Drop)]
+#[derive(Clone, Copy)]
 pub struct Joined {
     pub refusal: u32,
     pub place: u32,

@@ -4,7 +4,7 @@ ghost use Rattle.std.specs.Prelude.{◌≡◌, ◌+◌, ◌*◌, ◌≤◌, ◌<
 ghost use Rattle.keep.specs.Kept.{Limits, Keeps, refused_as, within, kept_of, need};
 
 // What became of a move.
-#[derive(Drop)]
+#[derive(Clone, Copy)]
 pub struct Kept {
     pub refusal: u32,
     pub place: u32,

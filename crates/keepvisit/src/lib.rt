@@ -43,7 +43,7 @@ fn push(entries: &[u32], s: &mut [u32], from: usize, first: u32, count: u32)
     }
 }
 
-#[derive(Drop)]
+#[derive(Clone, Copy)]
 pub enum Seen {
     All(u32, u32),
     Fault(u32),

@@ -12,7 +12,7 @@ ghost use Rattle.leaf.specs.Answers.{kind_of, plainly, told_of, answered_of};
 ghost use Rattle.leaf.specs.Longs.{Measures};
 
 // What a leaf is.
-#[derive(Drop)]
+#[derive(Clone, Copy)]
 pub enum Leaf {
     None,
     Truth(bool),
@@ -26,14 +26,14 @@ pub enum Leaf {
 }
 
 // The leaf with the numbers of its case beside it: a truth value's 0 or 1, a whole number's bits, the stored bits of one or two floats.
-#[derive(Drop)]
+#[derive(Clone, Copy)]
 pub struct Told {
     pub leaf: Leaf,
     pub first: u64,
     pub second: u64,
 }
 
-#[derive(Drop)]
+#[derive(Clone, Copy)]
 pub enum Answered {
     Told(Told),
     Refused(u32, u32),
@@ -138,7 +138,7 @@ fn extended(word: u32) -> u64
 }
 
 // The number that digits stand for, where it is not known to be above 2^63.
-#[derive(Drop)]
+#[derive(Clone, Copy)]
 enum Measured {
     Is(u64),
     Above,

@@ -13,7 +13,7 @@ pub mod short;
 const ORIGIN: u32 = 0x8000_0000;
 
 // A byte of the table; a missing one is 0, and nothing is passed.
-#[derive(Drop)]
+#[derive(Clone, Copy)]
 pub struct Byte {
     pub value: u8,
     pub next: usize,
@@ -21,7 +21,7 @@ pub struct Byte {
 }
 
 // A number, the place after its bytes, and whether a byte was missing; or more than six bytes, or 2^32 or more.
-#[derive(Drop)]
+#[derive(Clone, Copy)]
 pub enum Varint {
     Value {
         value: u32,
@@ -32,7 +32,7 @@ pub enum Varint {
 }
 
 // A line after a step, or a line outside signed 32 bits.
-#[derive(Drop)]
+#[derive(Clone, Copy)]
 pub enum Moved {
     To(u32),
     Outside,
@@ -40,7 +40,7 @@ pub enum Moved {
 
 // What an instruction shows: lines and columns count from 1.
 #[repr(C)]
-#[derive(Drop)]
+#[derive(Clone, Copy)]
 pub struct Location {
     pub line: u32,
     pub column: u32,
@@ -49,7 +49,7 @@ pub struct Location {
 }
 
 // What an entry gives: how many instructions, the line after it, their location, the place after its bytes, and whether a byte was missing.
-#[derive(Drop)]
+#[derive(Clone, Copy)]
 pub struct Span {
     pub instructions: usize,
     pub line: u32,
@@ -58,7 +58,7 @@ pub struct Span {
     pub missing: bool,
 }
 
-#[derive(Drop)]
+#[derive(Clone, Copy)]
 pub enum Entry {
     Covers(Span),
     Stop,

@@ -7,7 +7,7 @@ ghost use Rattle.lineentry.specs.Short.{is_long, Long, short_of, short_at, numbe
 use crate::{Entry, Location, Moved, Span};
 
 // A number as two bytes tell it, the place after it, and whether it is of one byte or two.
-#[derive(Drop)]
+#[derive(Clone, Copy)]
 pub struct Short {
     pub value: u32,
     pub next: usize,
@@ -15,7 +15,7 @@ pub struct Short {
 }
 
 // The numbers of code 14, the place after them, and whether each is of one byte or two.
-#[derive(Drop)]
+#[derive(Clone, Copy)]
 pub struct Numbers {
     pub step: u32,
     pub end_step: u32,

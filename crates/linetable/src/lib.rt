@@ -11,7 +11,7 @@ ghost use Rattle.linetable.specs.Answer.{first_line_of, located, located_both, a
 use lineentry::{Entry, Location};
 
 // How many instructions came from entries, and whether the table was whole; or the refusal's number and place.
-#[derive(Drop)]
+#[derive(Clone, Copy)]
 pub enum Located {
     Done { from_entries: u32, whole: bool },
     Refused { number: u32, place: u32 },

@@ -16,7 +16,7 @@ pub const CELL: u8 = 0x40;
 pub const FREE: u8 = 0x80;
 
 // The lengths of the five stores, in the order in which they are tested.
-#[derive(Drop)]
+#[derive(Clone, Copy)]
 pub struct Rooms {
     pub locals: usize,
     pub cells: usize,
@@ -26,14 +26,14 @@ pub struct Rooms {
 }
 
 // What the checks give: the argument sum, or the refusal's number and place.
-#[derive(Drop)]
+#[derive(Clone, Copy)]
 pub enum Checked {
     Fits(u32),
     Fails(u32, u32),
 }
 
 // The answer: how many names of each kind, and whether the cell-to-argument list is present; or the refusal's number and place.
-#[derive(Drop)]
+#[derive(Clone, Copy)]
 pub enum Split {
     Done {
         locals: u32,

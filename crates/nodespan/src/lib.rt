@@ -11,7 +11,7 @@ ghost use Rattle.nodespan.specs.Span as definition;
 ghost use Rattle.nodespan.specs.Walk.{among, along, told_of, visits, asks, bounded, span_at, answered_of};
 
 // The span of a node, whether it stands alone, and how many slots are reserved before it.
-#[derive(Drop)]
+#[derive(Clone, Copy)]
 pub struct Found {
     pub start: u32,
     pub end: u32,
@@ -19,14 +19,14 @@ pub struct Found {
     pub slots_before: u32,
 }
 
-#[derive(Drop)]
+#[derive(Clone, Copy)]
 pub enum Answered {
     Told(Found),
     Refused(u32, u32),
 }
 
 // How many nodes and entries are used, and a span of the input of this number.
-#[derive(Drop)]
+#[derive(Clone, Copy)]
 struct Bounds {
     many: u32,
     room: u32,
@@ -36,14 +36,14 @@ struct Bounds {
 }
 
 // Of one node: how many steps its chain took and whether all its children are inside, or that its chain fails.
-#[derive(Drop)]
+#[derive(Clone, Copy)]
 enum Walked {
     Took(u32, bool),
     Faulty,
 }
 
 // What the question comes to, or the container at which it fails.
-#[derive(Drop)]
+#[derive(Clone, Copy)]
 enum Asked {
     Is(bool),
     Fails(u32),

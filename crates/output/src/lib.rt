@@ -8,7 +8,7 @@ ghost use Rattle.writing.specs.Canonical.{bytes32, bytes64, sized};
 ghost use Rattle.output.specs.Puts.{Open, Puts};
 
 // A writer's answer: how many bytes are written, or a refusal's number and place.
-#[derive(Drop)]
+#[derive(Clone, Copy)]
 pub enum Wrote {
     Done(u32),
     Refused(u32, u32),

@@ -17,7 +17,7 @@ use piecestate::{Kept, Pieced};
 use rows::RowEnd;
 
 // Whether the first entry of some bytes is complete and fits.
-#[derive(Drop)]
+#[derive(Clone, Copy)]
 pub enum First {
     Whole(Span),
     Other,

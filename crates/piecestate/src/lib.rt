@@ -23,7 +23,7 @@ pub const REFUSING: u32 = 3;
 pub const ENDED: u32 = 4;
 
 // The numbers of a state but for the bytes that it holds.
-#[derive(Drop)]
+#[derive(Clone, Copy)]
 pub struct Kept {
     pub first: u32,
     pub count: u32,
@@ -38,7 +38,7 @@ pub struct Kept {
 }
 
 // What is looked at before a piece or the end: the call goes on, or is refused, which a state may keep.
-#[derive(Drop)]
+#[derive(Clone, Copy)]
 pub enum Gate {
     Open,
     Shut { number: u32, place: u32 },
@@ -46,7 +46,7 @@ pub enum Gate {
 }
 
 // A call's answer: its refusal and place, or how many instructions came from entries so far, and whether the table was whole.
-#[derive(Drop)]
+#[derive(Clone, Copy)]
 pub struct Pieced {
     pub refusal: u32,
     pub place: u32,

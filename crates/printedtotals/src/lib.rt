@@ -6,7 +6,7 @@ ghost use Rattle.totals.specs.Totals.{counters, held_in};
 ghost use Rattle.printedtotals.specs.Lines.{inputs_text, accepted_text, refused_text, refusal_text, label, line, lines, printed_of};
 
 // An answer: how many bytes were written, or a refusal's number and place.
-#[derive(Drop)]
+#[derive(Clone, Copy)]
 pub enum Printed {
     Done(u32),
     Refused(u32, u32),

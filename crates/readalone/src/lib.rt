@@ -6,7 +6,7 @@ ghost use Rattle.reader.specs.Delivered;
 ghost use Rattle.readalone.specs.Alone.{lent, alone, answer_of, Fitting, placed_counts};
 
 // How many bytes a value takes; or a refusal's number and its place in the file.
-#[derive(Drop)]
+#[derive(Clone, Copy)]
 pub enum Alone {
     Value(u32),
     Refused(u32, u32),

@@ -189,7 +189,7 @@ fn by_tables(
 }
 
 // The answer: bytes consumed and the counts of nodes, entries and slots; or a refusal's number and place.
-#[derive(Drop)]
+#[derive(Clone, Copy)]
 pub enum Outcome {
     Read {
         consumed: u32,

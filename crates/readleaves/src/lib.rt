@@ -9,7 +9,7 @@ ghost use Rattle.readleaves.specs.Fronts.{Refers, Spans, Leafs, Plainly};
 ghost use Rattle.readleaves.specs.Turns.{NumbersIn, SafeLeaf, Takes, Tries, Runs};
 
 // A value that is known already and the place after it; a leaf; or what is left to others.
-#[derive(Drop)]
+#[derive(Clone, Copy)]
 pub enum Plain {
     Known(u32, u32),
     Leaf(readsteps::Head),
@@ -106,14 +106,14 @@ fn front(
 }
 
 // A plain value, read on the spot; or none, and then nothing is written.
-#[derive(Drop)]
+#[derive(Clone, Copy)]
 pub enum Taken {
     Value(u32, readsteps::Walk),
     Other,
 }
 
 // A plain child, with its entry or refused; or none, and then nothing is written.
-#[derive(Drop)]
+#[derive(Clone, Copy)]
 pub enum Tried {
     Line(readsteps::Line),
     Refused(u32, u32),

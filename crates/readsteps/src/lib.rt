@@ -15,7 +15,7 @@ ghost use Rattle.readsteps.specs.Linking.{Attaches, ItemNext, PairNext, PartNext
 ghost use Rattle.readsteps.specs.Linking;
 
 // How much of each store may be used.
-#[derive(Drop)]
+#[derive(Clone, Copy)]
 pub struct Room {
     pub nodes: u32,
     pub entries: u32,
@@ -23,7 +23,7 @@ pub struct Room {
 }
 
 // Where a reading stands: the next byte, and how many of each have been claimed.
-#[derive(Drop)]
+#[derive(Clone, Copy)]
 pub struct Walk {
     pub at: u32,
     pub nodes: u32,
@@ -32,14 +32,14 @@ pub struct Walk {
 }
 
 // A value's node, and where the reading stands after it; or a refusal's number and place.
-#[derive(Drop)]
+#[derive(Clone, Copy)]
 pub enum Step {
     Value(u32, Walk),
     Refused(u32, u32),
 }
 
 // What stands in front of a node's children.
-#[derive(Drop)]
+#[derive(Clone, Copy)]
 pub struct Head {
     pub letter: u32,
     pub flag: u32,
@@ -48,7 +48,7 @@ pub struct Head {
 }
 
 // A value that is known already and the place after it, or a node and its children to come.
-#[derive(Drop)]
+#[derive(Clone, Copy)]
 pub enum Opened {
     Known(u32, u32),
     Node(Head, fields::Kids),
@@ -57,7 +57,7 @@ pub enum Opened {
 
 // The children read so far: the first and the last of their entries, how many they are, where a code's first line stands, the three
 // parts that a code's end looks at, and where the reading stands.
-#[derive(Drop)]
+#[derive(Clone, Copy)]
 pub struct Line {
     pub first: u32,
     pub last: u32,
@@ -69,14 +69,14 @@ pub struct Line {
     pub walk: Walk,
 }
 
-#[derive(Drop)]
+#[derive(Clone, Copy)]
 pub enum Linked {
     Line(Line),
     Refused(u32, u32),
 }
 
 // What comes next among a node's children: one more, held to a rule; or they are done, and the line stands behind them.
-#[derive(Drop)]
+#[derive(Clone, Copy)]
 pub enum Next {
     Child(Line, u32),
     Done(Line),

@@ -19,7 +19,7 @@ pub const PAST_COUNT: u32 = 4;
 
 // How a row ends, how many complete entries it has, the line and the place after them, the place after the entry that runs past the
 // count, which else is `place`, and how many instructions are left.
-#[derive(Drop)]
+#[derive(Clone, Copy)]
 pub struct RowEnd {
     pub how: u32,
     pub entries: usize,

@@ -36,7 +36,7 @@ fn cover(out: &mut [u8], at: usize, left: usize)
 
 // A refusal's number and place, or how many bytes were written and the list: entries kept, bytes dropped, whether one was shortened,
 // instructions covered.
-#[derive(Drop)]
+#[derive(Clone, Copy)]
 pub struct Salvaged {
     pub refusal: u32,
     pub place: u32,

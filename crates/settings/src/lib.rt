@@ -5,7 +5,7 @@ ghost use Rattle.settings.specs.Setting.{setting_of, contents_of, refused_with};
 pub mod rewriting;
 
 // A lookup's answer: a refusal's number and place; or the file (0 the override, 1 the default) and where in it the contents stand.
-#[derive(Drop)]
+#[derive(Clone, Copy)]
 pub struct Setting {
     pub refusal: u32,
     pub place: u32,

@@ -126,7 +126,7 @@ fn put_new(
 }
 
 // A rewriting's answer: a refusal's number and place, or how many bytes were written.
-#[derive(Drop)]
+#[derive(Clone, Copy)]
 pub struct Rewritten {
     pub refusal: u32,
     pub place: u32,

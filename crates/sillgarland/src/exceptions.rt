@@ -9,7 +9,7 @@ use exceptiontable::{Decoded, Encoded};
 
 // A reading's answer: its refusal and place, or how many entries there are.
 #[repr(C)]
-#[derive(Drop)]
+#[derive(Clone, Copy)]
 pub struct SillExceptions {
     pub refusal: u32,
     pub place: u32,

@@ -8,7 +8,7 @@ use goldens::Moved;
 
 // A move's answer: its refusal and place, or how many bytes were written.
 #[repr(C)]
-#[derive(Drop)]
+#[derive(Clone, Copy)]
 pub struct SillMoved {
     pub refusal: u32,
     pub place: u32,

@@ -9,7 +9,7 @@ use join::{Joined, LineTold};
 
 // A join's answer: its refusal and place, or how many bytes were written, for how many instructions, and the running line behind them.
 #[repr(C)]
-#[derive(Drop)]
+#[derive(Clone, Copy)]
 pub struct SillJoined {
     pub refusal: u32,
     pub place: u32,
@@ -20,7 +20,7 @@ pub struct SillJoined {
 
 // What is told of one table: its refusal and place, or whether it is whole, and the running line where its reading ends.
 #[repr(C)]
-#[derive(Drop)]
+#[derive(Clone, Copy)]
 pub struct SillLine {
     pub refusal: u32,
     pub place: u32,

@@ -12,7 +12,7 @@ use leaf::Answered;
 
 // A leaf's answer: its refusal and place, or the kind of leaf and its one or two values.
 #[repr(C)]
-#[derive(Drop)]
+#[derive(Clone, Copy)]
 pub struct SillLeaf {
     pub refusal: u32,
     pub place: u32,

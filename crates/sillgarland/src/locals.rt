@@ -7,7 +7,7 @@ use localsplus::Split;
 
 // The split's answer: its refusal and place, or how many names of each kind, and whether the cell-to-argument list is present.
 #[repr(C)]
-#[derive(Drop)]
+#[derive(Clone, Copy)]
 pub struct SillSplit {
     pub refusal: u32,
     pub place: u32,

@@ -8,7 +8,7 @@ use linetable::Located;
 
 // A table's answer: its refusal and place, or how many instructions came from entries, and whether the table was whole.
 #[repr(C)]
-#[derive(Drop)]
+#[derive(Clone, Copy)]
 pub struct SillLocated {
     pub refusal: u32,
     pub place: u32,

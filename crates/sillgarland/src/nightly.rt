@@ -10,7 +10,7 @@ use totals::Totalled;
 
 // A count's answer: its refusal and place, both 0 where all is counted.
 #[repr(C)]
-#[derive(Drop)]
+#[derive(Clone, Copy)]
 pub struct SillTotalled {
     pub refusal: u32,
     pub place: u32,

@@ -8,7 +8,7 @@ use sources::Sourced;
 
 // The answer: its refusal and place, or how many instructions are from an entry, have a line, have both columns too, and have a sure row.
 #[repr(C)]
-#[derive(Drop)]
+#[derive(Clone, Copy)]
 pub struct SillSourced {
     pub refusal: u32,
     pub place: u32,

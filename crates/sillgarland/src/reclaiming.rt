@@ -10,7 +10,7 @@ use keep::Kept;
 
 // A move's answer: its refusal and place, or how many nodes and entries are kept, and how many of each a new read can claim.
 #[repr(C)]
-#[derive(Drop)]
+#[derive(Clone, Copy)]
 pub struct SillKept {
     pub refusal: u32,
     pub place: u32,

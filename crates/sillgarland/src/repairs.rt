@@ -9,7 +9,7 @@ use salvage::Salvaged;
 // A repair's answer: its refusal and place, or how many bytes were written, and the list: entries kept, bytes dropped, whether one was
 // shortened, instructions covered.
 #[repr(C)]
-#[derive(Drop)]
+#[derive(Clone, Copy)]
 pub struct SillSalvaged {
     pub refusal: u32,
     pub place: u32,

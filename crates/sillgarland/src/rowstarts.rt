@@ -9,7 +9,7 @@ use starts::Answer;
 
 // The answer of a building: its refusal and place, or how many starts there are.
 #[repr(C)]
-#[derive(Drop)]
+#[derive(Clone, Copy)]
 pub struct SillIndexed {
     pub refusal: u32,
     pub place: u32,
@@ -18,7 +18,7 @@ pub struct SillIndexed {
 
 // The answer of a question: its refusal and place, or the number that was asked for.
 #[repr(C)]
-#[derive(Drop)]
+#[derive(Clone, Copy)]
 pub struct SillStart {
     pub refusal: u32,
     pub place: u32,

@@ -11,7 +11,7 @@ use settings::rewriting::Rewritten;
 
 // A lookup's answer: its refusal and place, or the file (0 the override, 1 the default) and where in it the contents stand.
 #[repr(C)]
-#[derive(Drop)]
+#[derive(Clone, Copy)]
 pub struct SillSetting {
     pub refusal: u32,
     pub place: u32,
@@ -22,7 +22,7 @@ pub struct SillSetting {
 
 // A rewriting's answer: its refusal and place, or how many bytes were written.
 #[repr(C)]
-#[derive(Drop)]
+#[derive(Clone, Copy)]
 pub struct SillRewritten {
     pub refusal: u32,
     pub place: u32,
@@ -31,7 +31,7 @@ pub struct SillRewritten {
 
 // A save's answer: its refusal and place, or how many bytes the new archive has.
 #[repr(C)]
-#[derive(Drop)]
+#[derive(Clone, Copy)]
 pub struct SillSaved {
     pub refusal: u32,
     pub place: u32,
@@ -40,7 +40,7 @@ pub struct SillSaved {
 
 // The file of an edition: a refusal and its place, or where the file's bytes stand in the archive.
 #[repr(C)]
-#[derive(Drop)]
+#[derive(Clone, Copy)]
 pub struct SillEdition {
     pub refusal: u32,
     pub place: u32,

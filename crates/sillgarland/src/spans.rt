@@ -10,7 +10,7 @@ use nodespan::Answered;
 // A span's answer: its refusal and place, or where the node's bytes begin and end, whether every reference in them names a slot
 // reserved in them, and how many slots are reserved before them.
 #[repr(C)]
-#[derive(Drop)]
+#[derive(Clone, Copy)]
 pub struct SillSpan {
     pub refusal: u32,
     pub place: u32,

@@ -12,7 +12,7 @@ use reader::Outcome;
 
 // A reading's answer: its refusal and place, or how many bytes and how many of each record were used.
 #[repr(C)]
-#[derive(Drop)]
+#[derive(Clone, Copy)]
 pub struct SillRead {
     pub refusal: u32,
     pub place: u32,

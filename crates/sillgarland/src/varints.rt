@@ -12,7 +12,7 @@ use varintread::Found;
 
 // A writer's answer: its refusal and place, or how many bytes were written.
 #[repr(C)]
-#[derive(Drop)]
+#[derive(Clone, Copy)]
 pub struct SillWritten {
     pub refusal: u32,
     pub place: u32,
@@ -21,7 +21,7 @@ pub struct SillWritten {
 
 // A reader's answer: its refusal and place, or whether there is a number, its value, and the position after it.
 #[repr(C)]
-#[derive(Drop)]
+#[derive(Clone, Copy)]
 pub struct SillFound {
     pub refusal: u32,
     pub found: u32,

@@ -20,14 +20,14 @@ use lineentry::{Entry, Location, Moved, Varint};
 const ORIGIN: u32 = 0x8000_0000;
 
 // A number of an entry, and the place after it.
-#[derive(Drop)]
+#[derive(Clone, Copy)]
 pub struct Number {
     pub value: u32,
     pub next: usize,
 }
 
 // The numbers of code 14 behind its line step.
-#[derive(Drop)]
+#[derive(Clone, Copy)]
 pub struct LongForm {
     pub end_step: u32,
     pub column: u32,
@@ -35,7 +35,7 @@ pub struct LongForm {
 }
 
 // How many instructions are from an entry, have a line, have both columns too, and have a row that is sure.
-#[derive(Drop)]
+#[derive(Clone, Copy)]
 pub struct Counts {
     pub from_entries: u32,
     pub with_line: u32,
@@ -44,7 +44,7 @@ pub struct Counts {
 }
 
 // An entry as the walk takes it: how many instructions, the line and the place after it, and its byte.
-#[derive(Drop)]
+#[derive(Clone, Copy)]
 pub struct Mark {
     pub instructions: usize,
     pub line: u32,
@@ -53,7 +53,7 @@ pub struct Mark {
 }
 
 // The entry at a place, or a stop, or an entry that is refused.
-#[derive(Drop)]
+#[derive(Clone, Copy)]
 pub enum Turn {
     Gives(Mark),
     Stops,
@@ -61,7 +61,7 @@ pub enum Turn {
 }
 
 // How many instructions lack a line, a line with both columns, and a row that is sure.
-#[derive(Drop)]
+#[derive(Clone, Copy)]
 pub struct Lacks {
     pub line: u32,
     pub columns: u32,
@@ -69,7 +69,7 @@ pub struct Lacks {
 }
 
 // A refusal's number and place, or the counts.
-#[derive(Drop)]
+#[derive(Clone, Copy)]
 pub struct Sourced {
     pub refusal: u32,
     pub place: u32,

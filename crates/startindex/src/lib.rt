@@ -17,7 +17,7 @@ const BLOCK_WORDS: usize = 9;
 const RECORD_WIDTH: usize = 4;
 
 // A refusal's number and place, or how many starts there are.
-#[derive(Drop)]
+#[derive(Clone, Copy)]
 pub struct Indexed {
     pub refusal: u32,
     pub place: u32,

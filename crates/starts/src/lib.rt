@@ -11,7 +11,7 @@ const BLOCK_BITS: usize = 512;
 const BLOCK_WORDS: usize = 9;
 
 // A refusal's number and place, or what was asked for.
-#[derive(Drop)]
+#[derive(Clone, Copy)]
 pub struct Answer {
     pub refusal: u32,
     pub place: u32,
@@ -19,7 +19,7 @@ pub struct Answer {
 }
 
 // Where a start is, if there is one.
-#[derive(Drop)]
+#[derive(Clone, Copy)]
 pub enum Spot {
     Missing,
     At(usize),

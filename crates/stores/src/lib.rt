@@ -13,7 +13,7 @@ pub const NODE_WIDTH: usize = 7;
 pub const ENTRY_WIDTH: usize = 2;
 
 // A node's numbers, in their order in the store.
-#[derive(Drop)]
+#[derive(Clone, Copy)]
 pub struct Node {
     pub letter: u32,
     pub place: u32,

@@ -6,14 +6,14 @@ ghost use Rattle.taggedfields.specs.Fields.{field_in};
 ghost use Rattle.taggedfields.specs.Looking.{fault_of, placed, size_in, looked};
 
 // The first fault of a file, as a refusal's number and place; 0 and 0 where it has none.
-#[derive(Drop)]
+#[derive(Clone, Copy)]
 pub struct Fault {
     pub refusal: u32,
     pub place: u32,
 }
 
 // The first fault of a file; or whether a tag is in it (0 or 1), and where its contents start and how many bytes they are.
-#[derive(Drop)]
+#[derive(Clone, Copy)]
 pub struct Looked {
     pub refusal: u32,
     pub place: u32,

@@ -6,7 +6,7 @@ ghost use Rattle.totals.specs.Totals.{counters, held_in, plus, stored, totals_of
 ghost use Rattle.totals.specs.Steps.{Fresh, Tallied};
 
 // An answer: all is counted, or a refusal's number and place.
-#[derive(Drop)]
+#[derive(Clone, Copy)]
 pub enum Totalled {
     Done,
     Refused(u32, u32),

@@ -8,7 +8,7 @@ ghost use Rattle.varint.specs.Writing.{groups, little_endian, big_endian, big_en
 ghost use Rattle.varint.specs.Answers.{stored, stored_signed};
 
 // A writer's answer: how many bytes were written, or a refusal's number and place.
-#[derive(Drop)]
+#[derive(Clone, Copy)]
 pub enum Written {
     Done(u32),
     Refused(u32, u32),

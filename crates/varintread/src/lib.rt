@@ -4,7 +4,7 @@ ghost use Rattle.std.specs.Prelude.{◌≡◌, ◌+◌, ◌*◌, ◌%◌, ◌≤
 ghost use Rattle.varintread.specs.Reading.{whole_at, read_varint, read_varint_with_start};
 
 // A reader's answer. `next` is the position after the number; a refusal has its number and place, and the position is unmoved.
-#[derive(Drop)]
+#[derive(Clone, Copy)]
 pub enum Found {
     Number { value: u32, next: usize },
     Nothing,

@@ -14,7 +14,7 @@ use grammar::{
 };
 
 // How many nodes and how many entries are said to be used.
-#[derive(Drop)]
+#[derive(Clone, Copy)]
 pub struct Used {
     pub nodes: u32,
     pub entries: u32,

@@ -16,7 +16,7 @@ use grammar::{BYTES_LETTER, INT_LETTER, WRITTEN_BYTES, WRITTEN_INT, WRITTEN_UNIC
 
 // How a node without children is written, if it is of a common kind and its record is sound: four bytes from a place on,
 // or a letter, and so many bytes from a place on.
-#[derive(Drop)]
+#[derive(Clone, Copy)]
 pub enum Leaf {
     Other,
     Four(u32),
@@ -81,7 +81,7 @@ fn leaf_at(s: &[u8], nodes: &[u32], used: writecheck::Used, allowance: u32, node
 }
 
 // Where a leaf ends, or why it is refused; or it is no such leaf, and nothing is written.
-#[derive(Drop)]
+#[derive(Clone, Copy)]
 pub enum Led {
     On(u32),
     Refused(u32, u32),
@@ -120,7 +120,7 @@ fn write_leaf(
 }
 
 // How far a row of children is written: the entry that comes next, how many are done, and the place behind them.
-#[derive(Drop)]
+#[derive(Clone, Copy)]
 pub enum Rowed {
     On(u32, u32, u32),
     Refused(u32, u32),

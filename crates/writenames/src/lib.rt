@@ -133,7 +133,7 @@ fn one_if(so: bool) -> u32
 }
 
 // Where names end, and how many are counted up to there; or why they are refused.
-#[derive(Drop)]
+#[derive(Clone, Copy)]
 pub enum Grouped {
     Done(u32, u32),
     Refused(u32, u32),

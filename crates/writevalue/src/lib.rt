@@ -22,7 +22,7 @@ use grammar::{
 };
 
 // What stands in front of a node's children: it is refused, or whole already; or its row comes next, of a dict's pairs or not; or a code's parts do.
-#[derive(Drop)]
+#[derive(Clone, Copy)]
 pub enum Opened {
     Refused(u32, u32),
     Done(u32),
