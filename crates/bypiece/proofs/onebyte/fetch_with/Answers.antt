@@ -1,0 +1,7 @@
+-- `bypiece::onebyte::fetch_with` meets its contract: the byte stands behind the held ones. Assumes nothing.
+use Rattle.bypiece.proofs.ByByte.{fetched}
+use mathlib.Core.Path.{refl}
+use Rattle.bypiece.proofs.onebyte.fetch_with.Goals as goal
+
+pub returns : goal.returns
+returns c = fetched c.args.state.now c.requires.0 c.args.out.now _ _ c.requires.1 c.fetch.ensures refl

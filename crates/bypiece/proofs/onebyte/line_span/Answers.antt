@@ -1,0 +1,5 @@
+-- `bypiece::onebyte::line_span` meets its contract: a line is shown as it is. Assumes nothing.
+use Rattle.bypiece.proofs.onebyte.line_span.Goals as goal
+
+pub returns : goal.returns
+returns c = rw c.show_line-l.ensures

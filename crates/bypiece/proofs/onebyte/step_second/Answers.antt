@@ -1,0 +1,8 @@
+-- `bypiece::onebyte::step_second` meets its contract: the first byte says whether the entry ends here. Assumes nothing.
+use mathlib.Core.Path.{sym, ◌∙◌}
+use native.Mathlib.Omega.{arith}
+use Rattle.bypiece.proofs.Heads.{line-cut_2}
+use Rattle.bypiece.proofs.onebyte.step_second.Goals as goal
+
+pub returns-in-To : goal.returns-in-To
+returns-in-To c = line-cut_2 _ _ _ (omega arith) (omega arith) (sym c.line_of.ensures ∙ c.in-To.is) _

@@ -1,0 +1,15 @@
+-- By the letter. Assumes nothing.
+use Rattle.chains.proofs.Told.{not_among}
+use Rattle.grammar.specs.Letters.{is_tuple}
+use mathlib.Core.List.{[], ◌∷◌}
+use mathlib.Core.Path.{sym, ap}
+use Rattle.chains.proofs.is_tuple.Goals as goal
+
+pub returns-in-40 : goal.returns-in-40
+returns-in-40 c = sym (ap is_tuple c.in-40.is)
+
+pub returns-in-41 : goal.returns-in-41
+returns-in-41 c = sym (ap is_tuple c.in-41.is)
+
+pub returns-in_default : goal.returns-in_default
+returns-in_default c = not_among Unit c.args.letter (0x28 ∷ 0x29 ∷ []) c.in_default.rest

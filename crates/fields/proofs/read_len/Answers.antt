@@ -1,0 +1,16 @@
+-- `fields::read_len` meets its contract: both tests are the definition's.
+-- Assumes nothing.
+use borrow.Author.Rules.{rules}
+use borrow.Author.Tests.{le-leb, lt-leb, lt-ltb, le-ltb}
+use Rattle.fields.proofs.read_len.Goals as goal
+
+pub returns-then-s-p : goal.returns-then-s-p
+returns-then-s-p c = record { within = tt; exact = λ rest. rw (lt-leb _ _ c.if-s-p.true) }
+
+pub returns-then-le32-ge2147483648 : goal.returns-then-le32-ge2147483648
+returns-then-le32-ge2147483648 c =
+    record { within = tt; exact = λ rest. rw (le-leb _ _ c.if-s-p.false, ← c.le32.ensures, le-ltb _ _ c.if-le32-ge2147483648.true) }
+
+pub returns : goal.returns
+returns c =
+    record { within = search rules; exact = λ rest. rw (le-leb _ _ c.if-s-p.false, ← c.le32.ensures, lt-ltb _ _ c.if-le32-ge2147483648.false) }

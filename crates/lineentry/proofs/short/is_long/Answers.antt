@@ -1,0 +1,9 @@
+-- `lineentry::short::is_long` meets its contract, test by test. Assumes nothing.
+use Rattle.lineentry.proofs.Shorts.{too_few-long, long_test}
+use Rattle.lineentry.proofs.short.is_long.Goals as goal
+
+pub returns-then-bytes_from-le8 : goal.returns-then-bytes_from-le8
+returns-then-bytes_from-le8 c = too_few-long _ _ c.bytes_from.ensures c.if-bytes_from-le8.true
+
+pub returns : goal.returns
+returns c = long_test _ _ c.bytes_from.ensures c.if-bytes_from-le8.false

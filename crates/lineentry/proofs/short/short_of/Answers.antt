@@ -1,0 +1,8 @@
+-- `lineentry::short::short_of` meets its contract by what its callees ensure. Assumes nothing.
+use mathlib.Core.Path.{refl}
+use Rattle.lineentry.specs.Short.{short_of}
+use Rattle.lineentry.proofs.short.short_of.Goals as goal
+
+pub returns : goal.returns
+unfolding short_of
+returns c = (rw (c.either.ensures, c.after-next.ensures.0, c.upper.ensures.0, c.one_byte-more.ensures, c.one_byte-one.ensures) refl, c.after-next.ensures.1)

@@ -1,0 +1,23 @@
+-- `linetable::records_within` meets its contract: 14, then 17 at the smaller capacity, then the walk.
+-- Assumes nothing.
+use mathlib.Core.Path.{◌≡◌, ◌∙◌, ap}
+use native.Mathlib.Omega.{arith}
+use mir.Syntax.{w32}
+use mir.Val.{of_z}
+use mir.Facts.{to_z-of_z}
+use Rattle.lineentry.specs.Line.{as_signed}
+use Rattle.linetable.specs.Answer.{first_line_of}
+use Rattle.linetable.proofs.Outcomes.{ends_zero, located-long, located-short, ends-walk}
+use Rattle.linetable.proofs.records_within.Goals as goal
+
+pub returns-then-table : goal.returns-then-table
+returns-then-table c = ends_zero _ (located-long _ _ _ _ c.if-table.true) c.refuse.ensures
+
+pub returns-then-room-count : goal.returns-then-room-count
+returns-then-room-count c = ends_zero _ (located-short _ _ _ _ _ c.if-table.false c.smaller-room.ensures c.if-room-count.true) c.refuse-then-room-count.ensures
+
+pub returns : goal.returns
+returns c =
+    let a = c.args in
+    let first : c.as_signed-first.result ≡ first_line_of a.first-line = c.as_signed-first.ensures ∙ ap as_signed (c.bits32.ensures ∙ ap (of_z w32) (to_z-of_z c.ranges.first_line)) in
+    ends-walk _ _ _ _ _ _ c.if-table.false (omega (arith, c.smaller-room.ensures)) first c.walk_entries.ensures

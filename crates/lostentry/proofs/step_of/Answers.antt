@@ -1,0 +1,9 @@
+-- `lostentry::step_of` meets its contract: the test decides which case of the definition holds. Assumes nothing.
+use borrow.Author.Tests.{eq-eqb, ne_eqb}
+use Rattle.lostentry.proofs.step_of.Goals as goal
+
+pub returns-then-value-eq0 : goal.returns-then-value-eq0
+returns-then-value-eq0 c = rw (eq-eqb _ _ c.if-value-eq0.true)
+
+pub returns-else-value-eq0 : goal.returns-else-value-eq0
+returns-else-value-eq0 c = rw (ne_eqb _ _ c.if-value-eq0.false)

@@ -1,0 +1,19 @@
+-- Carried by `Walking`: what is left of the chain still comes to the same. Assumes nothing.
+use Prim.Native.Nat.{◌-◌}
+use Rattle.nodespan.proofs.Walks.{walk_start, walk-no_entry, walk-no_node, walk_more, walk_end}
+use Rattle.nodespan.proofs.walk.Goals as goal
+
+pub loop-i-init : goal.loop-i-init
+loop-i-init c = walk_start _ _ _
+
+pub returns-then-b-e : goal.returns-then-b-e
+returns-then-b-e c = walk-no_entry _ _ _ c.loop-i.invariant c.loop-i-test.true c.if-b-e.true
+
+pub returns-then-b-child : goal.returns-then-b-child
+returns-then-b-child c = walk-no_node _ _ _ c.loop-i.invariant c.loop-i-test.true c.if-b-e.false c.child_of-child.result c.child_of-child.ensures c.if-b-child.true
+
+pub loop-i-preserved : goal.loop-i-preserved
+loop-i-preserved c = walk_more _ _ _ c.loop-i.invariant c.loop-i-test.true c.if-b-e.false c.child_of-child.result c.child_of-child.ensures c.if-b-child.false c.inside.ensures c.both-all.ensures c.next_of-e.ensures
+
+pub returns : goal.returns
+returns c = walk_end _ _ _ c.loop-i.invariant c.loop-i-test.false

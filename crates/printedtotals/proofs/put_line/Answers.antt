@@ -1,0 +1,31 @@
+-- `printedtotals::put_line` meets its contract: the label, the digits and the newline, one behind another.
+-- Assumes nothing.
+use native.Mathlib.Omega.{arith}
+use Rattle.printedtotals.proofs.Printing.{length-line, put_whole}
+use Rattle.printedtotals.proofs.put_line.Goals as goal
+
+pub put_label-digits-requires : goal.put_label-digits-requires
+put_label-digits-requires c = omega (arith, length-line c.args.i c.args.count)
+
+pub put_decimal-end-requires : goal.put_decimal-end-requires
+put_decimal-end-requires c = omega (arith, length-line c.args.i c.args.count, c.put_label-digits.auto.out, c.put_label-digits.ensures.0)
+
+pub put_byte-requires : goal.put_byte-requires
+put_byte-requires c =
+    let at_put-label = c in
+    let at_args = at_put-label.before.before.before in
+    omega (arith, length-line at_args.args.i at_args.args.count, c.put_decimal-end.auto.out, c.put_decimal-end.ensures.0, at_put-label.put-label.auto.0, at_put-label.put-label.ensures.0)
+
+pub overflow_add-result : goal.overflow_add-result
+overflow_add-result c =
+    let at_put-decimal = c in
+    let at_put-label = at_put-decimal.before.before.before.before in
+    let at_args = at_put-label.before.before.before in
+    record { fits = omega (arith, length-line at_args.args.i at_args.args.count, at_put-decimal.put-decimal.ensures.0, at_put-label.put-label.ensures.0) }
+
+pub returns : goal.returns
+returns c =
+    let at_put-decimal = c in
+    let at_put-label = at_put-decimal.before.before.before.before in
+    let at_args = at_put-label.before.before.before in
+    put_whole at_args.args.out.now at_args.args.at at_args.args.i at_args.args.count at_put-label.put-label.ensures at_put-decimal.put-decimal.ensures c.put_byte.ensures

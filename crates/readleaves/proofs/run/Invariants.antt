@@ -1,0 +1,13 @@
+-- `run` keeps what holds at the head of the reader's loop; a law of Running for each way out and for the turn.
+-- Assumes nothing.
+use Prim.Native.Nat.{◌-◌}
+use lib.ListN.{length}
+use Rattle.readleaves.proofs.Running.{Running}
+use Rattle.readleaves.proofs.run.Given as goal
+
+abbrev pub invariant-loop-number : goal.invariant-loop-number
+invariant-loop-number l =
+    Running l.kids l.header l.s l.room l.allowance l.initial.l l.initial.nodes l.initial.entries l.initial.slots l.nodes l.entries l.slots l.l
+
+abbrev pub decreases-loop-number : goal.decreases-loop-number
+decreases-loop-number l = length l.s - l.l.walk.at

@@ -1,0 +1,8 @@
+-- `sillgarland::nightly::sill_add_totals` meets its contract: the answer of `totals::add_totals`, handed on as numbers.
+-- Assumes nothing.
+use Rattle.sillgarland.specs.Nightly.{totalled_struct}
+use Rattle.sillgarland.proofs.Handing.{handed}
+use Rattle.sillgarland.proofs.nightly.sill_add_totals.Goals as goal
+
+pub returns : goal.returns
+returns c = handed totalled_struct c.totalled_numbers.ensures c.add_totals.ensures

@@ -1,0 +1,8 @@
+-- `sillgarland::settingfiles::sill_edition` meets its contract: the search's answer, handed on as numbers.
+-- Assumes nothing.
+use mathlib.Core.Path.{ap, ◌∙◌}
+use Rattle.sillgarland.specs.Settingfiles.{edition_struct}
+use Rattle.sillgarland.proofs.settingfiles.sill_edition.Goals as goal
+
+pub returns : goal.returns
+returns c = c.edition_numbers.ensures ∙ ap edition_struct c.find_edition-answer.ensures

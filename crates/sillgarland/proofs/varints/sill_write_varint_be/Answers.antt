@@ -1,0 +1,8 @@
+-- `sillgarland::varints::sill_write_varint_be` meets its contract: the answer of `varint::write_varint_be`, handed on as numbers.
+-- Assumes nothing.
+use Rattle.sillgarland.specs.Varints.{written_struct}
+use Rattle.sillgarland.proofs.Handing.{handed}
+use Rattle.sillgarland.proofs.varints.sill_write_varint_be.Goals as goal
+
+pub returns : goal.returns
+returns c = handed written_struct c.written_numbers.ensures c.write_varint_be.ensures

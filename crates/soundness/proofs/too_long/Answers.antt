@@ -1,0 +1,24 @@
+-- `soundness::too_long` meets its contract: the size, then the letter.
+-- Assumes nothing.
+use mathlib.Core.Path.{sym, ap, ◌∙◌}
+use mathlib.Core.Bool.{true, false, cond}
+use mathlib.Core.List.{[], ◌∷◌}
+use lib.Dec.{eqb}
+use borrow.Author.Tests.{lt-leb, le-leb, ne_eqb}
+use Rattle.grammar.specs.Letters.{among}
+use Rattle.soundness.proofs.too_long.Goals as goal
+
+pub returns-then-size-le255 : goal.returns-then-size-le255
+returns-then-size-le255 c = rw (le-leb _ 255 c.if-size-le255.true)
+
+pub returns-in-122 : goal.returns-in-122
+returns-in-122 c = rw (lt-leb _ 255 c.if-size-le255.false) (sym (ap (λ l. among l (0x7A ∷ 0x5A ∷ [])) c.in-122.is))
+
+pub returns-in-90 : goal.returns-in-90
+returns-in-90 c = rw (lt-leb _ 255 c.if-size-le255.false) (sym (ap (λ l. among l (0x7A ∷ 0x5A ∷ [])) c.in-90.is))
+
+pub returns-in_default : goal.returns-in_default
+returns-in_default c =
+    let l = c.args.letter in
+    rw (lt-leb _ 255 c.if-size-le255.false)
+    (sym (ap (λ b. cond b true (cond (eqb l 0x5A) true false)) (ne_eqb l 0x7A c.in_default.rest.0.1) ∙ ap (λ b. cond b true false) (ne_eqb l 0x5A c.in_default.rest.1)))

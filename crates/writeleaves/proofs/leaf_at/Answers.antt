@@ -1,0 +1,10 @@
+-- The node is in the store and a level is left, so its writing is its own bytes. Assumes nothing.
+use Rattle.writeleaves.proofs.Leafing.{leaf_held}
+use native.Mathlib.Omega.{arith}
+use Rattle.writeleaves.proofs.leaf_at.Goals as goal
+
+-- src/lib.rt:450:1
+pub returns : goal.returns
+returns c =
+    let a = c.args in
+    leaf_held a.s.now a.nodes.now a.used a.allowance a.node (omega arith) (omega (arith, c.nodes_in.ensures)) c.node_at.ensures c.leaf_of.ensures

@@ -1,0 +1,85 @@
+-- Carried by `Grouping`: the names that are left still come to the same answer and the same count. Assumes nothing.
+use Rattle.writenames.proofs.Naming.{grouping_none, member_next, member-refused, member_more, grouping_all}
+use Rattle.writecheck.specs.Looking.{lent}
+use Rattle.writing.specs.Steps.{string_part}
+use native.Mathlib.Omega.{arith}
+use mathlib.Core.Path.{◌∙◌}
+use Prim.Native.Nat.{◌-◌}
+use Rattle.writenames.proofs.write_group.Goals as goal
+
+pub loop-i-init : goal.loop-i-init
+loop-i-init c =
+    let a = c.args in
+    let t = lent a.s.now a.nodes.now a.entries.now a.used in
+    let f = string_part t a.allowance in
+    grouping_none t a.locals a.bit f a.counted a.out.now a.at c.requires.1 c.requires.0.inside
+
+pub overflow_add-kind : goal.overflow_add-kind
+overflow_add-kind c = omega (arith, c.requires.1.kinds)
+
+pub bounds-s-kinds : goal.bounds-s-kinds
+bounds-s-kinds c = omega (arith, c.requires.1.kinds)
+
+pub belongs-member-requires : goal.belongs-member-requires
+belongs-member-requires c =
+    let at_args = c in
+    let a = c.args in
+    let t = lent a.s.now a.nodes.now a.entries.now a.used in
+    let f = string_part t a.allowance in
+    (c.requires.1, (member_next t a.locals a.bit f a.counted a.out.now a.at _ c.requires.1 c.loop-i.invariant c.loop-i-test.true c.child_of-name.ensures).text, c.requires.2)
+
+pub write_member-requires : goal.write_member-requires
+write_member-requires c =
+    let a = c.args in
+    let t = lent a.s.now a.nodes.now a.entries.now a.used in
+    let f = string_part t a.allowance in
+    let g = c.loop-i.invariant in (
+      record { inside = omega (arith, g.inside, g.same); counts = omega (arith, g.same, c.requires.0.counts) },
+      (member_next t a.locals a.bit f a.counted a.out.now a.at _ c.requires.1 c.loop-i.invariant c.loop-i-test.true c.child_of-name.ensures).text,
+    )
+
+pub shape_of-out-in-Refused : goal.shape_of-out-in-Refused
+shape_of-out-in-Refused c = c.write_member.ensures.same ∙ c.loop-i.invariant.same
+
+pub returns-in-Refused : goal.returns-in-Refused
+returns-in-Refused c =
+    let at_write_member = c in
+    let at_belongs = c in
+    let at_child_of = at_belongs.before in
+    let at_loop_test = at_child_of.before.before in
+    let at_loop = at_loop_test.before in
+    let at_args = at_loop.before.before.before.before.before.before in
+    let a = at_args.args in
+    let t = lent a.s.now a.nodes.now a.entries.now a.used in
+    let f = string_part t a.allowance in
+    member-refused t a.locals a.bit f a.counted a.out.now a.at at_loop.loop.invariant (member_next t a.locals a.bit f a.counted a.out.now a.at _ at_args.requires.1 at_loop.loop.invariant at_loop_test.loop-test.true at_child_of.child_of_lem.ensures) at_belongs.belongs.ensures c.write_member.ensures c.in-Refused.is
+
+pub overflow_add-n : goal.overflow_add-n
+overflow_add-n c =
+    let at_loop_test = c in
+    let at_loop = c in
+    let at_pre = at_loop.before.before.before.before.before.before in
+    omega (arith, at_loop.loop.invariant.most, c.loop-i-test.true, c.one_if-n.ensures.1, at_pre.requires.3)
+
+pub loop-i-preserved : goal.loop-i-preserved
+loop-i-preserved c =
+    let at_write_member = c in
+    let at_belongs = c in
+    let at_child_of = at_belongs.before in
+    let at_loop_test = at_child_of.before.before in
+    let at_loop = at_loop_test.before in
+    let at_args = at_loop.before.before.before.before.before.before in
+    let a = at_args.args in
+    let t = lent a.s.now a.nodes.now a.entries.now a.used in
+    let f = string_part t a.allowance in
+    member_more t a.locals a.bit f a.counted a.out.now a.at at_loop.loop.invariant (member_next t a.locals a.bit f a.counted a.out.now a.at _ at_args.requires.1 at_loop.loop.invariant at_loop_test.loop-test.true at_child_of.child_of_lem.ensures) at_belongs.belongs.ensures c.write_member.ensures c.in-Done.is c.one_if-n.ensures at_loop_test.loop-test.true c.next_of-e.ensures
+
+pub shape_of-out : goal.shape_of-out
+shape_of-out c = c.loop-i.invariant.same
+
+pub returns : goal.returns
+returns c =
+    let a = c.args in
+    let t = lent a.s.now a.nodes.now a.entries.now a.used in
+    let f = string_part t a.allowance in
+    grouping_all t a.locals a.bit f a.counted a.out.now a.at c.loop-i.invariant (omega arith)

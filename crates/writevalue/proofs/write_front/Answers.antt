@@ -1,0 +1,152 @@
+-- By the class of the letter. Assumes nothing.
+use Rattle.writevalue.proofs.Fronting.{front-whole, front-row, front-pairs, front-parts}
+use Rattle.underway.proofs.Forms.{letter-small, sound-within, long-read, code_numbers_lem, code_else, as_single, as_four, as_eight, as_double, as_long, as_bytes, as_text, as_short, as_sequence, as_few, as_slice, as_dict, as_code}
+use Rattle.soundness.proofs.Soundness.{fixed_held, double_held}
+use Rattle.stores.specs.Written.{node_of}
+use Rattle.fields.proofs.Laws.{avoids}
+use Rattle.fields.specs.Classes.{classes, class_at}
+use Rattle.grammar.specs.Letters as letter
+use native.Mathlib.Omega.{arith}
+use mathlib.Core.Path.{sym, ap, ◌∙◌}
+use Rattle.writevalue.proofs.write_front.Goals as goal
+
+pub overflow_cast-n : goal.overflow_cast-n
+unfolding class_at classes
+overflow_cast-n c = omega (arith, letter-small c.args.n.letter letter.single (sym c.requires.3 ∙ ap class_at c.in-0.is))
+
+pub write_slice-requires : goal.write_slice-requires
+unfolding class_at classes
+write_slice-requires c = (c.requires.0, fixed_held c.args.s.now (node_of c.args.n) c.requires.2 4 (sym c.requires.3 ∙ ap class_at c.in-1.is))
+
+pub write_eight-requires : goal.write_eight-requires
+unfolding class_at classes
+write_eight-requires c = (c.requires.0, fixed_held c.args.s.now (node_of c.args.n) c.requires.2 8 (sym c.requires.3 ∙ ap class_at c.in-2.is))
+
+pub write_slice-requires-in-3 : goal.write_slice-requires-in-3
+unfolding class_at classes
+write_slice-requires-in-3 c = let h = double_held c.args.s.now (node_of c.args.n) c.requires.2 (sym c.requires.3 ∙ ap class_at c.in-3.is) in (c.requires.0, omega (arith, h))
+
+pub write_pylong-requires : goal.write_pylong-requires
+unfolding class_at classes
+write_pylong-requires c = (c.requires.0, long-read c.args.s.now (node_of c.args.n) c.requires.2 (sym c.requires.3 ∙ ap class_at c.in-4.is), c.requires.1)
+
+pub overflow_cast-n-in-5 : goal.overflow_cast-n-in-5
+unfolding class_at classes
+overflow_cast-n-in-5 c = omega (arith, letter-small c.args.n.letter letter.sequence (sym c.requires.3 ∙ ap class_at c.in-5.is))
+
+pub write_vec-requires : goal.write_vec-requires
+write_vec-requires c = (c.requires.0, sound-within c.args.s.now (node_of c.args.n) c.requires.2)
+
+pub write_vec-requires-in-10 : goal.write_vec-requires-in-10
+write_vec-requires-in-10 c = (c.requires.0, sound-within c.args.s.now (node_of c.args.n) c.requires.2)
+
+pub write_vec-requires-in-11 : goal.write_vec-requires-in-11
+write_vec-requires-in-11 c = (c.requires.0, sound-within c.args.s.now (node_of c.args.n) c.requires.2)
+
+pub write_slice-requires-in_default : goal.write_slice-requires-in_default
+write_slice-requires-in_default c =
+    let at_pre = c in
+    (c.requires.0, code_numbers_lem c.args.s.now (node_of c.args.n) c.requires.2 (code_else c.args.s.now (node_of c.args.n) c.requires.2 c.args.class (avoids c.args.class 12 c.in_default.rest) c.requires.3))
+
+pub returns-in-0 : goal.returns-in-0
+unfolding class_at classes
+returns-in-0 c =
+    let at_match = c in
+    let at_shared-slice-known = c in
+    let at_args = at_shared-slice-known.before in
+    front-whole (λ f g kids. as_single at_args.args.s.now (λ i. omega (arith, at_shared-slice-known.shared-slice-known.given i)) (node_of at_args.args.n) f g kids (sym at_args.requires.3 ∙ ap class_at c.in-0.is)) c.write_u8.ensures c.whole.ensures
+
+pub returns-in-1 : goal.returns-in-1
+unfolding class_at classes
+returns-in-1 c =
+    let at_match = c in
+    let at_shared-slice-known = c in
+    let at_args = at_shared-slice-known.before in
+    let a = at_args.args in
+    let asked = at_args.requires in
+    front-whole (λ f g kids. as_four a.s.now (λ i. omega (arith, at_shared-slice-known.shared-slice-known.given i)) (node_of a.n) f g kids (sym asked.3 ∙ ap class_at c.in-1.is) (fixed_held a.s.now (node_of a.n) asked.2 4 (sym asked.3 ∙ ap class_at c.in-1.is))) c.write_slice.ensures c.whole-in-1.ensures
+
+pub returns-in-2 : goal.returns-in-2
+unfolding class_at classes
+returns-in-2 c =
+    let at_match = c in
+    let at_shared-slice-known = c in
+    let at_args = at_shared-slice-known.before in
+    front-whole (λ f g kids. as_eight at_args.args.s.now (λ i. omega (arith, at_shared-slice-known.shared-slice-known.given i)) (node_of at_args.args.n) f g kids (sym at_args.requires.3 ∙ ap class_at c.in-2.is)) c.write_eight.ensures c.whole-in-2.ensures
+
+pub returns-in-3 : goal.returns-in-3
+unfolding class_at classes
+returns-in-3 c =
+    let a = c.args in
+    let asked = c.requires in
+    let h = double_held a.s.now (node_of a.n) asked.2 (sym asked.3 ∙ ap class_at c.in-3.is) in
+    front-whole (λ f g kids. as_double a.s.now (λ i. omega (arith, c.type_inv.s i)) (node_of a.n) f g kids (sym asked.3 ∙ ap class_at c.in-3.is) (omega (arith, h))) c.write_slice-in-3.ensures c.whole-in-3.ensures
+
+pub returns-in-4 : goal.returns-in-4
+unfolding class_at classes
+returns-in-4 c =
+    let at_match = c in
+    let at_shared-slice-known = c in
+    let at_args = at_shared-slice-known.before in
+    front-whole (λ f g kids. as_long at_args.args.s.now (λ i. omega (arith, at_shared-slice-known.shared-slice-known.given i)) (node_of at_args.args.n) f g kids (sym at_args.requires.3 ∙ ap class_at c.in-4.is)) c.write_pylong.ensures c.whole-in-4.ensures
+
+pub returns-in-5 : goal.returns-in-5
+unfolding class_at classes
+returns-in-5 c =
+    let a = c.args in
+    let asked = c.requires in
+    front-row asked.0.inside (λ f g kids l. as_sequence a.s.now (λ i. omega (arith, c.type_inv.s i)) (node_of a.n) f g kids (sym asked.3 ∙ ap class_at c.in-5.is) l) c.write_len.ensures c.with_row.ensures
+
+pub returns-in-6 : goal.returns-in-6
+unfolding class_at classes
+returns-in-6 c =
+    let a = c.args in
+    let asked = c.requires in
+    front-row asked.0.inside (λ f g kids l. as_few a.s.now (λ i. omega (arith, c.type_inv.s i)) (node_of a.n) f g kids (sym asked.3 ∙ ap class_at c.in-6.is) l) c.write_len-in-6.ensures c.with_row-in-6.ensures
+
+pub returns-in-7 : goal.returns-in-7
+unfolding class_at classes
+returns-in-7 c =
+    let a = c.args in
+    let asked = c.requires in
+    front-row asked.0.inside (λ f g kids l. as_slice a.s.now (λ i. omega (arith, c.type_inv.s i)) (node_of a.n) f g kids (sym asked.3 ∙ ap class_at c.in-7.is)) c.write_u8-in-7.ensures c.with_row-in-7.ensures
+
+pub returns-in-8 : goal.returns-in-8
+unfolding class_at classes
+returns-in-8 c =
+    let a = c.args in
+    let asked = c.requires in
+    front-pairs asked.0.inside (λ f g kids l. as_dict a.s.now (λ i. omega (arith, c.type_inv.s i)) (node_of a.n) f g kids (sym asked.3 ∙ ap class_at c.in-8.is)) c.write_u8-in-8.ensures c.with_row-in-8.ensures
+
+pub returns-in-9 : goal.returns-in-9
+unfolding class_at classes
+returns-in-9 c =
+    let at_match = c in
+    let at_shared-slice-known = c in
+    let at_args = at_shared-slice-known.before in
+    front-whole (λ f g kids. as_bytes at_args.args.s.now (λ i. omega (arith, at_shared-slice-known.shared-slice-known.given i)) (node_of at_args.args.n) f g kids (sym at_args.requires.3 ∙ ap class_at c.in-9.is)) c.write_vec.ensures c.whole-in-9.ensures
+
+pub returns-in-10 : goal.returns-in-10
+unfolding class_at classes
+returns-in-10 c =
+    let at_match = c in
+    let at_shared-slice-known = c in
+    let at_args = at_shared-slice-known.before in
+    front-whole (λ f g kids. as_text at_args.args.s.now (λ i. omega (arith, at_shared-slice-known.shared-slice-known.given i)) (node_of at_args.args.n) f g kids (sym at_args.requires.3 ∙ ap class_at c.in-10.is)) c.write_vec-in-10.ensures c.whole-in-10.ensures
+
+pub returns-in-11 : goal.returns-in-11
+unfolding class_at classes
+returns-in-11 c =
+    let at_match = c in
+    let at_shared-slice-known = c in
+    let at_args = at_shared-slice-known.before in
+    front-whole (λ f g kids. as_short at_args.args.s.now (λ i. omega (arith, at_shared-slice-known.shared-slice-known.given i)) (node_of at_args.args.n) f g kids (sym at_args.requires.3 ∙ ap class_at c.in-11.is)) c.write_vec-in-11.ensures c.whole-in-11.ensures
+
+pub returns-in_default : goal.returns-in_default
+returns-in_default c =
+    let at_match = c in
+    let at_shared-slice-known = c in
+    let at_args = at_shared-slice-known.before in
+    let a = at_args.args in
+    let asked = at_args.requires in
+    front-parts asked.0.inside (code_else a.s.now (node_of a.n) asked.2 a.class (avoids a.class 12 c.in_default.rest) asked.3) (λ f g kids. as_code a.s.now (λ i. omega (arith, at_shared-slice-known.shared-slice-known.given i)) (node_of a.n) f g kids (code_else a.s.now (node_of a.n) asked.2 a.class (avoids a.class 12 c.in_default.rest) asked.3) (code_numbers_lem a.s.now (node_of a.n) asked.2 (code_else a.s.now (node_of a.n) asked.2 a.class (avoids a.class 12 c.in_default.rest) asked.3))) c.write_slice-in_default.ensures c.with_parts.ensures
