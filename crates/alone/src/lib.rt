@@ -1,1 +1,2 @@
 // What is promised of the bytes of a node, from its header to its end: definitions and theorems only.
+#![tactic(auto)]

@@ -1,5 +1,7 @@
 // 02's K6: a line table that comes by piece. Three calls: the start, each piece, and the end, "a final call, without bytes, that says it has
 // ended". Between them a state of forty numbers, lent by the caller, keeps where the reading stands.
+#![tactic(auto)]
+
 ghost use Rattle.std.specs.Prelude.{◌≡◌, false, [], ◌∷◌, ◌-◌, ◌≤◌, min, length};
 ghost use Rattle.std.proofs.lemmas.List.Edits.{sets};
 ghost use Rattle.linetable.specs.Answer.{first_line_of};

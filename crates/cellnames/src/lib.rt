@@ -1,5 +1,7 @@
 // The groups of a code's local names: which names are written as Local, Cell or Free. A cell's name is compared with the Local ones.
 // Everything here only reads; the names are sound strings, as `writecheck` has tested them.
+#![tactic(auto)]
+
 ghost use Rattle.std.specs.Prelude.{◌≡◌, true, ◌&&◌, ◌+◌, ◌≤◌, ◌<◌, length};
 ghost use Rattle.grammar.specs.Fields.{contents};
 ghost use Rattle.localsplus.specs.Kind;

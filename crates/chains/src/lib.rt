@@ -1,5 +1,7 @@
 // What the writer asks of chains and leaves in the stores it is lent: whether entries are linked, and whether a node is sound bytes or a sound
 // string. Everything here only reads, and holds for any stores whatever: a number past a store reads as 0, as the definitions have it.
+#![tactic(auto)]
+
 ghost use Rattle.std.specs.Prelude.{◌≡◌, ◌*◌, ◌≤◌, length};
 ghost use Rattle.refusals.specs.Limits.{most_bytes, most_records};
 ghost use Rattle.grammar.specs.Letters;

@@ -1,4 +1,6 @@
 // Clearing a store that was lent, so that what is not written there is zero, and all of it where a call is refused.
+#![tactic(auto)]
+
 ghost use Rattle.std.specs.Prelude.{◌≡◌, length};
 ghost use Rattle.clearing.specs.Lent.{zeros};
 

@@ -1,4 +1,6 @@
 // Bytes of one slice, one after another, into another: for files that are put together of parts of others.
+#![tactic(auto)]
+
 ghost use Rattle.std.specs.Prelude.{◌≡◌, ◌+◌, ◌≤◌, length, take, drop};
 ghost use Rattle.std.proofs.lemmas.List.Edits.{sets};
 

@@ -1,5 +1,7 @@
 // Numbers of 64 bits in decimal digits, put behind what is written: K14's totals are printed with it.
 // How many digits there are is counted first; they are then stored from the last to the first.
+#![tactic(auto)]
+
 ghost use Rattle.std.specs.Prelude.{◌≡◌, ◌+◌, ◌≤◌, length};
 ghost use Rattle.std.proofs.lemmas.List.Edits.{sets};
 ghost use Rattle.decimals.specs.Decimal.{decimal};

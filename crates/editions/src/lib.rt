@@ -1,5 +1,7 @@
 // An archive of editions: the file of an edition is found by one walk over the archive, which tests every saved file; a file is saved behind
 // the others. The old archive is only read.
+#![tactic(auto)]
+
 ghost use Rattle.std.specs.Prelude.{◌≡◌, ◌++◌, ℕ, ◌+◌, ◌≤◌, ◌<◌, min, length};
 ghost use Rattle.std.proofs.lemmas.List.Edits.{sets};
 ghost use Rattle.refusals.specs.Limits.{nothing};

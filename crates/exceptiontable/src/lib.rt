@@ -1,5 +1,7 @@
 // The exception table of a code object: `decode_exception_table` and `encode_exception_table`, between bytes and lent stores of five
 // numbers an entry. Reading takes varints as K5 has them; writing puts each number behind the last, over a cleared output.
+#![tactic(auto)]
+
 ghost use Rattle.std.specs.Prelude.{◌≡◌, [], ◌∷◌, ◌+◌, ◌≤◌, ◌<◌, min, length, get_or};
 ghost use Rattle.std.proofs.lemmas.List.Edits.{sets};
 ghost use Rattle.refusals.specs.Limits.{most_bytes, nothing};

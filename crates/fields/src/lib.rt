@@ -1,5 +1,7 @@
 // What stands behind a header and is read without looking at any child: numbers, classes of letters, and the fields of each class.
 // The reader asks it of a header that it has read, and the record test of a node that claims to have been read.
+#![tactic(auto)]
+
 ghost use Rattle.std.specs.Prelude.{◌≡◌, ◌+◌, ◌*◌, ◌%◌, ◌≤◌, ◌<◌, length};
 ghost use Rattle.refusals.specs.Limits.{most_bytes};
 ghost use Rattle.grammar.specs.Letters.{class_of, keeps, contains, codes, fixed, double, long, bytes, text, short, sequence, few};

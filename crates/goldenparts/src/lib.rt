@@ -1,5 +1,7 @@
 // Golden files taken apart: the old form, which is two values back to back, and the new one, which has them in fields. Both values are
 // read before either is judged. The stores are working room and zero afterwards.
+#![tactic(auto)]
+
 ghost use Rattle.std.specs.Prelude.{◌≡◌, ◌+◌, ◌≤◌, ◌<◌, eqb, length, get_or};
 ghost use Rattle.std.proofs.Math.Option.{none};
 ghost use Rattle.clearing.specs.Lent.{zeros};

@@ -1,5 +1,7 @@
 // Golden files moved from the old form into fields, and back. Both values are read before a byte is written; the stores are working room,
 // zero afterwards, and a refused move leaves the output zero.
+#![tactic(auto)]
+
 ghost use Rattle.std.specs.Prelude.{◌≡◌, [], ◌∷◌, ◌++◌, ◌+◌, ◌/◌, ◌%◌, ◌≤◌, ◌<◌, min, length, take, drop};
 ghost use Rattle.std.proofs.lemmas.List.Edits.{sets};
 ghost use Rattle.refusals.specs.Limits.{nothing};

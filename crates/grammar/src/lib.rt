@@ -1,5 +1,6 @@
 // What bytes mean and in which order room is asked for: definitions and theorems, which reader, leaf question, writer and promises cite.
 // For the code of these crates 01's letters and the parts of a code are named here, as `specs/LetterNames` and `specs/Steps` name them.
+#![tactic(auto)]
 
 // One value each: N F T S .
 pub const NONE_LETTER: u32 = 0x4E;

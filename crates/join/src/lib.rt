@@ -1,5 +1,7 @@
 // 02's K12: one line table behind another, where the first is whole and leaves the line from which the second is whole; and the running
 // line of a table, without its records.
+#![tactic(auto)]
+
 ghost use Rattle.std.specs.Prelude.{◌≡◌, Bool, true, false, ◌++◌, ◌+◌, ◌≤◌, length, ltb};
 ghost use Rattle.std.proofs.lemmas.List.Edits.{sets};
 ghost use Rattle.refusals.specs.Limits.{most_bytes};

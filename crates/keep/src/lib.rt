@@ -1,5 +1,7 @@
 // The move of a node and everything reachable from it to the front of the stores.
 // The visit tests everything and writes only to the scratch, so that a refused move leaves the stores as they were.
+#![tactic(auto)]
+
 ghost use Rattle.std.specs.Prelude.{◌≡◌, ◌+◌, ◌*◌, ◌≤◌, ◌<◌, length};
 ghost use Rattle.keep.specs.Kept.{Limits, Keeps, refused_as, within, kept_of, need};
 

@@ -1,5 +1,7 @@
 // The moved records, gathered in the scratch and laid over the stores, one number of each record after another.
 // Gathering reads the stores as they were and laying writes them, so that nothing is read from a store that is half moved.
+#![tactic(auto)]
+
 ghost use Rattle.std.specs.Prelude.{◌≡◌, ◌+◌, ◌*◌, ◌≤◌, ◌<◌, length, get_or, take, drop};
 ghost use Rattle.std.proofs.lemmas.List.Edits.{sets};
 ghost use Rattle.refusals.specs.Limits.{most_records};

@@ -1,5 +1,7 @@
 // The visit behind a move: it tests all that the move reaches and writes only to the scratch.
 // The scratch: the order of first visit, then each node's new number and one more, then marks of the entries met; pending nodes at its end.
+#![tactic(auto)]
+
 ghost use Rattle.std.specs.Prelude.{◌≡◌, ◌+◌, ◌*◌, ◌≤◌, ◌<◌, length};
 ghost use Rattle.std.proofs.lemmas.List.Edits.{sets};
 ghost use Rattle.keepvisit.specs.Visit.{linked, children_of, stores, visit_from};

@@ -1,5 +1,7 @@
 // The leaf question: what a node without children is, for any node store.
 // Whole numbers and floats are read from the input at the node's place; a float's stored bits stand beside it.
+#![tactic(auto)]
+
 ghost use Rattle.std.specs.Prelude.{◌≡◌, true, not, ◌+◌, ◌*◌, ◌≤◌, ◌<◌, length};
 ghost use Rattle.std.specs.Float.{nan, binary64};
 ghost use Rattle.std.specs.Float.Ieee.{of_bits};

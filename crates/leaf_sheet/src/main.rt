@@ -1,5 +1,7 @@
 // Leaf answers, a line each: the bytes of a value, or of one node's fields, and what the node is or why it is refused.
 // Numbers stand beside a case as its 64 bits, so that a NaN shows which one was stored.
+#![tactic(auto)]
+
 use leaf::{Answered, Leaf};
 use printing::{say, say_bits, say_bytes, say_number, say_refused};
 use reader::Outcome;

@@ -1,6 +1,8 @@
 // One entry of a location table: its bytes, its varints, its lines, and the location that it gives to some instructions.
 // `linetable` walks a whole table by it, most entries as `quick` reads them. A line, or a step from line to line, is kept as the number plus
 // 2^31, as `ORIGIN` says.
+#![tactic(auto)]
+
 ghost use Rattle.std.specs.Prelude.{◌≡◌, ◌<◌, ◌≤◌, max};
 ghost use Rattle.lineentry.specs.Varint.{byte_at, varint_within, varint_at, signed_at};
 ghost use Rattle.lineentry.specs.Line.{as_signed, moved, shown};

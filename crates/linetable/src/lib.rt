@@ -1,5 +1,7 @@
 // The location table of a code object: `linetable_to_locations`, into a lent store of numbers and into a slice of `Location`.
 // The contracts cite one reading of the table, `located`, which gives the answer and what every lent store holds.
+#![tactic(auto)]
+
 ghost use Rattle.std.specs.Prelude.{◌≡◌, not, ◌&&◌, ◌||◌, ◌+◌, ◌-◌, ◌*◌, ◌/◌, ◌<◌, ◌≤◌, min, length, replicate, eqb};
 ghost use Rattle.std.proofs.lemmas.List.Edits.{sets};
 ghost use Rattle.refusals.specs.Limits.{most_bytes};

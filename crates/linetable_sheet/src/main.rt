@@ -1,5 +1,7 @@
 // 01's sheet of the location table and cases that its text settles, run through `linetable_to_records` and `locate_node`.
 // Each case prints its name, what is answered, and a line for each record: line:column - end line:end column.
+#![tactic(auto)]
+
 use linetable::Located;
 use printing::{say, say_number, say_refused};
 use reader::Outcome;

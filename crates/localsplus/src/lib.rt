@@ -1,5 +1,7 @@
 // `split_localplus`: the local names of a code object by their kinds, into five lent stores.
 // The checks come first and touch no store; then each list is written by one walk over the kind bytes.
+#![tactic(auto)]
+
 ghost use Rattle.std.specs.Prelude.{◌≡◌, ◌+◌, ◌≤◌, ◌<◌, length};
 ghost use Rattle.refusals.specs.Limits.{most_bytes, nothing};
 ghost use Rattle.clearing.specs.Lent.{padded};

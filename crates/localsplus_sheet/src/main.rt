@@ -1,5 +1,7 @@
 // Prints splits in lines for a person: the answer, then every store whole, a dash standing for none.
 // The stores are lent full of sevens, so that what is not written shows as cleared.
+#![tactic(auto)]
+
 use localsplus::Split;
 use printing::{say, say_field, say_refused, say_store};
 

@@ -1,4 +1,6 @@
 // The line table of a code object by its node: the slice at a bytes node's place and size is handed on to the location reader.
+#![tactic(auto)]
+
 ghost use Rattle.std.specs.Prelude.{◌≡◌, length};
 ghost use Rattle.linetable.specs.Answer.{answer, records_of};
 ghost use Rattle.locate.specs.Part.{located_node};

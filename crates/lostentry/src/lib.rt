@@ -1,4 +1,6 @@
 // The test of an entry that is lost: it refuses however its bytes go on. 02's K6 gives an 18 in the call whose bytes first show one.
+#![tactic(auto)]
+
 ghost use Rattle.std.specs.Prelude.{◌≡◌};
 ghost use Rattle.lineentry.specs.Varint.{varint_at, signed_of};
 ghost use Rattle.lostentry.specs.Lost.{cut_early, end_open, may_heal, lost};

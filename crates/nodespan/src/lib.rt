@@ -1,5 +1,7 @@
 // Where a node's bytes begin and end, and whether they stand alone: answered from the stores, for any stores.
 // The nodes are gone through once for each of the two counts, and the chains of those inside: together no more steps than entries are used.
+#![tactic(auto)]
+
 ghost use Rattle.std.specs.Prelude.{◌≡◌, ◌&&◌, [], get_or, ◌+◌, ◌≤◌, ◌<◌};
 ghost use Rattle.refusals.specs.Limits.{most_records};
 ghost use Rattle.grammar.specs.Letters.{flag_of, class_of};

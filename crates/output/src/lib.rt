@@ -1,5 +1,7 @@
 // Bytes put into the output behind those that are written: every test of its room stands here.
 // What a value's own bytes are is `writing`'s Canonical; where they come from is the caller's.
+#![tactic(auto)]
+
 ghost use Rattle.std.specs.Prelude.{◌≡◌, [], ◌∷◌, ◌+◌, ◌≤◌, length};
 ghost use Rattle.std.proofs.lemmas.List.Edits.{sets};
 ghost use Rattle.grammar.specs.Fields.{contents};

@@ -1,5 +1,7 @@
 // Integers put into the output: those in signed 32 bits as `i`, others as `l` with the fewest digits.
 // What is written is `writing`'s Canonical `integer_bytes`; room is tested by `output`'s rules.
+#![tactic(auto)]
+
 ghost use Rattle.std.specs.Prelude.{◌≡◌, ◌+◌, ◌*◌, ◌≤◌, ◌<◌, length};
 ghost use Rattle.std.proofs.lemmas.List.Edits.{sets};
 ghost use Rattle.refusals.specs.Limits.{most_bytes};

@@ -1,5 +1,7 @@
 // A code's strings put into the output: short ASCII ones with a length of one byte, all others with four.
 // What is written is `writing`'s Canonical `code_string`; room is tested by `output`'s rules.
+#![tactic(auto)]
+
 ghost use Rattle.std.specs.Prelude.{◌≡◌, ◌∷◌, ◌+◌, ◌≤◌, ◌<◌, length};
 ghost use Rattle.grammar.specs.LetterNames.{short_letter};
 ghost use Rattle.grammar.specs.Fields.{contents};

@@ -1,5 +1,7 @@
 // 02's K6: a piece of a line table, behind the bytes of an entry that is not complete. It writes the records that its entries place and
 // leaves in the state where the reading then stands.
+#![tactic(auto)]
+
 ghost use Rattle.std.specs.Prelude.{◌≡◌, false, [], ◌∷◌, ◌++◌, ◌+◌, ◌*◌, ◌≤◌, min, length, take};
 ghost use Rattle.std.proofs.lemmas.List.Edits.{sets};
 ghost use Rattle.refusals.specs.Limits.{most_bytes};

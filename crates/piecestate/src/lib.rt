@@ -1,5 +1,7 @@
 // 02's K6: what is kept between the calls of a reading by piece, as forty numbers of a lent store, and the test of which numbers are a state
 // that a call leaves.
+#![tactic(auto)]
+
 ghost use Rattle.std.specs.Prelude.{◌≡◌, false, ◌∷◌, ◌≤◌, ◌<◌, length};
 ghost use Rattle.std.proofs.lemmas.List.Edits.{sets};
 ghost use Rattle.clearing.specs.Lent.{zeros};

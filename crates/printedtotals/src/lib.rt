@@ -1,5 +1,7 @@
 // K14's totals as text, over a cleared output: its size is counted first, then the lines are put one behind another.
 // Each line is a counter's label, its count in decimal digits, and a newline.
+#![tactic(auto)]
+
 ghost use Rattle.std.specs.Prelude.{◌≡◌, ◌+◌, ◌≤◌, length, set};
 ghost use Rattle.std.proofs.lemmas.List.Edits.{sets};
 ghost use Rattle.totals.specs.Totals.{counters, held_in};

@@ -1,5 +1,7 @@
 // What the programs `*_sheet` print with, on the standard output: text, numbers, bytes, stores, and a refusal with its place.
 // Nothing of the port calls it.
+#![tactic(auto)]
+
 use libc::STDOUT_FILENO;
 
 pub fn say(text: &[u8]) {

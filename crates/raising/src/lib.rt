@@ -1,5 +1,7 @@
 // The numbers of a new read raised in its stores, behind what is kept: one loop over the nodes, one over the entries, one over the slots.
 // Only numbers that a reading left are raised; their sums have 32 bits.
+#![tactic(auto)]
+
 ghost use Rattle.std.specs.Prelude.{◌≡◌, ◌+◌, ◌*◌, ◌%◌, ◌≤◌, length};
 ghost use Rattle.refusals.specs.Limits.{nothing};
 ghost use Rattle.grammar.specs.State.{node_width, entry_width, node_at, entry_at};

@@ -1,5 +1,7 @@
 // One value of a golden, read from its part of the file alone. The stores are working room: each value has all of it, and it is zero
 // afterwards.
+#![tactic(auto)]
+
 ghost use Rattle.std.specs.Prelude.{◌≡◌, ◌≤◌, length};
 ghost use Rattle.clearing.specs.Lent.{zeros};
 ghost use Rattle.reader.specs.Delivered;

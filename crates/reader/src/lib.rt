@@ -1,5 +1,7 @@
 // The reader: `deserialize_value`, and below it a reader of values and a reader of containers and of code that call one another.
 // The nesting allowance falls from a value to its container or its code's body, and from a code's body to its parts once more.
+#![tactic(auto)]
+
 ghost use Rattle.std.specs.Prelude.{◌≡◌, ℕ, ◌+◌, ◌*◌, ◌≤◌, ◌<◌, length, get_or};
 ghost use Rattle.grammar.specs.Answer.{read_of};
 ghost use Rattle.fields.specs.Headers.{tables_lent};

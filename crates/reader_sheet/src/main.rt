@@ -1,5 +1,7 @@
 // Reads document 01's sheets P1 to P12, a code object and some refusals of room, and prints of each the answer and the stores whole, a
 // dash standing for "no entry". The stores are lent full of sevens, so that what is not written shows as cleared.
+#![tactic(auto)]
+
 use printing::{say, say_field, say_refused, say_store};
 use reader::Outcome;
 

@@ -1,5 +1,7 @@
 // Plain values, a reference or a leaf that a few steps read, and the loop over children as long as they are plain. Most children are,
 // and a loop in which no reader calls itself is some five times as fast. What is not plain is left to the reader of any value.
+#![tactic(auto)]
+
 ghost use Rattle.std.specs.Prelude.{◌≡◌, ◌+◌, ◌≤◌, ◌<◌, length};
 ghost use Rattle.refusals.specs.Limits.{most_bytes, most_records};
 ghost use Rattle.wtf8.specs.Leads.{lead_table};

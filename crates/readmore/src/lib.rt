@@ -1,5 +1,7 @@
 // One more value read behind kept nodes and entries. The plain reading takes the room that is left, and then what it wrote is raised.
 // The kept part is never written: refused, it is as it was and all behind it is zero.
+#![tactic(auto)]
+
 ghost use Rattle.std.specs.Prelude.{◌≡◌, ◌+◌, ◌*◌, ◌≤◌, length};
 ghost use Rattle.grammar.specs.State.{node_capacity, entry_capacity};
 ghost use Rattle.reader.specs.Delivered.{Delivers};

@@ -1,5 +1,7 @@
 // The steps of the reader that call no other reading: what stands in front of a value's children, a child's entry, a part's rule,
 // a code's first line and its end. Each is the definition of its name in `grammar`, over the lent stores.
+#![tactic(auto)]
+
 ghost use Rattle.std.specs.Prelude.{◌≡◌, ℕ, ◌+◌, ◌*◌, ◌≤◌, ◌<◌, cond, eqb, length, get_or};
 ghost use Rattle.refusals.specs.Limits.{most_bytes, most_records, nothing};
 ghost use Rattle.grammar.specs.Letters.{is_bytes, is_tuple, is_string};

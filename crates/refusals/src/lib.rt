@@ -1,5 +1,6 @@
 // The refusal numbers of documents 01 and 02 and the limits of 01, each named once for the code of every crate.
 // `specs/Numbers` and `specs/Limits` name the same numbers for the definitions.
+#![tactic(auto)]
 
 pub const ACCEPTED: u32 = 0;
 

@@ -1,5 +1,7 @@
 // One walk over a line table without records: the row of its complete entries, how it ends and where. Whatever repairs, joins or reads
 // a table by piece takes from this walk what it needs.
+#![tactic(auto)]
+
 ghost use Rattle.std.specs.Prelude.{◌≡◌, ◌≤◌, length};
 ghost use Rattle.refusals.specs.Limits.{most_bytes};
 ghost use Rattle.rows.specs.Summary.{summary};

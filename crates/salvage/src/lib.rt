@@ -1,4 +1,6 @@
 // 02's K9: a repair of a line table that makes a whole one of what it keeps, and lists what it changed.
+#![tactic(auto)]
+
 ghost use Rattle.std.specs.Prelude.{◌≡◌, ◌++◌, ◌+◌, ◌/◌, ◌<◌, ◌≤◌, min, length, set, take, drop};
 ghost use Rattle.std.proofs.lemmas.List.Edits.{sets};
 ghost use Rattle.linetable.specs.Answer.{first_line_of};

@@ -1,5 +1,7 @@
 // Cases that 02's K9 and its readings settle, run through `salvage_table`: how many bytes are written, the list, and the store,
 // which was lent full of ones, so that a line also shows that the rest of it is cleared.
+#![tactic(auto)]
+
 use printing::{say, say_bytes, say_number, say_refused};
 use salvage::Salvaged;
 

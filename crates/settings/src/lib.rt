@@ -1,4 +1,6 @@
 // Compare settings: the lookup of a tag in a customer's file and, where it lacks it, in the defaults; and the rewriting of a file.
+#![tactic(auto)]
+
 ghost use Rattle.std.specs.Prelude.{◌≡◌, length};
 ghost use Rattle.settings.specs.Setting.{setting_of, contents_of, refused_with};
 

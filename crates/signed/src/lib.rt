@@ -1,5 +1,7 @@
 // Signed numbers and their bits in two's complement, the one place where the port goes from one to the other; and a byte as a wide number.
 // Everything below works on the bits, or on a line with an offset, so that its facts are facts of unsigned numbers.
+#![tactic(auto)]
+
 ghost use Rattle.std.specs.Prelude.{◌≡◌, ◌<◌};
 ghost use Rattle.std.specs.Int.{w32, w64};
 ghost use Rattle.std.proofs.Common.{to_z, of_z};

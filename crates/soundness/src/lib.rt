@@ -1,5 +1,7 @@
 // The record test behind refusal 16, for any node store, also one that no reading made: the leaf question and the writer ask it.
 // Only a node's own numbers are tested: chains, and what the parts of a code are, are the writer's.
+#![tactic(auto)]
+
 ghost use Rattle.std.specs.Prelude.{◌≡◌, true, ◌+◌, ◌≤◌, ◌<◌, length};
 ghost use Rattle.refusals.specs.Limits.{most_bytes};
 ghost use Rattle.grammar.specs.Letters.{codes, is_string};

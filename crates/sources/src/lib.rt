@@ -1,5 +1,7 @@
 // Where each instruction's place comes from: a byte for each, which tells whether an entry gave it, what the entry has, and whether a byte of
 // the entry was missing. The walk is `linetable`'s, with a byte where that has a record.
+#![tactic(auto)]
+
 ghost use Rattle.std.specs.Prelude.{◌≡◌, ◌&&◌, not, cond, ◌+◌, ◌-◌, ◌<◌, ◌≤◌, min, length, replicate, leb};
 ghost use Rattle.std.proofs.lemmas.List.Edits.{sets};
 ghost use Rattle.refusals.specs.Limits.{most_bytes};

@@ -1,4 +1,6 @@
 // 02's K4: two questions of an index of row starts, answered by its own words whatever they hold.
+#![tactic(auto)]
+
 ghost use Rattle.std.specs.Prelude.{◌≡◌, ◌+◌, ◌-◌, ◌*◌, ◌/◌, ◌%◌, ◌^◌, ◌<◌, ◌≤◌, length};
 ghost use Rattle.startindex.specs.Index.{blocks_of};
 ghost use Rattle.starts.specs.Questions.{ones_of, before, block_with, kth_bit, kth_of, in_count, kth, told, starts_before, start_at};

@@ -1,5 +1,7 @@
 // The records of the three lent stores: how many a store holds, and a node's, an entry's and a slot's numbers, written and looked up.
 // Only here the code knows how many numbers a record is and where each of them stands; claiming a record writes nothing.
+#![tactic(auto)]
+
 ghost use Rattle.std.specs.Prelude.{◌≡◌, ◌+◌, ◌≤◌, ◌<◌, min, length, get_or};
 ghost use Rattle.grammar.specs.State.{node_at, entry_at, node_capacity, entry_capacity};
 ghost use Rattle.grammar.specs.Record;

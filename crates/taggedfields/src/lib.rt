@@ -1,5 +1,7 @@
 // Files of tagged fields: the first fault, the place of each tag, and where one tag's contents stand. `settings`, `editions` and golden files
 // in fields are read by these. One walk over the fields, with a place for each of the 256 tags, so that the cost is linear.
+#![tactic(auto)]
+
 ghost use Rattle.std.specs.Prelude.{◌≡◌, ℕ, ◌+◌, ◌*◌, ◌≤◌, ◌<◌, length, get_or};
 ghost use Rattle.clearing.specs.Lent.{zeros};
 ghost use Rattle.taggedfields.specs.Fields.{field_in};

@@ -1,5 +1,7 @@
 // K14's totals: answers are counted into 29 counters of 64 bits, and totals are added, from stores that are only read into one that is
 // lent. Each answer is one more in the cell of its own number; the first three counters follow from those.
+#![tactic(auto)]
+
 ghost use Rattle.std.specs.Prelude.{◌≡◌, ◌≤◌, length, get_or};
 ghost use Rattle.clearing.specs.Lent.{zeros};
 ghost use Rattle.totals.specs.Totals.{counters, held_in, plus, stored, totals_of, added_of};

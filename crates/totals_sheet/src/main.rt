@@ -1,5 +1,7 @@
 // 02's K14, run: three inputs, one of them refused 5, in its printed form; the same in a byte less; and the refusals of counting and
 // adding. The stores are lent full of ones, so that two of the counters also show that a refusal clears them.
+#![tactic(auto)]
+
 use printedtotals::Printed;
 use printing::{say, say_number, say_refused};
 use totals::Totalled;

@@ -1,5 +1,7 @@
 // The writers of `varint.rs`: numbers of 32 bits as groups of six, little-endian for line tables, big-endian for exception tables.
 // A number's leading zeros tell how many bytes it takes; a writer clears what it was lent, tests the room, and stores so many.
+#![tactic(auto)]
+
 ghost use Rattle.std.specs.Prelude.{◌≡◌, ◌+◌, ◌≤◌, length, ◌≢◌};
 ghost use Rattle.std.proofs.lemmas.List.Edits.{sets};
 ghost use Rattle.std.specs.Int.{w32};

@@ -1,5 +1,7 @@
 // 01's run sheet for varints: 64 in each form, read back and without room; then K5's: cut and too large. One answer to a line.
 // Each store is lent full of ones, so that a line also shows that the rest of it is cleared.
+#![tactic(auto)]
+
 use printing::{say, say_bytes, say_number, say_refused};
 use varint::Written;
 use varintread::Found;

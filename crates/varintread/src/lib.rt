@@ -1,5 +1,7 @@
 // The readers of `varint.rs`: big-endian numbers of 32 bits, as exception tables have them.
 // A number that is cut, or too large, is refused at its start.
+#![tactic(auto)]
+
 ghost use Rattle.std.specs.Prelude.{◌≡◌, ◌+◌, ◌*◌, ◌%◌, ◌≤◌, cond, ltb};
 ghost use Rattle.varintread.specs.Reading.{whole_at, read_varint, read_varint_with_start};
 

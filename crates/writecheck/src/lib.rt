@@ -1,5 +1,7 @@
 // What the writer asks of the stores it is lent before it writes a node: its record, its chain, and the parts of a code.
 // Everything here only reads, and holds for any stores whatever: a number past a store reads as 0, as the definitions have it.
+#![tactic(auto)]
+
 ghost use Rattle.std.specs.Prelude.{◌≡◌, ◌≤◌, ◌<◌, length, get_or};
 ghost use Rattle.refusals.specs.Limits.{most_bytes};
 ghost use Rattle.grammar.specs.State.{entry_at};

@@ -1,5 +1,7 @@
 // The writing of leaves of common kinds: an integer of four bytes, bytes, a string; and of a row of children as far as they are such.
 // Which leaves are taken is left open: what is not taken is left to the writer of values, and the writing is the same.
+#![tactic(auto)]
+
 ghost use Rattle.std.specs.Prelude.{◌≡◌, true, ◌-◌, ◌≤◌, length};
 ghost use Rattle.std.proofs.Math.Option.{none};
 ghost use Rattle.refusals.specs.Limits.{most_bytes};

@@ -1,5 +1,7 @@
 // The writing of a code's strings and names: a code string, a tuple of names, and the local names in their groups.
 // What is asked of the stores was tested with the code: the names of a chain are sound strings.
+#![tactic(auto)]
+
 ghost use Rattle.std.specs.Prelude.{◌≡◌, true, cond, ◌+◌, ◌≤◌, ◌<◌, length};
 ghost use Rattle.refusals.specs.Limits.{most_bytes};
 ghost use Rattle.writing.specs.Writing.{ended};

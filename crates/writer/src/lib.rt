@@ -1,5 +1,7 @@
 // The entry of writing: `serialize_value` with code objects, for any input, stores, counts, nesting and output.
 // It cuts the limits, has the value written, and clears what lies behind it, or all where the writing is refused.
+#![tactic(auto)]
+
 ghost use Rattle.std.specs.Prelude.{◌≡◌, ◌≤◌, min, length};
 ghost use Rattle.grammar.specs.Record.{tables_of};
 ghost use Rattle.writing.specs.Answer.{most_output};

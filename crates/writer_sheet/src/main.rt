@@ -1,5 +1,7 @@
 // Written values, a line each: a value is read, its root written from the stores, as they are or with one number of a node damaged. A line
 // has the answer and the whole output, which holds EE before each call, so that what the writer clears is seen.
+#![tactic(auto)]
+
 ghost use Rattle.std.specs.Prelude.{◌<◌};
 
 use output::Wrote;

@@ -1,5 +1,7 @@
 // The writing of a value of lent stores, whatever stands in them: a node up to its children, then its row or its parts.
 // A writer of values and writers of children and parts call one another, and the nesting allowance falls each time.
+#![tactic(auto)]
+
 ghost use Rattle.std.specs.Prelude.{◌≡◌, true, ◌+◌, ◌≤◌, length};
 ghost use Rattle.refusals.specs.Limits.{most_bytes};
 ghost use Rattle.grammar.specs.Letters.{class_of};

@@ -1,6 +1,8 @@
 // Whether bytes are UTF-8 with surrogate code points allowed: what the bytes of every string have to be.
 // ASCII is settled by whole blocks; only other bytes are gone through: by the table of first bytes where it is lent, as the reader
 // does, and else sequence by sequence, by comparisons of the first byte.
+#![tactic(auto)]
+
 ghost use Rattle.std.specs.Prelude.{◌≡◌, ℕ, ◌*◌, ◌≤◌, ◌<◌, length, get_or};
 ghost use Rattle.wtf8.specs.Ascii.{Greatest, Tells};
 ghost use Rattle.wtf8.specs.Forms.{well_formed, after_lead, point, trail};

@@ -1,5 +1,7 @@
 // Prints for some byte strings whether they are UTF-8 with surrogate code points allowed, a line each: yes or no, the bytes, what they are.
 // The bounds of the Unicode Standard's Table 3-7 are shown from both sides.
+#![tactic(auto)]
+
 ghost use Rattle.std.specs.Prelude.{◌≤◌, ◌<◌, length};
 
 use printing::{say, say_bytes};
