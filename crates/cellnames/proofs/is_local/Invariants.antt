@@ -9,7 +9,7 @@ abbrev pub invariant-loop-i : goal.invariant-loop-i
 invariant-loop-i l =
     let t = lent l.s l.nodes l.entries l.used in
     let name = contents l.s l.own.place l.own.size in
-    Along t (record { first = l.initial.e; l.count = l.count; l.kinds = l.kinds }) (asks t name) (answer t name (record { first = l.initial.e; l.count = l.count; l.kinds = l.kinds })) l.i l.e
+    Along t (record { first = l.initial.e; count = l.count; kinds = l.kinds }) (asks t name) (answer t name (record { first = l.initial.e; count = l.count; kinds = l.kinds })) l.i l.e
 
 abbrev pub decreases-loop-i : goal.decreases-loop-i
 decreases-loop-i l = l.count - l.i
