@@ -1,61 +1,56 @@
-// What the programs `*_sheet` print with, on the standard output: text, numbers, bytes, stores, and a refusal with its place.
+// What the programs `*_sheet` print with, to a writer: text, numbers, bytes, stores, and a refusal with its place.
 // Nothing of the port calls it.
 #![tactic(auto)]
 
-use libc::STDOUT_FILENO;
+use std::io;
+use std::io::Write;
 
-pub fn say(text: &[u8]) {
-    io::write_all(STDOUT_FILENO, text);
+pub fn say(out: &mut impl Write, text: &[u8]) -> io::Result<()> {
+    out.write_all(text)
 }
 
-pub fn say_number(n: u64) {
-    io::print_decimal(STDOUT_FILENO, n);
+pub fn say_number(out: &mut impl Write, n: u64) -> io::Result<()> {
+    write!(out, "{n}")
 }
 
 // A number after a blank; "no entry" is a dash.
-pub fn say_field(n: u32) {
+pub fn say_field(out: &mut impl Write, n: u32) -> io::Result<()> {
     if n == refusals::NOTHING {
-        say(b" -");
-        return;
+        return say(out, b" -");
     }
-    say(b" ");
-    say_number(n as u64);
+    say(out, b" ")?;
+    say_number(out, n as u64)
 }
 
 // A store on a line of its own.
-pub fn say_store(name: &[u8], store: &[u32]) {
-    say(name);
-    let mut i = 0;
-    while i < store.len() {
-        say_field(store[i]);
-        i += 1;
+pub fn say_store(out: &mut impl Write, name: &[u8], store: &[u32]) -> io::Result<()> {
+    say(out, name)?;
+    for &n in store {
+        say_field(out, n)?;
     }
-    say(b"\n");
+    say(out, b"\n")
 }
 
-fn say_byte(byte: u8) {
-    say(b" ");
-    io::print_hex(STDOUT_FILENO, byte as u64, 2);
+fn say_byte(out: &mut impl Write, byte: u8) -> io::Result<()> {
+    write!(out, " {byte:02x}")
 }
 
 // Each byte in hexadecimal after a blank.
-pub fn say_bytes(bytes: &[u8]) {
-    let mut i = 0;
-    while i < bytes.len() {
-        say_byte(bytes[i]);
-        i += 1;
+pub fn say_bytes(out: &mut impl Write, bytes: &[u8]) -> io::Result<()> {
+    for &byte in bytes {
+        say_byte(out, byte)?;
     }
+    Ok(())
 }
 
 // The 64 bits of a number in hexadecimal, after a blank.
-pub fn say_bits(bits: u64) {
-    say(b" ");
-    io::print_hex(STDOUT_FILENO, bits, 16);
+pub fn say_bits(out: &mut impl Write, bits: u64) -> io::Result<()> {
+    write!(out, " {bits:016x}")
 }
 
-pub fn say_refused(number: u32, place: u32) {
-    say(b"refused ");
-    say_number(number as u64);
-    say(b" at ");
-    say_number(place as u64);
+pub fn say_refused(out: &mut impl Write, number: u32, place: u32) -> io::Result<()> {
+    say(out, b"refused ")?;
+    say_number(out, number as u64)?;
+    say(out, b" at ")?;
+    say_number(out, place as u64)
 }
