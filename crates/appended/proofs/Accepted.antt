@@ -23,7 +23,7 @@ use Rattle.grammar.proofs.Exactness.{within-room}
 use Rattle.grammar.proofs.Contents.{accepted-reading, length-node_cells, length-entry_cells}
 use Rattle.grammar.proofs.Bounded as grammar
 use Rattle.grammar.proofs.Links.{child_of, next_of, More, Linked}
-use Rattle.grammar.proofs.ReadBack.{node_at, entry_at_lem, linked-read, tables_read}
+use Rattle.grammar.proofs.ReadBack.{node_at_lem, entry_at_lem, linked-read, tables_read}
 use Rattle.meaning.specs.Value.{Value}
 use Rattle.meaning.specs.Meaning.{value_of, tables_after}
 use Rattle.carried.proofs.Carried.{bare, AllKept, Carried}
@@ -146,7 +146,7 @@ module _ (s nodes entries : List ℕ) (slots nesting : ℕ) (k : Kept) where
 
     node-here : (n : ℕ) → n < length ns → node_at before.nodes n ≡ get_or ns n blank
     unfolding padded
-    node-here n l = node_at ns _ n l
+    node-here n l = node_at_lem ns _ n l
 
     entry_here : (e : ℕ) → e < length es → entry_at before.entries e ≡ get_or es e unlinked
     unfolding padded

@@ -13,7 +13,7 @@ use Rattle.clearing.specs.Lent.{padded}
 use Rattle.grammar.specs.State.{Node, Entry, blank, unlinked, node_width, entry_width, node_cells, entry_cells, node_at, entry_at}
 use Rattle.grammar.specs.Record.{Tables, put, chain, entries_in}
 use Rattle.grammar.proofs.Links.{child_of, next_of, More, Linked}
-use Rattle.grammar.proofs.ReadBack.{node_at, entry_at_lem}
+use Rattle.grammar.proofs.ReadBack.{node_at_lem, entry_at_lem}
 use Rattle.shifts.proofs.Raising.{map-get_in}
 use Rattle.raising.specs.Appended.{raised_link, appended_node, appended_entry}
 use Rattle.readmore.specs.More.{behind}
@@ -61,7 +61,7 @@ module _ (kept : ℕ) (store : List ℕ) (inside : kept * node_width ≤ length 
   unfolding padded
   node-behind kept_entries number ns n l =
       let f = appended_node kept_entries number in
-      node_far (node_cells (map f ns)) n ∙ node_at (map f ns) _ n (omega (arith, length-map ns f)) ∙ map-get_in f ns n blank blank l
+      node_far (node_cells (map f ns)) n ∙ node_at_lem (map f ns) _ n (omega (arith, length-map ns f)) ∙ map-get_in f ns n blank blank l
 
 -- an entry
 module _ (kept : ℕ) (store : List ℕ) (inside : kept * entry_width ≤ length store) where

@@ -18,7 +18,7 @@ use Rattle.meaning.specs.Value.{Value}
 use Rattle.meaning.specs.Meaning.{value_of}
 use Rattle.meaning.specs.Written.{written_as}
 use Rattle.meaning.proofs.AnyStores.{found_is_known}
-use Rattle.meaning.proofs.RoundTrip.{written_as, written_over}
+use Rattle.meaning.proofs.RoundTrip.{written_as_lem, written_over}
 
 abbrev answer_for : Value → (room : ℕ) → Answer (List ℕ)
 answer_for v room = cond (ltb (min room most_output) (length (written_as v))) (stops no_room (min room most_output)) (gives (written_as v))
@@ -33,7 +33,7 @@ by_value t bytes small n nesting room v e = go (ltb (min room most_output) (leng
         written_over t n v small k.means k.proper nesting k.deep room (ltb-true (min room most_output) (length (written_as v)) p)
     go false p =
         let k = found_is_known t bytes small (min nesting most_nesting) n v e in
-        written_as t n v small k.means k.proper nesting k.deep room (ltb-false (min room most_output) (length (written_as v)) p)
+        written_as_lem t n v small k.means k.proper nesting k.deep room (ltb-false (min room most_output) (length (written_as v)) p)
 
 pub written-alike : (t t' : Tables) → Bytes t.input → Bytes t'.input → length t.input ≤ most_bytes → length t'.input ≤ most_bytes → (n n' nesting room : ℕ) (v : Value)
     → value_of (min nesting most_nesting) t n ≡ some v → value_of (min nesting most_nesting) t' n' ≡ some v → written t n nesting room ≡ written t' n' nesting room

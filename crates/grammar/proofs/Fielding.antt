@@ -173,8 +173,8 @@ filled_counted s at (items k) c h e = eq-eqb (length c.kids) k e
 filled_counted s at pairs c h e = eq-eqb (length c.kids % 2) 0 e
 filled_counted s at parts c h e = absurd h
 
-reads_as : (r : Answer Fields) (f : Fields) (n : Node) → r ≡ gives f → n.size ≡ f.size → counted f.children n.count ≡ true → reads_as r n ≡ true
-reads_as r f n e z k = rw e (both (eqb n.size f.size) (counted f.children n.count) (eq-eqb n.size f.size z) k)
+reads_as_lem : (r : Answer Fields) (f : Fields) (n : Node) → r ≡ gives f → n.size ≡ f.size → counted f.children n.count ≡ true → reads_as r n ≡ true
+reads_as_lem r f n e z k = rw e (both (eqb n.size f.size) (counted f.children n.count) (eq-eqb n.size f.size z) k)
 
 ruled-sound : (s : List ℕ) → Bytes s → (l at : ℕ) (f : Fields) (c : Chain) (cl : Class) → Said s cl at f → Filled s at f.children c
     → ((closing l f c).place + (closing l f c).size ≤ length s) × (ruled s (closing l f c) cl ≡ true)
@@ -182,7 +182,7 @@ ruled-sound s bytes l at f c refers said filled = absurd said
 ruled-sound s bytes l at f c (refuses n) said filled = absurd said
 ruled-sound s bytes l at f c (keeps form) said filled =
     let z = plain_size f.children f.place f.size c.line said.children in
-    (omega (arith, z, said.within), reads_as (fields s form f.place) f (closing l f c) (ap (fields s form) said.place ∙ said.told) z (filled_counted s at f.children c said.children filled))
+    (omega (arith, z, said.within), reads_as_lem (fields s form f.place) f (closing l f c) (ap (fields s form) said.place ∙ said.told) z (filled_counted s at f.children c said.children filled))
 ruled-sound s bytes l at f c (contains sort) said filled =
     let no_parts_here : NotParts f.children = rw said.children tt in
     let z = plain_size f.children f.place f.size c.line no_parts_here in (

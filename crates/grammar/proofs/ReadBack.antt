@@ -24,10 +24,10 @@ use Rattle.grammar.proofs.Bounded.{Accepted}
 use Rattle.grammar.proofs.Contents.{gives-within, accepted-reading, Fits, records_fit}
 
 -- The records of a store, in front of whatever follows them.
-pub node_at : (ns : List Node) (rest : List ℕ) (n : ℕ) → n < length ns → node_at (node_cells ns ++ rest) n ≡ get_or ns n blank
-node_at [] rest n h = absurd (omega arith)
-node_at (x ∷ ns) rest zero h = refl
-node_at (x ∷ ns) rest (suc n) h =
+pub node_at_lem : (ns : List Node) (rest : List ℕ) (n : ℕ) → n < length ns → node_at (node_cells ns ++ rest) n ≡ get_or ns n blank
+node_at_lem [] rest n h = absurd (omega arith)
+node_at_lem (x ∷ ns) rest zero h = refl
+node_at_lem (x ∷ ns) rest (suc n) h =
     let e₀ : suc n * node_width ≡ suc (suc (suc (suc (suc (suc (suc (n * node_width))))))) = omega arith in
     let e₁ : suc n * node_width + 1 ≡ suc (suc (suc (suc (suc (suc (suc (n * node_width + 1))))))) = omega arith in
     let e₂ : suc n * node_width + 2 ≡ suc (suc (suc (suc (suc (suc (suc (n * node_width + 2))))))) = omega arith in
@@ -35,7 +35,7 @@ node_at (x ∷ ns) rest (suc n) h =
     let e₄ : suc n * node_width + 4 ≡ suc (suc (suc (suc (suc (suc (suc (n * node_width + 4))))))) = omega arith in
     let e₅ : suc n * node_width + 5 ≡ suc (suc (suc (suc (suc (suc (suc (n * node_width + 5))))))) = omega arith in
     let e₆ : suc n * node_width + 6 ≡ suc (suc (suc (suc (suc (suc (suc (n * node_width + 6))))))) = omega arith in
-    rw (e₁, e₂, e₃, e₄, e₅, e₆, e₀) (node_at ns rest n (omega arith))
+    rw (e₁, e₂, e₃, e₄, e₅, e₆, e₀) (node_at_lem ns rest n (omega arith))
 
 pub entry_at_lem : (es : List Entry) (rest : List ℕ) (e : ℕ) → e < length es → entry_at (entry_cells es ++ rest) e ≡ get_or es e unlinked
 entry_at_lem [] rest e h = absurd (omega arith)
@@ -91,7 +91,7 @@ module _ (s : List ℕ) (bytes : Bytes s) (nodes entries slots nesting : ℕ) (r
 
   pub node_held : (n : ℕ) → n < length r.1.nodes → node_at (nodes_held nodes (gives r)) n ≡ get_or r.1.nodes n blank
   unfolding padded
-  node_held n l = node_at r.1.nodes _ n l
+  node_held n l = node_at_lem r.1.nodes _ n l
 
   pub entry_held : (i : ℕ) → i < length r.1.entries → entry_at (entries_held entries (gives r)) i ≡ get_or r.1.entries i unlinked
   unfolding padded

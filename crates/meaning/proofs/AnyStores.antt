@@ -39,7 +39,7 @@ use Rattle.meaning.proofs.Emits.{InTables}
 use Rattle.meaning.proofs.Sense.{CodeGood, sound_sense, reads-cond, digits-passed}
 use Rattle.meaning.proofs.Stores.{all_rules}
 use Rattle.meaning.proofs.Hostile.{good_parts}
-use Rattle.meaning.proofs.RoundTrip.{written_as, written_is}
+use Rattle.meaning.proofs.RoundTrip.{written_as_lem, written_is}
 use Rattle.meaning.proofs.Unique.{means_one, by_tables}
 
 -- A record without children has none.
@@ -294,7 +294,7 @@ module _ (t : Tables) (bytes : Bytes t.input) (small : length t.input ≤ most_b
   pub found_is_written : (n nesting room : ℕ) (v : Value) → value_of (min nesting most_nesting) t n ≡ some v → length (written_as v) ≤ min room most_output → written t n nesting room ≡ gives (written_as v)
   found_is_written n nesting room v e h =
       let k = found_is_known (min nesting most_nesting) n v e in
-      written_as t n v small k.means k.proper nesting k.deep room h
+      written_as_lem t n v small k.means k.proper nesting k.deep room h
 
   -- .. and, its codes in name order, as v's canonical bytes.
   pub found_in-order_is_written : (n nesting room : ℕ) (v : Value) → value_of (min nesting most_nesting) t n ≡ some v → InOrder v → length (canonical v) ≤ min room most_output → written t n nesting room ≡ gives (canonical v)

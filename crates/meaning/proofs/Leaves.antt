@@ -138,8 +138,8 @@ module _ (s : List ℕ) (small : length s ≤ most_bytes) (bytes : Bytes s) wher
       (λ P n c p. (c.kids, subst (P n c.kids) (ap (λ a. shape.complex a (le64 s (st.at + 1 + 8))) w ∙ ap (shape.complex x) u) p)))
 
   -- s, u, z
-  not_negative : (n : ℕ) → n < lengths → not_negative n ≡ true
-  not_negative n h = lt-ltb n 2147483648 h
+  not_negative_lem : (n : ℕ) → n < lengths → not_negative n ≡ true
+  not_negative_lem n h = lt-ltb n 2147483648 h
 
   pub bytes-reads : (cs : List ℕ) → length cs < lengths → Reads s small bytes (sized 0x73 cs) (byte_string cs)
   unfolding class_of letters found contained nodes_of entries_of depth_of Means
@@ -153,7 +153,7 @@ module _ (s : List ℕ) (small : length s ≤ most_bytes) (bytes : Bytes s) wher
       let k = contents_at s (st.at + 1 + 4) cs rest (drop_at s (st.at + 1) (bytes32 (length cs) ++ (cs ++ rest)) d 4) in
       leaf_goes (byte_string cs) (suc (length (bytes32 (length cs) ++ cs))) depth fuel st t h 0x73 (st.at + 1 + 4) (length cs)
       (contained-front s depth st.at (length st.nodes) (length st.slots) st.slots 0x73 (omega arith) (omega (arith, lg)) (byte_first s st.at (0x73 ∷ (bytes32 (length cs) ++ (cs ++ rest))) dr) letter.bytes _ refl
-      (rw (le-leb (st.at + 1 + 4) (length s) (omega (arith, lg)), w, not_negative (length cs) hl, le-leb (st.at + 1 + 4 + length cs) (length s) (omega (arith, lg, ln))) refl))
+      (rw (le-leb (st.at + 1 + 4) (length s) (omega (arith, lg)), w, not_negative_lem (length cs) hl, le-leb (st.at + 1 + 4 + length cs) (length s) (omega (arith, lg, ln))) refl))
       (omega arith) (omega arith) (omega (arith, lg, ln)) refl refl refl
       (λ P n c p. (c.kids, subst (P n c.kids) (ap shape.bytes k) p)))
 
@@ -169,7 +169,7 @@ module _ (s : List ℕ) (small : length s ≤ most_bytes) (bytes : Bytes s) wher
       let k = contents_at s (st.at + 1 + 4) cs rest (drop_at s (st.at + 1) (bytes32 (length cs) ++ (cs ++ rest)) d 4) in
       leaf_goes (text cs) (suc (length (bytes32 (length cs) ++ cs))) depth fuel st t h 0x75 (st.at + 1 + 4) (length cs)
       (contained-front s depth st.at (length st.nodes) (length st.slots) st.slots 0x75 (omega arith) (omega (arith, lg)) (byte_first s st.at (0x75 ∷ (bytes32 (length cs) ++ (cs ++ rest))) dr) letter.text _ refl
-      (rw (le-leb (st.at + 1 + 4) (length s) (omega (arith, lg)), w, not_negative (length cs) hl, le-leb (st.at + 1 + 4 + length cs) (length s) (omega (arith, lg, ln)), ap well_formed k ∙ wf) refl))
+      (rw (le-leb (st.at + 1 + 4) (length s) (omega (arith, lg)), w, not_negative_lem (length cs) hl, le-leb (st.at + 1 + 4 + length cs) (length s) (omega (arith, lg, ln)), ap well_formed k ∙ wf) refl))
       (omega arith) (omega arith) (omega (arith, lg, ln)) refl refl refl
       (λ P n c p. (c.kids, subst (P n c.kids) (ap shape.text k) p)))
 

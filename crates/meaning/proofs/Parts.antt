@@ -78,9 +78,9 @@ module _ (s : List ℕ) (st : State) where
     pub names-count : (node (get_or kids locals_part 0)).count ≡ count_of (members_of (value_at parts locals_part))
     pub kinds-size : (node (get_or kids kinds_part 0)).size ≡ length (contents_of (value_at parts kinds_part))
 
-  as_bytes : (n : ℕ) (v : Value) → Suits as_bytes v → Means (InState s st) n v → (node n).size ≡ length (contents_of v)
+  as_bytes_lem : (n : ℕ) (v : Value) → Suits as_bytes v → Means (InState s st) n v → (node n).size ≡ length (contents_of v)
   unfolding contents_of
-  as_bytes n v f m = let h : Means (InState s st) n (bytes f.0) = rw f.1 at m in rw f.1 (bytes-size n f.0 h)
+  as_bytes_lem n v f m = let h : Means (InState s st) n (bytes f.0) = rw f.1 at m in rw f.1 (bytes-size n f.0 h)
 
   as_names_lem : (n : ℕ) (v : Value) → Suits as_names v → Means (InState s st) n v → (node n).count ≡ count_of (members_of v)
   unfolding members_of
@@ -90,9 +90,9 @@ module _ (s : List ℕ) (st : State) where
   unfolding rules
   looked_at kids parts tables m e f =
       record {
-        code-size = as_bytes (get_or kids 0 0) (value_at parts 0) (suit_at 0 0 parts f (omega (arith, e))) (part 0 (omega (arith, e)));
+        code-size = as_bytes_lem (get_or kids 0 0) (value_at parts 0) (suit_at 0 0 parts f (omega (arith, e))) (part 0 (omega (arith, e)));
         names-count = as_names_lem (get_or kids 3 0) (value_at parts 3) (suit_at 3 0 parts f (omega (arith, e))) (part 3 (omega (arith, e)));
-        kinds-size = as_bytes (get_or kids 4 0) (value_at parts 4) (suit_at 4 0 parts f (omega (arith, e))) (part 4 (omega (arith, e)));
+        kinds-size = as_bytes_lem (get_or kids 4 0) (value_at parts 4) (suit_at 4 0 parts f (omega (arith, e))) (part 4 (omega (arith, e)));
       }
     where
       part : (i : ℕ) → i < count_of parts → Means (InState s st) (get_or kids i 0) (value_at parts i)

@@ -38,9 +38,9 @@ use Rattle.meaning.proofs.Unique.{means-value, by_tables}
 
 -- Theorem C, of the whole answer: exactly what is written of the value where it fits, and the refusal of room where it does not.
 module _ (t : Tables) (n : ℕ) (v : Value) (small : length t.input ≤ most_bytes) (m : Means (InTables t) n v) (p : Proper v) (nesting : ℕ) (depth : depth_of v ≤ min nesting most_nesting) where
-  pub written_as : (room : ℕ) → length (written_as v) ≤ min room most_output → written t n nesting room ≡ gives (written_as v)
+  pub written_as_lem : (room : ℕ) → length (written_as v) ≤ min room most_output → written t n nesting room ≡ gives (written_as v)
   unfolding written
-  written_as room h =
+  written_as_lem room h =
       rw (le-ltb most_bytes (length t.input) small)
       (emits_into (min room most_output) [] (written_as v) (writing (min nesting most_nesting) t n) (emits_written t v n (min nesting most_nesting) m p depth) (omega arith))
 
@@ -54,7 +54,7 @@ module _ (t : Tables) (n : ℕ) (v : Value) (small : length t.input ≤ most_byt
   pub written_is : InOrder v → (room : ℕ) → length (canonical v) ≤ min room most_output → written t n nesting room ≡ gives (canonical v)
   written_is o room h =
       let e = in_order_same v p o in
-      written_as room (subst (λ z. length z ≤ min room most_output) (sym e) h) ∙ ap gives e
+      written_as_lem room (subst (λ z. length z ≤ min room most_output) (sym e) h) ∙ ap gives e
 
 -- Theorem B, of the whole answer: the value's bytes, with anything after them.
 counts_are : (a b c d a' b' c' d' : ℕ) → a ≡ a' → b ≡ b' → c ≡ c' → d ≡ d'

@@ -13,7 +13,7 @@ use Rattle.grammar.specs.State.{Node, Entry, State, blank, unlinked, node_at, en
 use Rattle.grammar.specs.Answer.{Counts, counts_of, answered, outcome_of, reading, read_of, nodes_held, entries_held}
 use Rattle.grammar.proofs.Bounded.{Accepted}
 use Rattle.grammar.proofs.Contents.{gives-within, accepted-reading}
-use Rattle.grammar.proofs.ReadBack.{node_at, entry_at_lem}
+use Rattle.grammar.proofs.ReadBack.{node_at_lem, entry_at_lem}
 use Rattle.keepvisit.specs.Visit.{Stores, stores}
 use Rattle.raising.specs.Appended.{raised_link, relabelled, appended_node, appended_entry}
 use Rattle.oneinput.specs.Inputs.{OneInput}
@@ -49,7 +49,7 @@ module _ (s : List ℕ) (nodes entries slots nesting : ℕ) (r : ℕ × State) (
 
   pub node_left : (i : ℕ) → i < length r.1.nodes → node_at left.nodes i ≡ get_or r.1.nodes i blank
   unfolding padded
-  node_left i l = node_at r.1.nodes _ i l
+  node_left i l = node_at_lem r.1.nodes _ i l
 
   pub entry_left : (i : ℕ) → i < length r.1.entries → entry_at left.entries i ≡ get_or r.1.entries i unlinked
   unfolding padded
