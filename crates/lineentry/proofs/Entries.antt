@@ -1,5 +1,4 @@
 -- Laws on entries that every walk over a table leans on: an entry covers one instruction or more, and only the inside of a table has one.
--- Assumes nothing.
 use mathlib.Core.Path.{◌≡◌, refl, sym, subst, ◌∙◌}
 use mathlib.Core.Bool.{Bool, true, false, cond}
 use mathlib.Core.List.{List}

@@ -1,5 +1,4 @@
 -- The varint a byte at a time, as `varint_within` reads it: the end, a byte too many, a last byte, and a byte that more follow.
--- Assumes nothing.
 use mathlib.Core.Path.{◌≡◌, refl, ap, ◌∙◌}
 use mathlib.Core.Bool.{Bool, true, false, cond, ◌&&◌}
 use mathlib.Core.List.{List}

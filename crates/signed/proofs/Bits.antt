@@ -1,5 +1,4 @@
 -- The bits of a signed number, by its sign: what `bits32` computes is what `of_z` says.
--- Assumes nothing.
 use mathlib.Core.Path.{◌≡◌, refl, ap, ◌∙◌}
 use mathlib.Core.Bool.{Bool, true, false}
 use Prim.Native.Nat.{ℕ, suc, ◌-◌, ◌<◌}

@@ -1,5 +1,4 @@
 -- `lineentry::as_signed` meets its contract: the test decides which case of the definition holds.
--- Assumes nothing.
 use borrow.Author.Tests.{lt-ltb, le-ltb}
 use Rattle.lineentry.specs.Line.{as_signed}
 use Rattle.lineentry.proofs.as_signed.Goals as goal

@@ -1,5 +1,4 @@
 -- `lineentry::at_line` meets its contract by what `show_line` ensures.
--- Assumes nothing.
 use Rattle.lineentry.proofs.at_line.Goals as goal
 
 pub returns : goal.returns

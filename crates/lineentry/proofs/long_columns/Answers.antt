@@ -1,5 +1,4 @@
 -- `lineentry::long_columns` meets its contract by what its callees ensure.
--- Assumes nothing.
 use Rattle.lineentry.specs.Entry.{long_columns}
 use Rattle.lineentry.proofs.long_columns.Goals as goal
 

@@ -1,5 +1,4 @@
 -- `lineentry::long_form` meets its contract by what its callees ensure.
--- Assumes nothing.
 use Rattle.lineentry.specs.Entry.{long_form}
 use Rattle.lineentry.proofs.long_form.Goals as goal
 

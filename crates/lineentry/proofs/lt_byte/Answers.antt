@@ -1,5 +1,4 @@
 -- `lineentry::lt_byte` meets its contract: the test decides which case of the definition holds.
--- Assumes nothing.
 use borrow.Author.Tests.{lt-ltb, le-ltb}
 use Rattle.lineentry.proofs.lt_byte.Goals as goal
 

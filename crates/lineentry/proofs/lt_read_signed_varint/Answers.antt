@@ -1,5 +1,4 @@
 -- `lineentry::lt_read_signed_varint` meets its contract: the varint that was read, and the test on its lowest bit.
--- Assumes nothing.
 use borrow.Author.Tests.{eq-eqb, ne_eqb}
 use Rattle.lineentry.specs.Varint.{signed_at}
 use Rattle.lineentry.proofs.lt_read_signed_varint.Goals as goal

@@ -1,5 +1,4 @@
 -- `lineentry::lt_read_varint` meets its contract: the end and a last byte by the laws of the varint, the rest by `varint_within`.
--- Assumes nothing.
 use mathlib.Core.Path.{sym}
 use native.Mathlib.Omega.{arith}
 use Rattle.lineentry.proofs.Varints.{varint_end, varint_last}

@@ -1,5 +1,4 @@
 -- `lineentry::move_line` meets its contract: the two tests decide which case of the definition holds.
--- Assumes nothing.
 use borrow.Author.Tests.{lt-ltb, le-ltb}
 use Rattle.lineentry.specs.Line.{moved}
 use Rattle.lineentry.proofs.move_line.Goals as goal

@@ -1,5 +1,4 @@
 -- `lineentry::no_columns` meets its contract by what its callees ensure.
--- Assumes nothing.
 use Rattle.lineentry.specs.Entry.{no_columns}
 use Rattle.lineentry.proofs.no_columns.Goals as goal
 

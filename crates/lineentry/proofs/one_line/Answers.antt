@@ -1,5 +1,4 @@
 -- `lineentry::one_line` meets its contract by what its callees ensure.
--- Assumes nothing.
 use Rattle.lineentry.specs.Entry.{one_line}
 use Rattle.lineentry.proofs.one_line.Goals as goal
 

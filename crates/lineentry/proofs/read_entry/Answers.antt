@@ -1,5 +1,4 @@
 -- `lineentry::read_entry` meets its contract: the tests on the first byte and on the code decide the case.
--- Assumes nothing.
 use borrow.Author.Tests.{lt-ltb, le-ltb, eq-eqb, ne_eqb}
 use Rattle.lineentry.specs.Entry.{by_code, entry_of}
 use Rattle.lineentry.proofs.read_entry.Goals as goal

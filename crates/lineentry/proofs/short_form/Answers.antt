@@ -1,5 +1,4 @@
 -- `lineentry::short_form` meets its contract: a short entry's column is below 128, so every sum fits.
--- Assumes nothing.
 use native.Mathlib.Omega.{arith}
 use Rattle.lineentry.specs.Entry.{short_form}
 use Rattle.lineentry.proofs.Entries.{column_lt}

@@ -1,5 +1,4 @@
 -- `signed::bits32` meets its contract: the laws of Bits, by the number's sign.
--- Assumes nothing.
 use mathlib.Core.Path.{◌≡◌}
 use mathlib.Core.Bool.{true, false}
 use native.Mathlib.Omega.{arith}

@@ -1,5 +1,4 @@
 -- `signed::signed64` meets its contract: complementing bits twice gives them back.
--- Assumes nothing.
 use mathlib.Core.Path.{ap}
 use mir.Syntax.{w64}
 use mir.Val.{to_z}
