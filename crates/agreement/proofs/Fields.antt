@@ -16,6 +16,7 @@ use Rattle.fields.specs.declared.Kids.TheVariants as kids
 use Rattle.fields.specs.declared.Behind.{Behind}
 use Rattle.fields.specs.declared.Behind.TheVariants as behind
 use Rattle.fields.proofs as fields
+use Rattle.fields.specs.contracts as fields_contracts
 use Rattle.agreement.specs.Agreement.{Agree}
 use Rattle.agreement.proofs.Same.{one, retold}
 
@@ -69,41 +70,41 @@ behind_back : (r : Behind) → behind_from (behind_of r) ≡ r
 behind_back (behind.Span place size k) = ap (behind.Span place size) (kids_back k)
 behind_back (behind.Refused number place) = refl
 
-pub le16-agrees : Agree fields.le16.ended fields.le16.Reads.Asked fields.le16.Reads.Learnt
+pub le16-agrees : Agree fields_contracts.le16.ended fields.le16.Reads.Asked fields.le16.Reads.Learnt
 le16-agrees κs a asked r r' ws ws' p p' = (one p.0 p'.0, refl)
 
-pub le32-agrees : Agree fields.le32.ended fields.le32.Reads.Asked fields.le32.Reads.Learnt
+pub le32-agrees : Agree fields_contracts.le32.ended fields.le32.Reads.Asked fields.le32.Reads.Learnt
 le32-agrees κs a asked r r' ws ws' p p' = (one p p', refl)
 
-pub le64-agrees : Agree fields.le64.ended fields.le64.Reads.Asked fields.le64.Reads.Learnt
+pub le64-agrees : Agree fields_contracts.le64.ended fields.le64.Reads.Asked fields.le64.Reads.Learnt
 le64-agrees κs a asked r r' ws ws' p p' = (one p p', refl)
 
-pub class_of-agrees : Agree fields.class_of.ended fields.class_of.Reads.Asked fields.class_of.Reads.Learnt
+pub class_of-agrees : Agree fields_contracts.class_of.ended fields.class_of.Reads.Asked fields.class_of.Reads.Learnt
 class_of-agrees κs a asked r r' ws ws' p p' = (retold class_at number_of class_back p p', refl)
 
-pub class_at-agrees : Agree fields.class_at.ended fields.class_at.Reads.Asked fields.class_at.Reads.Learnt
+pub class_at-agrees : Agree fields_contracts.class_at.ended fields.class_at.Reads.Asked fields.class_at.Reads.Learnt
 class_at-agrees κs a asked r r' ws ws' p p' = (retold class_at number_of class_back p p', refl)
 
-pub digit_count-agrees : Agree fields.digit_count.ended fields.digit_count.Reads.Asked fields.digit_count.Reads.Learnt
+pub digit_count-agrees : Agree fields_contracts.digit_count.ended fields.digit_count.Reads.Asked fields.digit_count.Reads.Learnt
 digit_count-agrees κs a asked r r' ws ws' p p' = (one p.0 p'.0, refl)
 
-pub argument_sum-agrees : Agree fields.argument_sum.ended fields.argument_sum.Reads.Asked fields.argument_sum.Reads.Learnt
+pub argument_sum-agrees : Agree fields_contracts.argument_sum.ended fields.argument_sum.Reads.Asked fields.argument_sum.Reads.Learnt
 argument_sum-agrees κs a asked r r' ws ws' p p' = (one p p', refl)
 
-pub read_form_agrees : Agree fields.read_form.ended fields.read_form.Reads.Asked fields.read_form.Reads.Learnt
+pub read_form_agrees : Agree fields_contracts.read_form.ended fields.read_form.Reads.Asked fields.read_form.Reads.Learnt
 read_form_agrees κs a asked r r' ws ws' p p' = (retold behind_of behind_from behind_back p.exact p'.exact, refl)
 
-pub read-fields-agrees : Agree fields.read_fields.ended fields.read_fields.Reads.Asked fields.read_fields.Reads.Learnt
+pub read-fields-agrees : Agree fields_contracts.read_fields.ended fields.read_fields.Reads.Asked fields.read_fields.Reads.Learnt
 read-fields-agrees κs a asked r r' ws ws' p p' = (retold behind_of behind_from behind_back p.exact p'.exact, refl)
 
-pub read-fixed-agrees : Agree fields.read_fixed.ended fields.read_fixed.Reads.Asked fields.read_fixed.Reads.Learnt
+pub read-fixed-agrees : Agree fields_contracts.read_fixed.ended fields.read_fixed.Reads.Asked fields.read_fixed.Reads.Learnt
 read-fixed-agrees κs a asked r r' ws ws' p p' = (retold behind_of behind_from behind_back p.exact p'.exact, refl)
 
-pub read-bytes-agrees : Agree fields.read_bytes.ended fields.read_bytes.Reads.Asked fields.read_bytes.Reads.Learnt
+pub read-bytes-agrees : Agree fields_contracts.read_bytes.ended fields.read_bytes.Reads.Asked fields.read_bytes.Reads.Learnt
 read-bytes-agrees κs a asked r r' ws ws' p p' = (retold behind_of behind_from behind_back p.exact p'.exact, refl)
 
-pub read-text-agrees : Agree fields.read_text.ended fields.read_text.Reads.Asked fields.read_text.Reads.Learnt
+pub read-text-agrees : Agree fields_contracts.read_text.ended fields.read_text.Reads.Asked fields.read_text.Reads.Learnt
 read-text-agrees κs a asked r r' ws ws' p p' = (retold behind_of behind_from behind_back p.exact p'.exact, refl)
 
-pub read-short-agrees : Agree fields.read_short.ended fields.read_short.Reads.Asked fields.read_short.Reads.Learnt
+pub read-short-agrees : Agree fields_contracts.read_short.ended fields.read_short.Reads.Asked fields.read_short.Reads.Learnt
 read-short-agrees κs a asked r r' ws ws' p p' = (retold behind_of behind_from behind_back p.exact p'.exact, refl)

@@ -6,10 +6,11 @@ use lib.ListN.{length}
 use Rattle.keepvisit.specs.Visit.{stores}
 use Rattle.keepvisit.specs.Found.{Found}
 use Rattle.keepmove.proofs as keepmove
+use Rattle.keepmove.specs.contracts as keepmove_contracts
 use Rattle.agreement.specs.Agreement.{AgreeAs}
 use Rattle.agreement.proofs.Same.{one}
 
-pub move_all_agrees : AgreeAs keepmove.move_all.ended
+pub move_all_agrees : AgreeAs keepmove_contracts.move_all.ended
     (λ κs a r r' ws ws'.
     (order : List ℕ) → Found (stores a.0.now a.1.0.now a.1.1.1.1.0 a.1.1.1.1.1.0) order a.1.1.1.0.now
     → a.1.1.1.1.1.1.0 ≡ length order → ws ≡ ws')

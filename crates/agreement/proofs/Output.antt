@@ -12,6 +12,7 @@ use Rattle.output.specs.declared.Wrote.{Wrote}
 use Rattle.output.specs.declared.Wrote.TheVariants as wrote
 use Rattle.output.specs.Puts.{Puts}
 use Rattle.output.proofs as output
+use Rattle.output.specs.contracts as output_contracts
 use Rattle.agreement.specs.Agreement.{Agree, AgreeAs}
 use Rattle.agreement.specs.Partly.{WhereDone}
 use Rattle.agreement.proofs.Same.{one}
@@ -50,23 +51,23 @@ puts_one (wrote.Refused n p') (wrote.Done b) p q = absurd (gives_or_stops q.exac
 puts_one (wrote.Refused n p) (wrote.Refused n' p') x y =
     (ap (λ q. wrote.Refused q.0 q.1) (ap refusal (one (sym x.exact) (sym y.exact))), λ none. absurd none)
 
-pub store_u32_agrees : Agree output.store_u32.ended output.store_u32.Reads.Asked output.store_u32.Reads.Learnt
+pub store_u32_agrees : Agree output_contracts.store_u32.ended output.store_u32.Reads.Asked output.store_u32.Reads.Learnt
 store_u32_agrees κs a asked r r' ws ws' p p' = (refl, λ i. (one p p' i, (tt, (tt, tt))))
 
-pub store_slice-agrees : Agree output.store_slice.ended output.store_slice.Reads.Asked output.store_slice.Reads.Learnt
+pub store_slice-agrees : Agree output_contracts.store_slice.ended output.store_slice.Reads.Asked output.store_slice.Reads.Learnt
 store_slice-agrees κs a asked r r' ws ws' p p' = (refl, λ i. (one p p' i, (tt, (tt, (tt, (tt, tt))))))
 
-pub write_u8_agrees : AgreeAs output.write_u8.ended (λ κs a. WhereDone) output.write_u8.Reads.Asked output.write_u8.Reads.Learnt
+pub write_u8_agrees : AgreeAs output_contracts.write_u8.ended (λ κs a. WhereDone) output.write_u8.Reads.Asked output.write_u8.Reads.Learnt
 write_u8_agrees κs a asked r r' ws ws' p p' = ((puts_one r r' p p').0, λ done i. ((puts_one r r' p p').1 done i, (tt, (tt, tt))))
 
-pub write_u32_agrees : AgreeAs output.write_u32.ended (λ κs a. WhereDone) output.write_u32.Reads.Asked output.write_u32.Reads.Learnt
+pub write_u32_agrees : AgreeAs output_contracts.write_u32.ended (λ κs a. WhereDone) output.write_u32.Reads.Asked output.write_u32.Reads.Learnt
 write_u32_agrees κs a asked r r' ws ws' p p' = ((puts_one r r' p p').0, λ done i. ((puts_one r r' p p').1 done i, (tt, (tt, tt))))
 
-pub write_len_agrees : AgreeAs output.write_len.ended (λ κs a. WhereDone) output.write_len.Reads.Asked output.write_len.Reads.Learnt
+pub write_len_agrees : AgreeAs output_contracts.write_len.ended (λ κs a. WhereDone) output.write_len.Reads.Asked output.write_len.Reads.Learnt
 write_len_agrees κs a asked r r' ws ws' p p' = ((puts_one r r' p p').0, λ done i. ((puts_one r r' p p').1 done i, (tt, (tt, (tt, tt)))))
 
-pub write_slice-agrees : AgreeAs output.write_slice.ended (λ κs a. WhereDone) output.write_slice.Reads.Asked output.write_slice.Reads.Learnt
+pub write_slice-agrees : AgreeAs output_contracts.write_slice.ended (λ κs a. WhereDone) output.write_slice.Reads.Asked output.write_slice.Reads.Learnt
 write_slice-agrees κs a asked r r' ws ws' p p' = ((puts_one r r' p p').0, λ done i. ((puts_one r r' p p').1 done i, (tt, (tt, (tt, (tt, (tt, tt)))))))
 
-pub write_vec_agrees : AgreeAs output.write_vec.ended (λ κs a. WhereDone) output.write_vec.Reads.Asked output.write_vec.Reads.Learnt
+pub write_vec_agrees : AgreeAs output_contracts.write_vec.ended (λ κs a. WhereDone) output.write_vec.Reads.Asked output.write_vec.Reads.Learnt
 write_vec_agrees κs a asked r r' ws ws' p p' = ((puts_one r r' p p').0, λ done i. ((puts_one r r' p p').1 done i, (tt, (tt, (tt, (tt, (tt, tt)))))))

@@ -7,6 +7,7 @@ use Rattle.reader.specs.declared.Outcome.{Outcome}
 use Rattle.reader.specs.declared.Outcome.TheVariants as outcome
 use Rattle.reader.specs.Delivered.{answer_of}
 use Rattle.reader.proofs as reader
+use Rattle.reader.specs.contracts as reader_contracts
 use Rattle.agreement.specs.Agreement.{Agree}
 use Rattle.agreement.proofs.Same.{one, retold}
 
@@ -19,7 +20,7 @@ pub outcome_back : (r : Outcome) → outcome_from (answer_of r) ≡ r
 outcome_back (outcome.Read consumed nodes entries slots) = refl
 outcome_back (outcome.Refused number place) = refl
 
-pub deserialize_value-agrees : Agree reader.deserialize_value.ended reader.deserialize_value.Reads.Asked reader.deserialize_value.Reads.Learnt
+pub deserialize_value-agrees : Agree reader_contracts.deserialize_value.ended reader.deserialize_value.Reads.Asked reader.deserialize_value.Reads.Learnt
 deserialize_value-agrees κs a asked r r' ws ws' p p' = (
   retold answer_of outcome_from outcome_back p.answer p'.answer,
   λ i. (tt, (one p.nodes p'.nodes i, (one p.entries p'.entries i, (one p.slots p'.slots i, (tt, tt))))),

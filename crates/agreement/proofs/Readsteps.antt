@@ -21,6 +21,7 @@ use Rattle.readsteps.specs.declared.Linked.TheVariants as linked
 use Rattle.readsteps.specs.declared.Next.{Next}
 use Rattle.readsteps.specs.declared.Next.TheVariants as next
 use Rattle.readsteps.proofs as readsteps
+use Rattle.readsteps.specs.contracts as readsteps_contracts
 use Rattle.agreement.specs.Agreement.{Agree}
 use Rattle.agreement.proofs.Same.{one, retold}
 use Rattle.agreement.proofs.Fields.{kids_from, kids_back}
@@ -36,28 +37,28 @@ front_back (opened.Known v at) = refl
 front_back (opened.Node h kids) = ap (opened.Node h) (kids_back kids)
 front_back (opened.Refused number place) = refl
 
-pub resolve_ref_agrees : Agree readsteps.resolve_ref.ended readsteps.resolve_ref.Reads.Asked readsteps.resolve_ref.Reads.Learnt
+pub resolve_ref_agrees : Agree readsteps_contracts.resolve_ref.ended readsteps.resolve_ref.Reads.Asked readsteps.resolve_ref.Reads.Learnt
 resolve_ref_agrees κs a asked r r' ws ws' p p' = (retold front_of front_from front_back p.exact p'.exact, refl)
 
-pub byte_at-agrees : Agree readsteps.byte_at.ended readsteps.byte_at.Reads.Asked readsteps.byte_at.Reads.Learnt
+pub byte_at-agrees : Agree readsteps_contracts.byte_at.ended readsteps.byte_at.Reads.Asked readsteps.byte_at.Reads.Learnt
 byte_at-agrees κs a asked r r' ws ws' p p' = (one p.0 p'.0, refl)
 
-pub front-agrees : Agree readsteps.front.ended readsteps.front.Reads.Asked readsteps.front.Reads.Learnt
+pub front-agrees : Agree readsteps_contracts.front.ended readsteps.front.Reads.Asked readsteps.front.Reads.Learnt
 front-agrees κs a asked r r' ws ws' p p' = (retold front_of front_from front_back (p.exact 0) (p'.exact 0), refl)
 
-pub attach-agrees : Agree readsteps.attach.ended readsteps.attach.Reads.Asked readsteps.attach.Reads.Learnt
+pub attach-agrees : Agree readsteps_contracts.attach.ended readsteps.attach.Reads.Asked readsteps.attach.Reads.Learnt
 attach-agrees κs a asked r r' ws ws' p p' = (one p.answer p'.answer, λ i. (one p.entries p'.entries i, (tt, (tt, (tt, (tt, (tt, tt)))))))
 
-pub is_tuple-agrees : Agree readsteps.is_tuple.ended readsteps.is_tuple.Reads.Asked readsteps.is_tuple.Reads.Learnt
+pub is_tuple-agrees : Agree readsteps_contracts.is_tuple.ended readsteps.is_tuple.Reads.Asked readsteps.is_tuple.Reads.Learnt
 is_tuple-agrees κs a asked r r' ws ws' p p' = (one p p', refl)
 
-pub is_string-agrees : Agree readsteps.is_string.ended readsteps.is_string.Reads.Asked readsteps.is_string.Reads.Learnt
+pub is_string-agrees : Agree readsteps_contracts.is_string.ended readsteps.is_string.Reads.Asked readsteps.is_string.Reads.Learnt
 is_string-agrees κs a asked r r' ws ws' p p' = (one p p', refl)
 
-pub suits-agrees : Agree readsteps.suits.ended readsteps.suits.Reads.Asked readsteps.suits.Reads.Learnt
+pub suits-agrees : Agree readsteps_contracts.suits.ended readsteps.suits.Reads.Asked readsteps.suits.Reads.Learnt
 suits-agrees κs a asked r r' ws ws' p p' = (one p p', refl)
 
-pub node-size-agrees : Agree readsteps.node_size.ended readsteps.node_size.Reads.Asked readsteps.node_size.Reads.Learnt
+pub node-size-agrees : Agree readsteps_contracts.node_size.ended readsteps.node_size.Reads.Asked readsteps.node_size.Reads.Learnt
 node-size-agrees κs a asked r r' ws ws' p p' = (one p p', refl)
 
 -- What comes next, by the kind of the children.
@@ -124,8 +125,8 @@ next_alike s ns (kind.Items count) at l r r' h h' = items_alike count l r r' h h
 next_alike s ns kind.Pairs at l r r' h h' = pairs-alike s l r r' h h'
 next_alike s ns kind.Parts at l r r' h h' = parts-alike s ns at l r r' h h'
 
-pub next_child-agrees : Agree readsteps.next_child.ended readsteps.next_child.Reads.Asked readsteps.next_child.Reads.Learnt
+pub next_child-agrees : Agree readsteps_contracts.next_child.ended readsteps.next_child.Reads.Asked readsteps.next_child.Reads.Learnt
 next_child-agrees κs a asked r r' ws ws' p p' = (next_alike _ _ a.1.1.0 _ _ r r' p.is p'.is, refl)
 
-pub below-agrees : Agree readsteps.below.ended readsteps.below.Reads.Asked readsteps.below.Reads.Learnt
+pub below-agrees : Agree readsteps_contracts.below.ended readsteps.below.Reads.Asked readsteps.below.Reads.Learnt
 below-agrees κs a asked r r' ws ws' p p' = (one p p', refl)

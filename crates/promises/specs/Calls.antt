@@ -11,12 +11,15 @@ use Rattle.grammar.specs.Answer.{Counts, Outcome}
 use Rattle.grammar.specs.Record.{Tables, tables_of}
 use Rattle.reader.specs.Delivered.{answer_of}
 use Rattle.reader.proofs as reader
+use Rattle.reader.specs.contracts as reader_contracts
 use Rattle.output.specs.declared.Wrote.{Wrote}
 use Rattle.output.specs.declared.Wrote.TheVariants as wrote
 use Rattle.writer.proofs as writer
+use Rattle.writer.specs.contracts as writer_contracts
 use Rattle.sillgarland.specs.declared.values.SillRead.{SillRead}
 use Rattle.sillgarland.specs.declared.varints.SillWritten.{SillWritten}
 use Rattle.sillgarland.proofs as sillgarland
+use Rattle.sillgarland.specs.contracts as sillgarland_contracts
 use Rattle.agreement.specs.Agreement.{Asks, Tells}
 
 -- Arguments that meet what is asked; a result and the last contents of what was lent for writing; and the contract, which they meet.
@@ -69,7 +72,7 @@ on_bytes R =
 
 -- `deserialize_value`
 abbrev pub Deserialize : Type 0
-Deserialize = Call reader.deserialize_value.ended reader.deserialize_value.Reads.Asked reader.deserialize_value.Reads.Learnt
+Deserialize = Call reader_contracts.deserialize_value.ended reader.deserialize_value.Reads.Asked reader.deserialize_value.Reads.Learnt
 
 abbrev pub deserialize_value : Reader
 deserialize_value =
@@ -91,7 +94,7 @@ answer_in r =
     (stops r.refusal r.place)
 
 abbrev pub Read : Type 0
-Read = Call sillgarland.values.sill_read.ended sillgarland.values.sill_read.Reads.Asked sillgarland.values.sill_read.Reads.Learnt
+Read = Call sillgarland_contracts.values.sill_read.ended sillgarland.values.sill_read.Reads.Asked sillgarland.values.sill_read.Reads.Learnt
 
 abbrev pub sill_read : Reader
 sill_read =
@@ -111,7 +114,7 @@ wrote_as (wrote.Done bytes) = gives bytes
 wrote_as (wrote.Refused number place) = stops number place
 
 abbrev pub Serialize : Type 0
-Serialize = Call writer.serialize_value.ended writer.serialize_value.Reads.Asked writer.serialize_value.Reads.Learnt
+Serialize = Call writer_contracts.serialize_value.ended writer.serialize_value.Reads.Asked writer.serialize_value.Reads.Learnt
 
 abbrev pub serialize_value : Writer
 serialize_value =
@@ -130,7 +133,7 @@ abbrev pub wrote_in : SillWritten → Answer ℕ
 wrote_in r = cond (eqb r.refusal accepted) (gives r.written) (stops r.refusal r.place)
 
 abbrev pub Write : Type 0
-Write = Call sillgarland.values.sill_write.ended sillgarland.values.sill_write.Reads.Asked sillgarland.values.sill_write.Reads.Learnt
+Write = Call sillgarland_contracts.values.sill_write.ended sillgarland.values.sill_write.Reads.Asked sillgarland.values.sill_write.Reads.Learnt
 
 abbrev pub sill_write : Writer
 sill_write =

@@ -66,6 +66,7 @@ use Rattle.sillgarland.specs.declared.settingfiles.SillEdition.{SillEdition}
 use Rattle.sillgarland.specs.declared.varints.SillWritten.{SillWritten}
 use Rattle.sillgarland.specs.declared.varints.SillFound.{SillFound}
 use Rattle.sillgarland.proofs as sillgarland
+use Rattle.sillgarland.specs.contracts as sillgarland_contracts
 use Rattle.agreement.specs.Agreement.{Asks, Tells, InModels}
 use Rattle.promises.specs.Calls.{Call}
 
@@ -163,108 +164,108 @@ KeepEnds r =
 -- Each export. Arguments and last contents are counted from the left: the third parameter is `.1 .1 .0`.
 pub record Demand1 : Type 2 where
   pub sill_read_here :
-      EachCall sillgarland.values.sill_read.ended sillgarland.values.sill_read.Reads.Asked sillgarland.values.sill_read.Reads.Learnt sillgarland.values.sill_read.Statement.statement
+      EachCall sillgarland_contracts.values.sill_read.ended sillgarland.values.sill_read.Reads.Asked sillgarland.values.sill_read.Reads.Learnt sillgarland.values.sill_read.Statement.statement
       (λ c.
       Ends c.result (λ counts. read_struct (gives counts)) (λ number place. read_struct (stops number place))
       (Zero c.args.1.0.now c.last.1.0 × Zero c.args.1.1.0.now c.last.1.1.0 × Zero c.args.1.1.1.0.now c.last.1.1.1.0))
   pub sill_write_here :
-      EachCall sillgarland.values.sill_write.ended sillgarland.values.sill_write.Reads.Asked sillgarland.values.sill_write.Reads.Learnt sillgarland.values.sill_write.Statement.statement
+      EachCall sillgarland_contracts.values.sill_write.ended sillgarland.values.sill_write.Reads.Asked sillgarland.values.sill_write.Reads.Learnt sillgarland.values.sill_write.Statement.statement
       (λ c.
       Ends c.result (λ count. wrote_struct (wrote.Done count)) (λ number place. wrote_struct (wrote.Refused number place))
       (Zero c.args.1.1.1.1.1.1.1.0.now c.last.1.1.1.1.1.1.1.0))
   -- K11's two exemptions: a refused move clears the stack alone, and a refused append clears what is behind the kept part
   pub sill_keep :
-      EachCall sillgarland.reclaiming.sill_keep.ended sillgarland.reclaiming.sill_keep.Reads.Asked sillgarland.reclaiming.sill_keep.Reads.Learnt sillgarland.reclaiming.sill_keep.Statement.statement
+      EachCall sillgarland_contracts.reclaiming.sill_keep.ended sillgarland.reclaiming.sill_keep.Reads.Asked sillgarland.reclaiming.sill_keep.Reads.Learnt sillgarland.reclaiming.sill_keep.Statement.statement
       (λ c.
       KeepEnds c.result
       (AsItWas c.args.0.now c.last.0 × AsItWas c.args.1.0.now c.last.1.0 × AsItWas c.args.1.1.0.now c.last.1.1.0
       × Zero c.args.1.1.1.1.1.1.0.now c.last.1.1.1.1.1.1.0))
   -- it refuses nothing: its answer is the need
   pub sill_keep_need :
-      EachCall sillgarland.reclaiming.sill_keep_need.ended sillgarland.reclaiming.sill_keep_need.Reads.Asked sillgarland.reclaiming.sill_keep_need.Reads.Learnt sillgarland.reclaiming.sill_keep_need.Statement.statement
+      EachCall sillgarland_contracts.reclaiming.sill_keep_need.ended sillgarland.reclaiming.sill_keep_need.Reads.Asked sillgarland.reclaiming.sill_keep_need.Reads.Learnt sillgarland.reclaiming.sill_keep_need.Statement.statement
       (λ c. c.result ≡ need c.args.0 c.args.1.0)
   pub sill_read_more :
-      EachCall sillgarland.reclaiming.sill_read_more.ended sillgarland.reclaiming.sill_read_more.Reads.Asked sillgarland.reclaiming.sill_read_more.Reads.Learnt sillgarland.reclaiming.sill_read_more.Statement.statement
+      EachCall sillgarland_contracts.reclaiming.sill_read_more.ended sillgarland.reclaiming.sill_read_more.Reads.Asked sillgarland.reclaiming.sill_read_more.Reads.Learnt sillgarland.reclaiming.sill_read_more.Statement.statement
       (λ c.
       Ends c.result (λ counts. read_struct (gives counts)) (λ number place. read_struct (stops number place))
       (KeptThenZero (c.args.1.1.1.1.1.0 * node_width) c.args.1.0.now c.last.1.0
       × KeptThenZero (c.args.1.1.1.1.1.1.0 * entry_width) c.args.1.1.0.now c.last.1.1.0 × Zero c.args.1.1.1.0.now c.last.1.1.1.0))
   pub sill_leaf :
-      EachCall sillgarland.leaves.sill_leaf.ended sillgarland.leaves.sill_leaf.Reads.Asked sillgarland.leaves.sill_leaf.Reads.Learnt sillgarland.leaves.sill_leaf.Statement.statement
+      EachCall sillgarland_contracts.leaves.sill_leaf.ended sillgarland.leaves.sill_leaf.Reads.Asked sillgarland.leaves.sill_leaf.Reads.Learnt sillgarland.leaves.sill_leaf.Statement.statement
       (λ c. Ends c.result (λ told. leaf_struct (leaf.Told told)) (λ number place. leaf_struct (leaf.Refused number place)) Unit)
   pub sill_span :
-      EachCall sillgarland.spans.sill_span.ended sillgarland.spans.sill_span.Reads.Asked sillgarland.spans.sill_span.Reads.Learnt sillgarland.spans.sill_span.Statement.statement
+      EachCall sillgarland_contracts.spans.sill_span.ended sillgarland.spans.sill_span.Reads.Asked sillgarland.spans.sill_span.Reads.Learnt sillgarland.spans.sill_span.Statement.statement
       (λ c. Ends c.result (λ found. span_struct (span.Told found)) (λ number place. span_struct (span.Refused number place)) Unit)
   pub sill_locate :
-      EachCall sillgarland.locations.sill_locate.ended sillgarland.locations.sill_locate.Reads.Asked sillgarland.locations.sill_locate.Reads.Learnt sillgarland.locations.sill_locate.Statement.statement
+      EachCall sillgarland_contracts.locations.sill_locate.ended sillgarland.locations.sill_locate.Reads.Asked sillgarland.locations.sill_locate.Reads.Learnt sillgarland.locations.sill_locate.Statement.statement
       (λ c. LocateEnds c.result (Zero c.args.1.1.1.0.now c.last.1.1.1.0))
   -- K6's state is the one store lent for writing that a refusal does not clear: "After a refusal, later calls repeat it, and the records stay zero."
   pub sill_locate_begin :
-      EachCall sillgarland.piecewise.sill_locate_begin.ended sillgarland.piecewise.sill_locate_begin.Reads.Asked sillgarland.piecewise.sill_locate_begin.Reads.Learnt sillgarland.piecewise.sill_locate_begin.Statement.statement
+      EachCall sillgarland_contracts.piecewise.sill_locate_begin.ended sillgarland.piecewise.sill_locate_begin.Reads.Asked sillgarland.piecewise.sill_locate_begin.Reads.Learnt sillgarland.piecewise.sill_locate_begin.Statement.statement
       (λ c. LocateEnds c.result (Zero c.args.1.1.1.0.now c.last.1.1.1.0))
   pub sill_locate_piece :
-      EachCall sillgarland.piecewise.sill_locate_piece.ended sillgarland.piecewise.sill_locate_piece.Reads.Asked sillgarland.piecewise.sill_locate_piece.Reads.Learnt sillgarland.piecewise.sill_locate_piece.Statement.statement
+      EachCall sillgarland_contracts.piecewise.sill_locate_piece.ended sillgarland.piecewise.sill_locate_piece.Reads.Asked sillgarland.piecewise.sill_locate_piece.Reads.Learnt sillgarland.piecewise.sill_locate_piece.Statement.statement
       (λ c. LocateEnds c.result (Zero c.args.1.1.0.now c.last.1.1.0))
   pub sill_locate_end :
-      EachCall sillgarland.piecewise.sill_locate_end.ended sillgarland.piecewise.sill_locate_end.Reads.Asked sillgarland.piecewise.sill_locate_end.Reads.Learnt sillgarland.piecewise.sill_locate_end.Statement.statement
+      EachCall sillgarland_contracts.piecewise.sill_locate_end.ended sillgarland.piecewise.sill_locate_end.Reads.Asked sillgarland.piecewise.sill_locate_end.Reads.Learnt sillgarland.piecewise.sill_locate_end.Statement.statement
       (λ c. LocateEnds c.result (Zero c.args.1.0.now c.last.1.0))
   pub sill_locate_node :
-      EachCall sillgarland.leaves.sill_locate_node.ended sillgarland.leaves.sill_locate_node.Reads.Asked sillgarland.leaves.sill_locate_node.Reads.Learnt sillgarland.leaves.sill_locate_node.Statement.statement
+      EachCall sillgarland_contracts.leaves.sill_locate_node.ended sillgarland.leaves.sill_locate_node.Reads.Asked sillgarland.leaves.sill_locate_node.Reads.Learnt sillgarland.leaves.sill_locate_node.Statement.statement
       (λ c. LocateEnds c.result (Zero c.args.1.1.1.1.1.1.0.now c.last.1.1.1.1.1.1.0))
   pub sill_locations :
-      EachCallInModels sillgarland.locations.sill_locations.ended (λ M. sillgarland.locations.sill_locations.clauses) sillgarland.locations.sill_locations.Statement.statement
+      EachCallInModels sillgarland_contracts.locations.sill_locations.ended (λ M. sillgarland_contracts.locations.sill_locations.clauses) sillgarland.locations.sill_locations.Statement.statement
       (λ κs a r ws. LocateEnds r (Zero a.1.1.1.0.now ws.1.1.1.0 × (ws.1.1.1.1.0 ≡ replicate (length a.1.1.1.1.0.now) blank)))
   pub sill_salvage :
-      EachCall sillgarland.repairs.sill_salvage.ended sillgarland.repairs.sill_salvage.Reads.Asked sillgarland.repairs.sill_salvage.Reads.Learnt sillgarland.repairs.sill_salvage.Statement.statement
+      EachCall sillgarland_contracts.repairs.sill_salvage.ended sillgarland.repairs.sill_salvage.Reads.Asked sillgarland.repairs.sill_salvage.Reads.Learnt sillgarland.repairs.sill_salvage.Statement.statement
       (λ c.
       Ends c.result (λ (d : ℕ × Account). salvaged_struct (listed d.0 d.1)) (λ number place. salvaged_struct (refused_with number place))
       (Zero c.args.1.1.1.0.now c.last.1.1.1.0))
   pub sill_sources :
-      EachCall sillgarland.origins.sill_sources.ended sillgarland.origins.sill_sources.Reads.Asked sillgarland.origins.sill_sources.Reads.Learnt sillgarland.origins.sill_sources.Statement.statement
+      EachCall sillgarland_contracts.origins.sill_sources.ended sillgarland.origins.sill_sources.Reads.Asked sillgarland.origins.sill_sources.Reads.Learnt sillgarland.origins.sill_sources.Statement.statement
       (λ c.
       Ends c.result (λ (d : Counts). sourced_struct (told accepted 0 d)) (λ number place. sourced_struct (told number place (counts 0 0 0 0)))
       (Zero c.args.1.1.1.0.now c.last.1.1.1.0))
   pub sill_join :
-      EachCall sillgarland.joins.sill_join.ended sillgarland.joins.sill_join.Reads.Asked sillgarland.joins.sill_join.Reads.Learnt sillgarland.joins.sill_join.Statement.statement
+      EachCall sillgarland_contracts.joins.sill_join.ended sillgarland.joins.sill_join.Reads.Asked sillgarland.joins.sill_join.Reads.Learnt sillgarland.joins.sill_join.Statement.statement
       (λ c. JoinEnds c.result (Zero c.args.1.1.1.1.1.1.0.now c.last.1.1.1.1.1.1.0))
   pub sill_line_after :
-      EachCall sillgarland.joins.sill_line_after.ended sillgarland.joins.sill_line_after.Reads.Asked sillgarland.joins.sill_line_after.Reads.Learnt sillgarland.joins.sill_line_after.Statement.statement
+      EachCall sillgarland_contracts.joins.sill_line_after.ended sillgarland.joins.sill_line_after.Reads.Asked sillgarland.joins.sill_line_after.Reads.Learnt sillgarland.joins.sill_line_after.Statement.statement
       (λ c. LineEnds c.result)
   pub sill_index-starts :
-      EachCall sillgarland.rowstarts.sill_index_starts.ended sillgarland.rowstarts.sill_index_starts.Reads.Asked sillgarland.rowstarts.sill_index_starts.Reads.Learnt sillgarland.rowstarts.sill_index_starts.Statement.statement
+      EachCall sillgarland_contracts.rowstarts.sill_index_starts.ended sillgarland.rowstarts.sill_index_starts.Reads.Asked sillgarland.rowstarts.sill_index_starts.Reads.Learnt sillgarland.rowstarts.sill_index_starts.Statement.statement
       (λ c.
       Ends c.result (λ starts. indexed_struct (told_indexed accepted 0 starts)) (λ number place. indexed_struct (told_indexed number place 0))
       (Zero c.args.1.1.0.now c.last.1.1.0))
   pub sill_starts_before :
-      EachCall sillgarland.rowstarts.sill_starts_before.ended sillgarland.rowstarts.sill_starts_before.Reads.Asked sillgarland.rowstarts.sill_starts_before.Reads.Learnt sillgarland.rowstarts.sill_starts_before.Statement.statement
+      EachCall sillgarland_contracts.rowstarts.sill_starts_before.ended sillgarland.rowstarts.sill_starts_before.Reads.Asked sillgarland.rowstarts.sill_starts_before.Reads.Learnt sillgarland.rowstarts.sill_starts_before.Statement.statement
       (λ c. StartEnds c.result)
   pub sill_start_at :
-      EachCall sillgarland.rowstarts.sill_start_at.ended sillgarland.rowstarts.sill_start_at.Reads.Asked sillgarland.rowstarts.sill_start_at.Reads.Learnt sillgarland.rowstarts.sill_start_at.Statement.statement
+      EachCall sillgarland_contracts.rowstarts.sill_start_at.ended sillgarland.rowstarts.sill_start_at.Reads.Asked sillgarland.rowstarts.sill_start_at.Reads.Learnt sillgarland.rowstarts.sill_start_at.Statement.statement
       (λ c. StartEnds c.result)
   pub sill_setting :
-      EachCall sillgarland.settingfiles.sill_setting.ended sillgarland.settingfiles.sill_setting.Reads.Asked sillgarland.settingfiles.sill_setting.Reads.Learnt sillgarland.settingfiles.sill_setting.Statement.statement
+      EachCall sillgarland_contracts.settingfiles.sill_setting.ended sillgarland.settingfiles.sill_setting.Reads.Asked sillgarland.settingfiles.sill_setting.Reads.Learnt sillgarland.settingfiles.sill_setting.Statement.statement
       (λ c. SettingEnds c.result)
   pub sill_rewrite_settings :
-      EachCall sillgarland.settingfiles.sill_rewrite_settings.ended sillgarland.settingfiles.sill_rewrite_settings.Reads.Asked sillgarland.settingfiles.sill_rewrite_settings.Reads.Learnt sillgarland.settingfiles.sill_rewrite_settings.Statement.statement
+      EachCall sillgarland_contracts.settingfiles.sill_rewrite_settings.ended sillgarland.settingfiles.sill_rewrite_settings.Reads.Asked sillgarland.settingfiles.sill_rewrite_settings.Reads.Learnt sillgarland.settingfiles.sill_rewrite_settings.Statement.statement
       (λ c. RewriteEnds c.result (Zero c.args.1.1.0.now c.last.1.1.0))
   pub sill_save_edition :
-      EachCall sillgarland.settingfiles.sill_save_edition.ended sillgarland.settingfiles.sill_save_edition.Reads.Asked sillgarland.settingfiles.sill_save_edition.Reads.Learnt sillgarland.settingfiles.sill_save_edition.Statement.statement
+      EachCall sillgarland_contracts.settingfiles.sill_save_edition.ended sillgarland.settingfiles.sill_save_edition.Reads.Asked sillgarland.settingfiles.sill_save_edition.Reads.Learnt sillgarland.settingfiles.sill_save_edition.Statement.statement
       (λ c. SaveEnds c.result (Zero c.args.1.1.0.now c.last.1.1.0))
   pub sill_edition :
-      EachCall sillgarland.settingfiles.sill_edition.ended sillgarland.settingfiles.sill_edition.Reads.Asked sillgarland.settingfiles.sill_edition.Reads.Learnt sillgarland.settingfiles.sill_edition.Statement.statement
+      EachCall sillgarland_contracts.settingfiles.sill_edition.ended sillgarland.settingfiles.sill_edition.Reads.Asked sillgarland.settingfiles.sill_edition.Reads.Learnt sillgarland.settingfiles.sill_edition.Statement.statement
       (λ c. EditionEnds c.result)
   pub sill_golden_to_fields :
-      EachCall sillgarland.goldenfiles.sill_golden_to_fields.ended sillgarland.goldenfiles.sill_golden_to_fields.Reads.Asked sillgarland.goldenfiles.sill_golden_to_fields.Reads.Learnt sillgarland.goldenfiles.sill_golden_to_fields.Statement.statement
+      EachCall sillgarland_contracts.goldenfiles.sill_golden_to_fields.ended sillgarland.goldenfiles.sill_golden_to_fields.Reads.Asked sillgarland.goldenfiles.sill_golden_to_fields.Reads.Learnt sillgarland.goldenfiles.sill_golden_to_fields.Statement.statement
       (λ c. MoveEnds c.result
       (Zero c.args.1.1.1.1.1.0.now c.last.1.1.1.1.1.0 × Zero c.args.1.0.now c.last.1.0 × Zero c.args.1.1.0.now c.last.1.1.0
       × Zero c.args.1.1.1.0.now c.last.1.1.1.0))
   pub sill_golden_from-fields :
-      EachCall sillgarland.goldenfiles.sill_golden_from_fields.ended sillgarland.goldenfiles.sill_golden_from_fields.Reads.Asked sillgarland.goldenfiles.sill_golden_from_fields.Reads.Learnt sillgarland.goldenfiles.sill_golden_from_fields.Statement.statement
+      EachCall sillgarland_contracts.goldenfiles.sill_golden_from_fields.ended sillgarland.goldenfiles.sill_golden_from_fields.Reads.Asked sillgarland.goldenfiles.sill_golden_from_fields.Reads.Learnt sillgarland.goldenfiles.sill_golden_from_fields.Statement.statement
       (λ c. MoveEnds c.result
       (Zero c.args.1.1.1.1.1.0.now c.last.1.1.1.1.1.0 × Zero c.args.1.0.now c.last.1.0 × Zero c.args.1.1.0.now c.last.1.1.0
       × Zero c.args.1.1.1.0.now c.last.1.1.1.0))
   pub sill_split :
-      EachCall sillgarland.locals.sill_split.ended sillgarland.locals.sill_split.Reads.Asked sillgarland.locals.sill_split.Reads.Learnt sillgarland.locals.sill_split.Statement.statement
+      EachCall sillgarland_contracts.locals.sill_split.ended sillgarland.locals.sill_split.Reads.Asked sillgarland.locals.sill_split.Reads.Learnt sillgarland.locals.sill_split.Statement.statement
       (λ c.
       Ends c.result (λ (d : ℕ × ℕ × ℕ × Bool). split_struct (split.Done d.0 d.1 d.2 d.3)) (λ number place. split_struct (split.Refused number place))
       (Zero c.args.1.1.1.1.1.0.now c.last.1.1.1.1.1.0
@@ -273,45 +274,45 @@ pub record Demand1 : Type 2 where
       × Zero c.args.1.1.1.1.1.1.1.1.0.now c.last.1.1.1.1.1.1.1.1.0
       × Zero c.args.1.1.1.1.1.1.1.1.1.0.now c.last.1.1.1.1.1.1.1.1.1.0))
   pub sill_read_exceptions :
-      EachCall sillgarland.exceptions.sill_read_exceptions.ended sillgarland.exceptions.sill_read_exceptions.Reads.Asked sillgarland.exceptions.sill_read_exceptions.Reads.Learnt sillgarland.exceptions.sill_read_exceptions.Statement.statement
+      EachCall sillgarland_contracts.exceptions.sill_read_exceptions.ended sillgarland.exceptions.sill_read_exceptions.Reads.Asked sillgarland.exceptions.sill_read_exceptions.Reads.Learnt sillgarland.exceptions.sill_read_exceptions.Statement.statement
       (λ c.
       Ends c.result (λ count. decoded_struct (decoded.Done count)) (λ number place. decoded_struct (decoded.Refused number place))
       (Zero c.args.1.0.now c.last.1.0))
   pub sill_write_exceptions :
-      EachCall sillgarland.exceptions.sill_write_exceptions.ended sillgarland.exceptions.sill_write_exceptions.Reads.Asked sillgarland.exceptions.sill_write_exceptions.Reads.Learnt sillgarland.exceptions.sill_write_exceptions.Statement.statement
+      EachCall sillgarland_contracts.exceptions.sill_write_exceptions.ended sillgarland.exceptions.sill_write_exceptions.Reads.Asked sillgarland.exceptions.sill_write_exceptions.Reads.Learnt sillgarland.exceptions.sill_write_exceptions.Statement.statement
       (λ c.
       Ends c.result (λ count. encoded_struct (encoded.Done count)) (λ number place. encoded_struct (encoded.Refused number place))
       (Zero c.args.1.0.now c.last.1.0))
   pub sill_totals :
-      EachCall sillgarland.nightly.sill_totals.ended sillgarland.nightly.sill_totals.Reads.Asked sillgarland.nightly.sill_totals.Reads.Learnt sillgarland.nightly.sill_totals.Statement.statement
+      EachCall sillgarland_contracts.nightly.sill_totals.ended sillgarland.nightly.sill_totals.Reads.Asked sillgarland.nightly.sill_totals.Reads.Learnt sillgarland.nightly.sill_totals.Statement.statement
       (λ c.
       Ends c.result (λ (done : Unit {0}). totalled_struct totalled.Done) (λ number place. totalled_struct (totalled.Refused number place))
       (Zero c.args.1.1.0.now c.last.1.1.0))
   pub sill_add-totals :
-      EachCall sillgarland.nightly.sill_add_totals.ended sillgarland.nightly.sill_add_totals.Reads.Asked sillgarland.nightly.sill_add_totals.Reads.Learnt sillgarland.nightly.sill_add_totals.Statement.statement
+      EachCall sillgarland_contracts.nightly.sill_add_totals.ended sillgarland.nightly.sill_add_totals.Reads.Asked sillgarland.nightly.sill_add_totals.Reads.Learnt sillgarland.nightly.sill_add_totals.Statement.statement
       (λ c.
       Ends c.result (λ (done : Unit {0}). totalled_struct totalled.Done) (λ number place. totalled_struct (totalled.Refused number place))
       (Zero c.args.1.1.0.now c.last.1.1.0))
   pub sill_print_totals :
-      EachCall sillgarland.nightly.sill_print_totals.ended sillgarland.nightly.sill_print_totals.Reads.Asked sillgarland.nightly.sill_print_totals.Reads.Learnt sillgarland.nightly.sill_print_totals.Statement.statement
+      EachCall sillgarland_contracts.nightly.sill_print_totals.ended sillgarland.nightly.sill_print_totals.Reads.Asked sillgarland.nightly.sill_print_totals.Reads.Learnt sillgarland.nightly.sill_print_totals.Statement.statement
       (λ c.
       Ends c.result (λ count. printed_struct (printed.Done count)) (λ number place. printed_struct (printed.Refused number place))
       (Zero c.args.1.0.now c.last.1.0))
   pub sill_write_varint :
-      EachCall sillgarland.varints.sill_write_varint.ended sillgarland.varints.sill_write_varint.Reads.Asked sillgarland.varints.sill_write_varint.Reads.Learnt sillgarland.varints.sill_write_varint.Statement.statement
+      EachCall sillgarland_contracts.varints.sill_write_varint.ended sillgarland.varints.sill_write_varint.Reads.Asked sillgarland.varints.sill_write_varint.Reads.Learnt sillgarland.varints.sill_write_varint.Statement.statement
       (λ c. VarintEnds c.result (Zero c.args.0.now c.last.0))
   pub sill_write-signed_varint :
-      EachCall sillgarland.varints.sill_write_signed_varint.ended sillgarland.varints.sill_write_signed_varint.Reads.Asked sillgarland.varints.sill_write_signed_varint.Reads.Learnt sillgarland.varints.sill_write_signed_varint.Statement.statement
+      EachCall sillgarland_contracts.varints.sill_write_signed_varint.ended sillgarland.varints.sill_write_signed_varint.Reads.Asked sillgarland.varints.sill_write_signed_varint.Reads.Learnt sillgarland.varints.sill_write_signed_varint.Statement.statement
       (λ c. VarintEnds c.result (Zero c.args.0.now c.last.0))
   pub sill_write_varint_be :
-      EachCall sillgarland.varints.sill_write_varint_be.ended sillgarland.varints.sill_write_varint_be.Reads.Asked sillgarland.varints.sill_write_varint_be.Reads.Learnt sillgarland.varints.sill_write_varint_be.Statement.statement
+      EachCall sillgarland_contracts.varints.sill_write_varint_be.ended sillgarland.varints.sill_write_varint_be.Reads.Asked sillgarland.varints.sill_write_varint_be.Reads.Learnt sillgarland.varints.sill_write_varint_be.Statement.statement
       (λ c. VarintEnds c.result (Zero c.args.0.now c.last.0))
   pub sill_write_varint_with_start :
-      EachCall sillgarland.varints.sill_write_varint_with_start.ended sillgarland.varints.sill_write_varint_with_start.Reads.Asked sillgarland.varints.sill_write_varint_with_start.Reads.Learnt sillgarland.varints.sill_write_varint_with_start.Statement.statement
+      EachCall sillgarland_contracts.varints.sill_write_varint_with_start.ended sillgarland.varints.sill_write_varint_with_start.Reads.Asked sillgarland.varints.sill_write_varint_with_start.Reads.Learnt sillgarland.varints.sill_write_varint_with_start.Statement.statement
       (λ c. VarintEnds c.result (Zero c.args.0.now c.last.0))
   pub sill_read_varint :
-      EachCall sillgarland.varints.sill_read_varint.ended sillgarland.varints.sill_read_varint.Reads.Asked sillgarland.varints.sill_read_varint.Reads.Learnt sillgarland.varints.sill_read_varint.Statement.statement
+      EachCall sillgarland_contracts.varints.sill_read_varint.ended sillgarland.varints.sill_read_varint.Reads.Asked sillgarland.varints.sill_read_varint.Reads.Learnt sillgarland.varints.sill_read_varint.Statement.statement
       (λ c. FoundEnds c.args.1.0 c.result)
   pub sill_read_varint_with_start :
-      EachCall sillgarland.varints.sill_read_varint_with_start.ended sillgarland.varints.sill_read_varint_with_start.Reads.Asked sillgarland.varints.sill_read_varint_with_start.Reads.Learnt sillgarland.varints.sill_read_varint_with_start.Statement.statement
+      EachCall sillgarland_contracts.varints.sill_read_varint_with_start.ended sillgarland.varints.sill_read_varint_with_start.Reads.Asked sillgarland.varints.sill_read_varint_with_start.Reads.Learnt sillgarland.varints.sill_read_varint_with_start.Statement.statement
       (λ c. FoundEnds c.args.1.0 c.result)

@@ -17,12 +17,14 @@ use Rattle.leaf.specs.declared.Told.{Told as LeafTold}
 use Rattle.leaf.specs.declared.Answered.{Answered}
 use Rattle.leaf.specs.declared.Answered.TheVariants.{Told, Refused}
 use Rattle.leaf.proofs as leaf
+use Rattle.leaf.specs.contracts as leaf_contracts
 use Rattle.writing.specs.Canonical.{Integer, bits_of}
 use Rattle.meaning.specs.Value.{Value, single, integer, float, complex, bytes, text, sequence, slice, dict, code}
 use Rattle.meaning.specs.Meaning.{value_of}
 use Rattle.sillgarland.specs.Leaves.{leaf_struct}
 use Rattle.sillgarland.specs.declared.leaves.SillLeaf.{SillLeaf}
 use Rattle.sillgarland.proofs as sillgarland
+use Rattle.sillgarland.specs.contracts as sillgarland_contracts
 use Rattle.promises.specs.Calls.{Call, OfBytes, Reader, Writer}
 use Rattle.promises.specs.Demand2.{NodeRead, Demand2}
 
@@ -89,7 +91,7 @@ pub record Question : Type 1 where
 
 -- `leaf_of`, whose answer is the enum
 abbrev pub AskLeaf : Type 0
-AskLeaf = Call leaf.leaf_of.ended leaf.leaf_of.Reads.Asked leaf.leaf_of.Reads.Learnt
+AskLeaf = Call leaf_contracts.leaf_of.ended leaf.leaf_of.Reads.Asked leaf.leaf_of.Reads.Learnt
 
 abbrev pub leaf_question : Question
 leaf_question =
@@ -107,7 +109,7 @@ leaf_question =
 
 -- `sill_leaf`, whose answer is the struct of numbers
 abbrev pub AskSill : Type 0
-AskSill = Call sillgarland.leaves.sill_leaf.ended sillgarland.leaves.sill_leaf.Reads.Asked sillgarland.leaves.sill_leaf.Reads.Learnt
+AskSill = Call sillgarland_contracts.leaves.sill_leaf.ended sillgarland.leaves.sill_leaf.Reads.Asked sillgarland.leaves.sill_leaf.Reads.Learnt
 
 abbrev pub sill_question : Question
 sill_question =

@@ -27,6 +27,7 @@ use Rattle.linetable.specs.FromEntries.{FromEntries}
 use Rattle.sillgarland.specs.declared.locations.SillLocated.{SillLocated}
 use Rattle.sillgarland.specs.Locations.{located_struct}
 use Rattle.sillgarland.proofs as sillgarland
+use Rattle.sillgarland.specs.contracts as sillgarland_contracts
 use Rattle.promises.specs.Calls.{Call}
 
 -- "the first line (1 if not positive) and column 1"
@@ -61,7 +62,7 @@ SameNumbers count r flat out = r.refusal ≡ accepted → (length (take count ou
 
 -- `sill_locate`
 abbrev pub Locate : Type 0
-Locate = Call sillgarland.locations.sill_locate.ended sillgarland.locations.sill_locate.Reads.Asked sillgarland.locations.sill_locate.Reads.Learnt
+Locate = Call sillgarland_contracts.locations.sill_locate.ended sillgarland.locations.sill_locate.Reads.Asked sillgarland.locations.sill_locate.Reads.Learnt
 
 abbrev pub LocateTells : Locate → Type 0
 LocateTells c =
@@ -72,7 +73,7 @@ LocateTells c =
 
 -- `sill_locate_node`: the table is a sound bytes node's contents
 abbrev pub LocateNode : Type 0
-LocateNode = Call sillgarland.leaves.sill_locate_node.ended sillgarland.leaves.sill_locate_node.Reads.Asked sillgarland.leaves.sill_locate_node.Reads.Learnt
+LocateNode = Call sillgarland_contracts.leaves.sill_locate_node.ended sillgarland.leaves.sill_locate_node.Reads.Asked sillgarland.leaves.sill_locate_node.Reads.Learnt
 
 abbrev pub LocateNodeTells : LocateNode → Type 0
 LocateNodeTells c =
@@ -89,7 +90,7 @@ LocateNodeTells c =
 
 -- `sill_locations`, of which the kit has the clauses alone (specs/Agreement): in every model
 abbrev pub locations : Ended
-locations = sillgarland.locations.sill_locations.ended
+locations = sillgarland_contracts.locations.sill_locations.ended
 
 abbrev pub LocationsTell : (κs : Lfts locations.signature.lifetimes) (a : Args locations.signature κs) → Res locations.signature κs → Lasts locations κs a → Type 0
 LocationsTell κs a r ws =
@@ -103,6 +104,6 @@ pub record LinesTold : Type 2 where
   pub sill_locate : (c : Locate) → LocateTells c
   pub sill_locate_node : (c : LocateNode) → LocateNodeTells c
   pub sill_locations : (M : Type 1) (𝓤 : Ura M) (𝓛 : Logic 𝓤) (mem : Memory → SProp 𝓤) (run : Routine → Fun 𝓤)
-      (κs : Lfts locations.signature.lifetimes) (a : Args locations.signature κs) (g : (sillgarland.locations.sill_locations.clauses 𝓛 mem run κs a).ghost)
+      (κs : Lfts locations.signature.lifetimes) (a : Args locations.signature κs) (g : (sillgarland_contracts.locations.sill_locations.clauses 𝓛 mem run κs a).ghost)
       (r : Res locations.signature κs) (ws : Lasts locations κs a)
-      → ent 𝓤 ((sillgarland.locations.sill_locations.clauses 𝓛 mem run κs a).ensures g r (at_exit locations κs a ws)) (fact 𝓤 (LocationsTell κs a r ws))
+      → ent 𝓤 ((sillgarland_contracts.locations.sill_locations.clauses 𝓛 mem run κs a).ensures g r (at_exit locations κs a ws)) (fact 𝓤 (LocationsTell κs a r ws))

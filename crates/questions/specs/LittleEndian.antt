@@ -5,22 +5,24 @@ use Rattle.std.specs.Int.{w32}
 use Rattle.std.proofs.Common.{SFits}
 use Rattle.lineentry.specs.declared.Varint.TheVariants.{Value}
 use Rattle.lineentry.proofs as lineentry
+use Rattle.lineentry.specs.contracts as lineentry_contracts
 use Rattle.linetable.specs.Answer.{first_line_of}
 use Rattle.varint.specs.declared.Written.TheVariants.{Done}
 use Rattle.varint.proofs as varint
+use Rattle.varint.specs.contracts as varint_contracts
 use Rattle.promises.specs.Calls.{Call}
 
 abbrev pub WriteVarint : Type 0
-WriteVarint = Call varint.write_varint.ended varint.write_varint.Reads.Asked varint.write_varint.Reads.Learnt
+WriteVarint = Call varint_contracts.write_varint.ended varint.write_varint.Reads.Asked varint.write_varint.Reads.Learnt
 
 abbrev pub WriteSigned : Type 0
-WriteSigned = Call varint.write_signed_varint.ended varint.write_signed_varint.Reads.Asked varint.write_signed_varint.Reads.Learnt
+WriteSigned = Call varint_contracts.write_signed_varint.ended varint.write_signed_varint.Reads.Asked varint.write_signed_varint.Reads.Learnt
 
 abbrev pub ReadVarint : Type 0
-ReadVarint = Call lineentry.lt_read_varint.ended lineentry.lt_read_varint.Reads.Asked lineentry.lt_read_varint.Reads.Learnt
+ReadVarint = Call lineentry_contracts.lt_read_varint.ended lineentry.lt_read_varint.Reads.Asked lineentry.lt_read_varint.Reads.Learnt
 
 abbrev pub ReadSigned : Type 0
-ReadSigned = Call lineentry.lt_read_signed_varint.ended lineentry.lt_read_signed_varint.Reads.Asked lineentry.lt_read_signed_varint.Reads.Learnt
+ReadSigned = Call lineentry_contracts.lt_read_signed_varint.ended lineentry.lt_read_signed_varint.Reads.Asked lineentry.lt_read_signed_varint.Reads.Learnt
 
 -- the bytes stand in the table at this place, with anything before and behind them
 pub record Stand (bytes table : List ℕ) (place : ℕ) : Type 0 where
