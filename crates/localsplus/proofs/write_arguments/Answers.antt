@@ -1,26 +1,24 @@
 -- `localsplus::write_arguments` meets its contract: the laws of a walk carry the loop, one turn of the list each arm.
--- Assumes nothing.
-use Prim.Native.Nat.{◌-◌}
-use mathlib.Core.Logic.{⊎_elim}
 use mathlib.Core.Path.{sym, ap, ◌∙◌}
 use borrow.Author.Rules.{rules}
 use Rattle.clearing.specs.Lent.{zeros}
 use Rattle.localsplus.proofs.Turns.{arguments_has, arguments_lacks, arguments_end}
 use Rattle.localsplus.proofs.Walk.{walk_start, walk_put, walk_pass, walk-done}
 use Rattle.localsplus.proofs.write_arguments.Goals as goal
+use Rattle.localsplus.proofs.write_arguments.Goals.{then-has_bit, else-has_bit}
 
 pub loop-i-init : goal.loop-i-init
 loop-i-init c = walk_start (c.clear_words.ensures ∙ ap zeros (sym c.clear_words.auto.words)) (search rules) (search rules)
 
 pub loop-i-preserved : goal.loop-i-preserved
 loop-i-preserved c =
-    let w = c.loop-i.invariant in
+    let inv = c.loop-i.invariant in
     let h = c.loop-i-test.true in
     let e = c.has_bit.ensures in
-    ⊎_elim
-    (λ j. walk_put w h (arguments_has _ _ h _ (sym e ∙ j.0.taken) j.1.ensures) j.2 j.3)
-    (λ j. walk_pass w h (arguments_lacks _ _ h _ (sym e ∙ j.0.left)) j.1 j.2)
-    c.if-has_bit.branch
+    elim c.if-has_bit.branch [
+      then-has_bit w ↦ walk_put inv h (arguments_has _ _ h _ (sym e ∙ w.if-has_bit.true) w.argument_of.ensures) w.out-is w.n-is
+    | else-has_bit w ↦ walk_pass inv h (arguments_lacks _ _ h _ (sym e ∙ w.if-has_bit.false)) w.out-is w.n-is
+    ]
 
 pub returns : goal.returns
 returns c = (walk-done c.loop-i.invariant c.loop-i-test.false (arguments_end _ _ c.loop-i-test.false _) c.clear_words.auto.words).2

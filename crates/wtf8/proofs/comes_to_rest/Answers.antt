@@ -1,7 +1,5 @@
 -- `wtf8::comes_to_rest` meets its contract: the laws on going through bytes by the table.
--- Assumes nothing.
 use native.Mathlib.Omega.{arith}
-use Prim.Native.Nat.{◌-◌}
 use Rattle.wtf8.proofs.Resting.{begun, onward-two, last, ended}
 use Rattle.wtf8.proofs.comes_to_rest.Goals as goal
 
@@ -10,17 +8,13 @@ loop-at-init c = begun
 
 pub loop-at-preserved : goal.loop-at-preserved
 loop-at-preserved c =
-    let first = c in
-    let test = c in
-    onward-two test.before.loop.invariant test.loop-test.true (λ i. omega (arith, c.type_inv.bytes i))
+    onward-two c.loop-at.invariant c.loop-at-test.true (λ i. omega (arith, c.type_inv.bytes i))
     c.turn-half.ensures c.turn-state.ensures
 
 pub returns-then-at-bytes : goal.returns-then-at-bytes
 returns-then-at-bytes c =
-    let if = c in
-    let at_loop = c in
-    let byte = c.type_inv.bytes at_loop.loop.at in
-    last at_loop.loop.invariant c.if-at-bytes.true c.loop-at-test.false (omega (arith, byte)) c.turn-last.ensures
+    let byte = c.type_inv.bytes c.loop-at.at in
+    last c.loop-at.invariant c.if-at-bytes.true c.loop-at-test.false (omega (arith, byte)) c.turn-last.ensures
 
 pub returns : goal.returns
 returns c = ended c.loop-at.invariant c.if-at-bytes.false
