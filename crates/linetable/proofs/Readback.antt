@@ -103,3 +103,26 @@ filled_whole xs ys =
     let b : j < length ys = omega (arith, length-filled xs 0 (length ys) ys) in
     let e : 0 + j ≡ j = omega arith in
     filled_at xs 0 (length ys) ys (omega arith) j (omega arith) (omega arith) ∙ sym (from_at xs 0 (length ys) j b ∙ rw e))
+
+-- ---- the loop that stores them
+pub filled_none : (xs : List ℕ) (ys : List Location) → ys ≡ filled xs (length ys) (length ys - length ys) ys
+filled_none xs ys =
+    let e : length ys - length ys ≡ 0 = omega arith in
+    rw e
+
+-- the location before those that are stored
+pub filled_more : {out : List Location} {v : Location} (xs : List ℕ) (i n : ℕ) (ys : List Location) → 0 < i → i ≤ n → out ≡ filled xs i (n - i) ys
+    → v ≡ location_at xs (i - 1) → set out (i - 1) v ≡ filled xs (i - 1) (n - (i - 1)) ys
+filled_more xs zero n ys p h e f = absurd (omega arith)
+filled_more {out} {v} xs (suc j) n ys p h e f =
+    let a : suc j - 1 ≡ j = omega arith in
+    let b : n - j ≡ suc (n - suc j) = omega arith in
+    rw (a, b) (ap (λ l. set l j v) e ∙ ap (set (filled xs (suc j) (n - suc j) ys) j) (f ∙ ap (location_at xs) a))
+
+-- none is left
+pub filled_done : {out : List Location} (xs : List ℕ) (i : ℕ) (ys : List Location) → i ≡ 0 → out ≡ filled xs i (length ys - i) ys
+    → out ≡ locations_from xs 0 (length ys)
+filled_done xs zero ys z e =
+    let all : length ys - 0 ≡ length ys = omega arith in
+    rw all at e ∙ filled_whole xs ys
+filled_done xs (suc i) ys z e = absurd (omega arith)
