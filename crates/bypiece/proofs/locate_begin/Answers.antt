@@ -9,7 +9,7 @@ no_state-requires c = c.if-state-lt-STATE_NUMBERS.true
 pub returns-then-state-lt-STATE_NUMBERS : goal.returns-then-state-lt-STATE_NUMBERS
 returns-then-state-lt-STATE_NUMBERS c =
     let a = c.args in
-    start_none a.first-line a.count a.state.now a.records.now c.if-state-lt-STATE_NUMBERS.true c.no_state.ensures
+    start_none a.first_line a.count a.state.now a.records.now c.if-state-lt-STATE_NUMBERS.true c.no_state.ensures
 
 pub freshen-requires : goal.freshen-requires
 freshen-requires c = c.if-state-lt-STATE_NUMBERS.false
@@ -23,9 +23,9 @@ stick-requires c = omega (arith, c.if-state-lt-STATE_NUMBERS.false, c.freshen.au
 pub returns-then-room-count : goal.returns-then-room-count
 returns-then-room-count c =
     let a = c.args in
-    start_few a.first-line a.count a.state.now a.records.now c.ranges.first_line c.bits32.ensures c.as_signed.ensures c.freshen.ensures c.if-state-lt-STATE_NUMBERS.false c.if-room-count.true c.stick.ensures
+    start_few a.first_line a.count a.state.now a.records.now c.ranges.first_line c.bits32.ensures c.as_signed.ensures c.freshen.ensures c.if-state-lt-STATE_NUMBERS.false c.if-room-count.true c.stick.ensures
 
 pub returns : goal.returns
 returns c =
     let a = c.args in
-    start_on a.first-line a.count a.state.now a.records.now c.ranges.first_line c.bits32.ensures c.as_signed.ensures c.freshen.ensures c.if-state-lt-STATE_NUMBERS.false c.if-room-count.false c.refuse.ensures
+    start_on a.first_line a.count a.state.now a.records.now c.ranges.first_line c.bits32.ensures c.as_signed.ensures c.freshen.ensures c.if-state-lt-STATE_NUMBERS.false c.if-room-count.false c.refuse.ensures

@@ -42,7 +42,7 @@ overflow_add-result c =
     let at_if1 = at_meet.before in
     let at_too_long = at_if1.before in
     let at_args = at_too_long.before.before.before.before.before.before.before.before in
-    let a = at_args.args in let h = ltb-false most_bytes (length a.a.now + length a.b.now) (sym at_too_long.too_long.ensures ∙ at_if1.if1.false) in omega (arith, met-small a.a.now a.first-a a.count-a a.b.now a.first-b a.count-b at_meet.meet.ensures (not-false _ c.if-not-m.false) h)
+    let a = at_args.args in let h = ltb-false most_bytes (length a.a.now + length a.b.now) (sym at_too_long.too_long.ensures ∙ at_if1.if1.false) in omega (arith, met-small a.a.now a.first_a a.count_a a.b.now a.first_b a.count_b at_meet.meet.ensures (not-false _ c.if-not-m.false) h)
 
 pub returns : goal.returns
 returns c =

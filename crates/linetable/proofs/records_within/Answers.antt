@@ -19,5 +19,5 @@ returns-then-room-count c = ends_zero _ (located-short _ _ _ _ _ c.if-table.fals
 pub returns : goal.returns
 returns c =
     let a = c.args in
-    let first : c.as_signed-first.result ≡ first_line_of a.first-line = c.as_signed-first.ensures ∙ ap as_signed (c.bits32.ensures ∙ ap (of_z w32) (to_z-of_z c.ranges.first_line)) in
+    let first : c.as_signed-first.result ≡ first_line_of a.first_line = c.as_signed-first.ensures ∙ ap as_signed (c.bits32.ensures ∙ ap (of_z w32) (to_z-of_z c.ranges.first_line)) in
     ends-walk _ _ _ _ _ _ c.if-table.false (omega (arith, c.smaller-room.ensures)) first c.walk_entries.ensures

@@ -18,7 +18,7 @@ unfolding records_of
 returns-then-input c =
     let a = c.args in
     let capacity = length a.records.now / 4 in
-    rw (too_long a.input.now a.nodes.now a.used a.node (first_line_of a.first-line) a.count capacity c.if-input.true)
+    rw (too_long a.input.now a.nodes.now a.used a.node (first_line_of a.first_line) a.count capacity c.if-input.true)
     c.refuse.ensures
 
 pub returns-then-not-sound_at : goal.returns-then-not-sound_at
@@ -27,7 +27,7 @@ returns-then-not-sound_at c =
     let a = c.args in
     let capacity = length a.records.now / 4 in
     let bad = sym c.sound_at.ensures ∙ not-true _ c.if-not-sound_at.true in
-    rw (unsound a.input.now a.nodes.now a.used a.node (first_line_of a.first-line) a.count capacity c.if-input.false bad)
+    rw (unsound a.input.now a.nodes.now a.used a.node (first_line_of a.first_line) a.count capacity c.if-input.false bad)
     c.refuse-then-not-sound_at.ensures
 
 pub node_at-found-requires : goal.node_at-found-requires
@@ -42,7 +42,7 @@ returns-then-found-ne-BYTES_LETTER c =
     let capacity = length a.records.now / 4 in
     let good = sym c.sound_at.ensures ∙ not-false _ c.if-not-sound_at.false in
     let same = ap (λ (m : Node). m.letter) c.node_at-found.ensures in
-    rw (other a.input.now a.nodes.now a.used a.node (first_line_of a.first-line) a.count capacity c.if-input.false good (λ e. c.if-found-ne-BYTES_LETTER.true (same ∙ e)))
+    rw (other a.input.now a.nodes.now a.used a.node (first_line_of a.first_line) a.count capacity c.if-input.false good (λ e. c.if-found-ne-BYTES_LETTER.true (same ∙ e)))
     c.refuse-then-found-ne-BYTES_LETTER.ensures
 
 pub slice_bounds-linetable_to_records-end : goal.slice_bounds-linetable_to_records-end
@@ -61,7 +61,7 @@ returns c =
     let same = node.ensures in
     let found = simp (to_z-of_z c.ranges.first_line) at c.linetable_to_records.ensures in
     rw (
-      table a.input.now a.nodes.now a.used a.node (first_line_of a.first-line) a.count (length a.records.now / 4)
+      table a.input.now a.nodes.now a.used a.node (first_line_of a.first_line) a.count (length a.records.now / 4)
           c.if-input.false good (sym (ap (λ (m : Node). m.letter) same) ∙ c.if-found-ne-BYTES_LETTER.false) node.result.place node.result.size
           (ap (λ (m : Node). m.place) same) (ap (λ (m : Node). m.size) same),
       ← part a.input.now node.result.place node.result.size,

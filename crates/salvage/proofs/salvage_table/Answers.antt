@@ -13,5 +13,5 @@ pub returns : goal.returns
 returns c =
     let a = c.args in
     let bits = c.bits32.ensures ∙ ap (of_z w32) (to_z-of_z c.ranges.first_line) in
-    let first : c.as_signed-first.result ≡ first_line_of a.first-line = c.as_signed-first.ensures ∙ ap as_signed bits in
+    let first : c.as_signed-first.result ≡ first_line_of a.first_line = c.as_signed-first.ensures ∙ ap as_signed bits in
     repairs_from a.table.now _ a.count first c.salvage.ensures

@@ -13,7 +13,7 @@ use Rattle.writer.proofs.serialize_value.Goals as goal
 pub returns-then-input : goal.returns-then-input
 returns-then-input c =
     let b = c.args in
-    let t = tables_of b.input.now b.nodes.now b.entries.now b.used-nodes b.used_entries_lem in
+    let t = tables_of b.input.now b.nodes.now b.entries.now b.used_nodes b.used_entries_lem in
     finish_long t b.root b.nesting (length b.out.now) (omega arith) c.clear_bytes.ensures
 
 pub slice_bounds-write_value-end : goal.slice_bounds-write_value-end
@@ -47,7 +47,7 @@ returns-in-Done c =
     let at_at_most = at_counted.before in
     let at_args = at_at_most.before.before.before.before.before.before in
     let b = at_args.args in
-    let t = tables_of b.input.now b.nodes.now b.entries.now b.used-nodes b.used_entries_lem in
+    let t = tables_of b.input.now b.nodes.now b.entries.now b.used_nodes b.used_entries_lem in
     let o = at_write_value.write-value.new.1.1.1.0 ++ drop at_counted.counted.result b.out.now in
     let fits = fits-behind at_counted.counted.result b.out.now (omega (arith, at_counted.counted.ensures.1)) at_write_value.write-value.ensures c.in-Done.is in
     let long = length_front b.out.now at_write_value.write-value.new.1.1.1.0 at_counted.counted.result at_write_value.write-value.auto.1.1.1.0 in
@@ -62,6 +62,6 @@ returns-in-Refused c =
     let at_at_most = at_counted.before in
     let at_args = at_at_most.before.before.before.before.before.before in
     let b = at_args.args in
-    let t = tables_of b.input.now b.nodes.now b.entries.now b.used-nodes b.used_entries_lem in
+    let t = tables_of b.input.now b.nodes.now b.entries.now b.used_nodes b.used_entries_lem in
     finish_refused t b.root b.nesting (length b.out.now) (omega arith) b.out.now at_at_most.at_most.ensures at_counted.counted.ensures.0 (omega (arith, at_counted.counted.ensures.1)) at_write_value.write-value.ensures c.in-Refused.is
     (c.clear_bytes-in-Refused.ensures ∙ ap zeros (length_front b.out.now at_write_value.write-value.new.1.1.1.0 at_counted.counted.result at_write_value.write-value.auto.1.1.1.0))
