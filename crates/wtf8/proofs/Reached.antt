@@ -1,7 +1,7 @@
 -- Going through a sequence byte by byte: what is expected after its first k bytes, and how that comes to a size or to none.
 -- Every answer on one sequence is a chain of these steps. Assumes nothing.
 use mathlib.Core.Path.{◌≡◌, refl, ◌∙◌}
-use mathlib.Core.Bool.{Bool, true, false, not, cond}
+use mathlib.Core.Bool.{Bool, true, false, cond}
 use mathlib.Core.List.{List, [], ◌∷◌}
 use Prim.Native.Nat.{ℕ, zero, suc, ◌+◌, ◌-◌, ◌≤◌, ◌<◌}
 use native.Mathlib.Omega.{arith}
@@ -10,7 +10,7 @@ use native.Mathlib.Nat.{add-zero}
 use lib.Dec.{leb}
 use lib.ListN.{length, get_or, drop, length-drop}
 use lib.Seq.{drop-cons}
-use borrow.Author.Tests.{lt-ltb, ne_eqb, not-true, not-false}
+use borrow.Author.Tests.{lt-ltb, ne_eqb}
 use Rattle.wtf8.specs.Forms.{Expected, point, trail, wrong, after_lead, after_trail, after, allows}
 use Rattle.wtf8.specs.Ascii.{UpTo}
 use Rattle.wtf8.specs.Sequence.{Taken, Reached, within}
@@ -79,8 +79,8 @@ module _ {s : List ℕ} {at : ℕ} where
   -- a byte within its bounds
   pub on :
       {k low high more : ℕ} {test : Bool} → Reached s at k (trail low high more) → at + k < length s → test ≡ within low high (get_or s (at + k) 0)
-      → not test ≡ false → Reached s at (suc k) (after_trail more)
-  on {test = test} r h w n = rw (not-false test n) at (stood r h w)
+      → test ≡ true → Reached s at (suc k) (after_trail more)
+  on r h w n = rw n at (stood r h w)
 
   -- a byte of ASCII
   pub low : {k : ℕ} → Reached s at k point → at + k < length s → get_or s (at + k) 0 < 0x80 → Reached s at (suc k) point
@@ -108,8 +108,8 @@ module _ {s : List ℕ} {at : ℕ} where
   -- a byte out of its bounds
   pub off :
       {k low high more : ℕ} {test : Bool} → Reached s at k (trail low high more) → at + k < length s → test ≡ within low high (get_or s (at + k) 0)
-      → not test ≡ true → Taken s at 0
-  off {test = test} r h w n = none (rw (not-true test n) at (stood r h w))
+      → test ≡ false → Taken s at 0
+  off r h w n = none (rw n at (stood r h w))
 
   -- the bytes end within the sequence
   pub cut : {k low high more : ℕ} → Reached s at k (trail low high more) → length s ≤ at + k + more → Taken s at 0

@@ -1,6 +1,5 @@
 -- `wtf8::three` meets its contract: a chain of steps through the sequence for each answer.
 use native.Mathlib.Omega.{arith}
-use Rattle.std.proofs.lemmas.Bool.{not-true, not-false}
 use Rattle.wtf8.proofs.Reached.{led, on, off, cut, whole}
 use Rattle.wtf8.proofs.three.Goals as goal
 
@@ -9,18 +8,18 @@ returns-then-bytes-at-lt3 c = cut (led c.requires.0 c.requires.1) (omega arith)
 
 pub returns-then-not-stands : goal.returns-then-not-stands
 returns-then-not-stands c =
-    off (led c.requires.0 c.requires.1) (omega arith) c.stands.ensures (not-true _ c.if-not-stands.true)
+    off (led c.requires.0 c.requires.1) (omega arith) c.stands.ensures c.if-not-stands.true
 
 pub returns-then-not-stands-2 : goal.returns-then-not-stands-2
 returns-then-not-stands-2 c =
     off
     (on (led c.requires.0 c.requires.1)
-    (omega arith) c.stands.ensures (not-false _ c.if-not-stands.false))
-    (omega arith) c.stands-2.ensures (not-true _ c.if-not-stands-2.true)
+    (omega arith) c.stands.ensures c.if-not-stands.false)
+    (omega arith) c.stands-2.ensures c.if-not-stands-2.true
 
 pub returns : goal.returns
 returns c =
     whole
     (on (on (led c.requires.0 c.requires.1)
-    (omega arith) c.stands.ensures (not-false _ c.if-not-stands.false))
-    (omega arith) c.stands-2.ensures (not-false _ c.if-not-stands-2.false))
+    (omega arith) c.stands.ensures c.if-not-stands.false)
+    (omega arith) c.stands-2.ensures c.if-not-stands-2.false)
