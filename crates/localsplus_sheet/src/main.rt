@@ -4,8 +4,9 @@
 
 use localsplus::Split;
 use printing::{say, say_field, say_refused, say_store};
+use std::io::{self, BufWriter, Write};
 
-fn say_answer(answer: Split) {
+fn say_answer(out: &mut impl Write, answer: Split) -> io::Result<()> {
     match answer {
         Split::Done {
             locals,
@@ -13,26 +14,28 @@ fn say_answer(answer: Split) {
             frees,
             present,
         } => {
-            say(b"  Local, Cell, Free:");
-            say_field(locals);
-            say_field(cells);
-            say_field(frees);
+            say(out, b"  Local, Cell, Free:")?;
+            say_field(out, locals)?;
+            say_field(out, cells)?;
+            say_field(out, frees)?;
             if present {
-                say(b"; cell-to-argument present\n");
+                say(out, b"; cell-to-argument present\n")?;
             } else {
-                say(b"; cell-to-argument absent\n");
+                say(out, b"; cell-to-argument absent\n")?;
             }
         }
         Split::Refused(number, place) => {
-            say(b"  ");
-            say_refused(number, place);
-            say(b"\n");
+            say(out, b"  ")?;
+            say_refused(out, number, place)?;
+            say(out, b"\n")?;
         }
     }
+    Ok(())
 }
 
 // One split: its title, its answer and its five stores, the last of which is lent.
 fn show(
+    out: &mut impl Write,
     title: &[u8],
     kinds: &[u8],
     names: u32,
@@ -40,35 +43,49 @@ fn show(
     kwonly: u32,
     flags: u32,
     arguments: &mut [u32],
-) {
-    say(title);
+) -> io::Result<()> {
+    say(out, title)?;
     let mut locals = [7u32; 7];
     let mut cells = [7u32; 7];
     let mut frees = [7u32; 7];
     let mut map = [7u32; 7];
-    say_answer(localsplus::split_localplus(
-        kinds,
-        names,
-        args,
-        kwonly,
-        flags,
-        &mut locals,
-        &mut cells,
-        &mut frees,
-        &mut map,
-        arguments,
-    ));
-    say_store(b"  Local", &locals);
-    say_store(b"  Cell", &cells);
-    say_store(b"  Free", &frees);
-    say_store(b"  map", &map);
-    say_store(b"  cell-to-argument", arguments);
+    say_answer(
+        out,
+        localsplus::split_localplus(
+            kinds,
+            names,
+            args,
+            kwonly,
+            flags,
+            &mut locals,
+            &mut cells,
+            &mut frees,
+            &mut map,
+            arguments,
+        ),
+    )?;
+    say_store(out, b"  Local", &locals)?;
+    say_store(out, b"  Cell", &cells)?;
+    say_store(out, b"  Free", &frees)?;
+    say_store(out, b"  map", &map)?;
+    say_store(out, b"  cell-to-argument", arguments)
 }
 
-fn main() {
+fn main(rt: HostRuntime) -> io::Result<()> {
+    let mut out = BufWriter::new(rt.alloc(), io::writer(&rt))?;
     let kinds = [0x20u8, 0x60, 0x20, 0x40, 0xC0, 0x80];
-    show(b"two arguments\n", &kinds, 6, 2, 0, 0, &mut [7; 7]);
     show(
+        &mut out,
+        b"two arguments\n",
+        &kinds,
+        6,
+        2,
+        0,
+        0,
+        &mut [7; 7],
+    )?;
+    show(
+        &mut out,
         b"one argument, so no argument cell\n",
         &kinds,
         6,
@@ -76,8 +93,9 @@ fn main() {
         0,
         0,
         &mut [7; 7],
-    );
+    )?;
     show(
+        &mut out,
         b"one argument and flag 0x08\n",
         &kinds,
         6,
@@ -85,9 +103,10 @@ fn main() {
         0,
         8,
         &mut [7; 7],
-    );
-    show(b"no names\n", &[], 0, 0, 0, 0, &mut [7; 0]);
+    )?;
+    show(&mut out, b"no names\n", &[], 0, 0, 0, 0, &mut [7; 0])?;
     show(
+        &mut out,
         b"five names for six kinds\n",
         &kinds,
         5,
@@ -95,8 +114,9 @@ fn main() {
         1,
         0,
         &mut [7; 4],
-    );
+    )?;
     show(
+        &mut out,
         b"a sum of 2^32\n",
         &kinds,
         6,
@@ -104,8 +124,9 @@ fn main() {
         0,
         4,
         &mut [7; 4],
-    );
+    )?;
     show(
+        &mut out,
         b"a sum of 2^32 - 1, and four numbers of room at the end\n",
         &kinds,
         6,
@@ -113,5 +134,6 @@ fn main() {
         1,
         0,
         &mut [7; 4],
-    );
+    )?;
+    out.flush()
 }

@@ -4,72 +4,76 @@
 
 use printedtotals::Printed;
 use printing::{say, say_number, say_refused};
+use std::io::{self, BufWriter, Write};
 use totals::Totalled;
 
-fn say_counted(answer: Totalled, after: &[u64]) {
+fn say_counted(writer: &mut impl Write, answer: Totalled, after: &[u64]) -> io::Result<()> {
     match answer {
         Totalled::Done => {
-            say(b"counted");
+            say(writer, b"counted")?;
         }
         Totalled::Refused(number, place) => {
-            say_refused(number, place);
+            say_refused(writer, number, place)?;
         }
     }
-    say(b", inputs ");
-    say_number(totals::counter(after, 0));
-    say(b", refused ");
-    say_number(totals::counter(after, 2));
-    say(b"\n");
+    say(writer, b", inputs ")?;
+    say_number(writer, totals::counter(after, 0))?;
+    say(writer, b", refused ")?;
+    say_number(writer, totals::counter(after, 2))?;
+    say(writer, b"\n")
 }
 
-fn say_printed(answer: Printed, out: &[u8]) {
+fn say_printed(writer: &mut impl Write, answer: Printed, out: &[u8]) -> io::Result<()> {
     match answer {
         Printed::Done(count) => {
-            say_number(count as u64);
-            say(b" bytes\n");
-            say(out);
+            say_number(writer, count as u64)?;
+            say(writer, b" bytes\n")?;
+            say(writer, out)?;
         }
         Printed::Refused(number, place) => {
-            say_refused(number, place);
-            say(b"\n");
+            say_refused(writer, number, place)?;
+            say(writer, b"\n")?;
         }
     }
+    Ok(())
 }
 
-fn example() {
+fn example(writer: &mut impl Write) -> io::Result<()> {
     let mut after = [1u64; 29];
-    say(b"accepted, accepted, refused 5: ");
+    say(writer, b"accepted, accepted, refused 5: ")?;
     let answer = totals::count_answers(&[], &[0, 0, 5], &mut after);
-    say_counted(answer, &after);
+    say_counted(writer, answer, &after)?;
     let mut out = [1u8; 359];
-    say(b"printed: ");
+    say(writer, b"printed: ")?;
     let answer = printedtotals::print_totals(&after, &mut out);
-    say_printed(answer, &out);
+    say_printed(writer, answer, &out)?;
     let mut short = [1u8; 358];
-    say(b"in a byte less: ");
+    say(writer, b"in a byte less: ")?;
     let answer = printedtotals::print_totals(&after, &mut short);
-    say_printed(answer, &short);
+    say_printed(writer, answer, &short)
 }
 
-fn refusals() {
+fn refusals(writer: &mut impl Write) -> io::Result<()> {
     let mut after = [1u64; 29];
     let full = [0xFFFF_FFFF_FFFF_FFFFu64; 29];
-    say(b"an answer above 26: ");
+    say(writer, b"an answer above 26: ")?;
     let answer = totals::count_answers(&[], &[27], &mut after);
-    say_counted(answer, &after);
-    say(b"one more than 64 bits hold: ");
+    say_counted(writer, answer, &after)?;
+    say(writer, b"one more than 64 bits hold: ")?;
     let answer = totals::count_answers(&full, &[26], &mut after);
-    say_counted(answer, &after);
-    say(b"as many as 64 bits hold, and none: ");
+    say_counted(writer, answer, &after)?;
+    say(writer, b"as many as 64 bits hold, and none: ")?;
     let answer = totals::add_totals(&full, &[], &mut after);
-    say_counted(answer, &after);
+    say_counted(writer, answer, &after)?;
     let mut short = [1u64; 28];
-    say(b"28 numbers lent: ");
+    say(writer, b"28 numbers lent: ")?;
     let answer = totals::count_answers(&[], &[0], &mut short);
-    say_counted(answer, &short);
+    say_counted(writer, answer, &short)
 }
 
-fn main() {
-    example();
-    refusals();
+fn main(rt: HostRuntime) -> io::Result<()> {
+    let mut writer = BufWriter::new(rt.alloc(), io::writer(&rt))?;
+    example(&mut writer)?;
+    refusals(&mut writer)?;
+    writer.flush()
 }

@@ -3,115 +3,119 @@
 #![tactic(auto)]
 
 use printing::{say, say_bytes, say_number, say_refused};
+use std::io::{self, BufWriter, Write};
 use varint::Written;
 use varintread::Found;
 
-fn say_written(answer: Written, out: &[u8]) {
+fn say_written(writer: &mut impl Write, answer: Written, out: &[u8]) -> io::Result<()> {
     match answer {
         Written::Done(count) => {
-            say(b"written ");
-            say_number(count as u64);
+            say(writer, b"written ")?;
+            say_number(writer, count as u64)?;
         }
         Written::Refused(number, place) => {
-            say_refused(number, place);
+            say_refused(writer, number, place)?;
         }
     }
-    say(b", store");
-    say_bytes(out);
-    say(b"\n");
+    say(writer, b", store")?;
+    say_bytes(writer, out)?;
+    say(writer, b"\n")
 }
 
-fn say_found(answer: Found) {
+fn say_found(writer: &mut impl Write, answer: Found) -> io::Result<()> {
     match answer {
         Found::Number { value, next } => {
-            say(b"value ");
-            say_number(value as u64);
-            say(b", next ");
-            say_number(next as u64);
-            say(b"\n");
+            say(writer, b"value ")?;
+            say_number(writer, value as u64)?;
+            say(writer, b", next ")?;
+            say_number(writer, next as u64)?;
+            say(writer, b"\n")?;
         }
         Found::Nothing => {
-            say(b"none\n");
+            say(writer, b"none\n")?;
         }
         Found::Refused { number, place } => {
-            say(b"refused ");
-            say_number(number as u64);
-            say(b" at ");
-            say_number(place as u64);
-            say(b"\n");
+            say(writer, b"refused ")?;
+            say_number(writer, number as u64)?;
+            say(writer, b" at ")?;
+            say_number(writer, place as u64)?;
+            say(writer, b"\n")?;
         }
     }
+    Ok(())
 }
 
-fn write_64() {
+fn write_64(writer: &mut impl Write) -> io::Result<()> {
     let mut out = [0xFFu8; 3];
-    say(b"64 little-endian: ");
+    say(writer, b"64 little-endian: ")?;
     let answer = varint::write_varint(&mut out, 64);
-    say_written(answer, &out);
-    say(b"64 big-endian: ");
+    say_written(writer, answer, &out)?;
+    say(writer, b"64 big-endian: ")?;
     let answer = varint::write_varint_be(&mut out, 64);
-    say_written(answer, &out);
-    say(b"64 with marker: ");
+    say_written(writer, answer, &out)?;
+    say(writer, b"64 with marker: ")?;
     let answer = varint::write_varint_with_start(&mut out, 64);
-    say_written(answer, &out);
+    say_written(writer, answer, &out)
 }
 
-fn write_signed() {
+fn write_signed(writer: &mut impl Write) -> io::Result<()> {
     let mut out = [0xFFu8; 7];
-    say(b"-1 signed: ");
+    say(writer, b"-1 signed: ")?;
     let answer = varint::write_signed_varint(&mut out, -1);
-    say_written(answer, &out);
-    say(b"-2147483647 signed: ");
+    say_written(writer, answer, &out)?;
+    say(writer, b"-2147483647 signed: ")?;
     let answer = varint::write_signed_varint(&mut out, -2_147_483_647);
-    say_written(answer, &out);
-    say(b"-2147483648 signed: ");
+    say_written(writer, answer, &out)?;
+    say(writer, b"-2147483648 signed: ")?;
     let answer = varint::write_signed_varint(&mut out, -2_147_483_648);
-    say_written(answer, &out);
+    say_written(writer, answer, &out)
 }
 
-fn write_without_room() {
+fn write_without_room(writer: &mut impl Write) -> io::Result<()> {
     let mut out = [0xFFu8; 1];
-    say(b"64 little-endian, one byte of room: ");
+    say(writer, b"64 little-endian, one byte of room: ")?;
     let answer = varint::write_varint(&mut out, 64);
-    say_written(answer, &out);
-    say(b"-2147483648 signed, one byte of room: ");
+    say_written(writer, answer, &out)?;
+    say(writer, b"-2147483648 signed, one byte of room: ")?;
     let answer = varint::write_signed_varint(&mut out, -2_147_483_648);
-    say_written(answer, &out);
+    say_written(writer, answer, &out)
 }
 
-fn read_back() {
+fn read_back(writer: &mut impl Write) -> io::Result<()> {
     let big = [0x41u8, 0x00];
     let marked = [0xC1u8, 0x00];
-    say(b"41 00 at 0: ");
-    say_found(varintread::read_varint(&big, 0));
-    say(b"c1 00 with marker at 0: ");
-    say_found(varintread::read_varint_with_start(&marked, 0));
-    say(b"c1 00 at 0: ");
-    say_found(varintread::read_varint(&marked, 0));
-    say(b"41 00 with marker at 0: ");
-    say_found(varintread::read_varint_with_start(&big, 0));
-    say(b"41 00 at 2: ");
-    say_found(varintread::read_varint(&big, 2));
-    say(b"41 00 at 3: ");
-    say_found(varintread::read_varint(&big, 3));
+    say(writer, b"41 00 at 0: ")?;
+    say_found(writer, varintread::read_varint(&big, 0))?;
+    say(writer, b"c1 00 with marker at 0: ")?;
+    say_found(writer, varintread::read_varint_with_start(&marked, 0))?;
+    say(writer, b"c1 00 at 0: ")?;
+    say_found(writer, varintread::read_varint(&marked, 0))?;
+    say(writer, b"41 00 with marker at 0: ")?;
+    say_found(writer, varintread::read_varint_with_start(&big, 0))?;
+    say(writer, b"41 00 at 2: ")?;
+    say_found(writer, varintread::read_varint(&big, 2))?;
+    say(writer, b"41 00 at 3: ")?;
+    say_found(writer, varintread::read_varint(&big, 3))
 }
 
-fn read_cut_and_large() {
+fn read_cut_and_large(writer: &mut impl Write) -> io::Result<()> {
     let cut = [0x00u8, 0x41];
     let large = [0x44u8, 0x40, 0x40, 0x40, 0x40, 0x00];
     let zeros = [0x40u8, 0x40, 0x40, 0x40, 0x40, 0x40, 0x40, 0x40, 0x05];
-    say(b"00 41 at 1: ");
-    say_found(varintread::read_varint(&cut, 1));
-    say(b"44 40 40 40 40 00 at 0: ");
-    say_found(varintread::read_varint(&large, 0));
-    say(b"eight 40, then 05, at 0: ");
-    say_found(varintread::read_varint(&zeros, 0));
+    say(writer, b"00 41 at 1: ")?;
+    say_found(writer, varintread::read_varint(&cut, 1))?;
+    say(writer, b"44 40 40 40 40 00 at 0: ")?;
+    say_found(writer, varintread::read_varint(&large, 0))?;
+    say(writer, b"eight 40, then 05, at 0: ")?;
+    say_found(writer, varintread::read_varint(&zeros, 0))
 }
 
-fn main() {
-    write_64();
-    write_signed();
-    write_without_room();
-    read_back();
-    read_cut_and_large();
+fn main(rt: HostRuntime) -> io::Result<()> {
+    let mut writer = BufWriter::new(rt.alloc(), io::writer(&rt))?;
+    write_64(&mut writer)?;
+    write_signed(&mut writer)?;
+    write_without_room(&mut writer)?;
+    read_back(&mut writer)?;
+    read_cut_and_large(&mut writer)?;
+    writer.flush()
 }
