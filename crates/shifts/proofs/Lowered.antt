@@ -1,5 +1,5 @@
 -- The lowered input has every byte but those of the indices, and each index is lowered. Assumes that the input is bytes.
-use mathlib.Core.Path.{◌≡◌, refl, ◌∙◌}
+use mathlib.Core.Path.{◌≡◌, refl, subst, ◌∙◌}
 use Prim.Native.Nat.{ℕ, zero, suc, ◌+◌, ◌-◌, ◌/◌, ◌%◌, ◌≤◌, ◌<◌}
 use native.Mathlib.Omega.{arith}
 use mathlib.Core.Bool.{Bool, true, false, cond, ◌&&◌}
@@ -165,7 +165,7 @@ in_between at end (x ∷ xs) r m l h = go (eqb r x) refl m (λ q. in_between at 
         → among r (cond (ltb at x && ltb x end) (x ∷ between at end xs) (between at end xs)) ≡ true
     go true e q more =
         let z = eqb-true r x e in
-        rw (lt-ltb at x (omega arith), lt-ltb x end (omega arith), z) (member x (between at end xs))
+        rw (lt-ltb at x (omega arith), lt-ltb x end (omega arith)) (subst (λ y. among r (y ∷ between at end xs) ≡ true) z (member r (between at end xs)))
     go false e q more = more_in (ltb at x && ltb x end) (more q)
 
 pub between_spaced : (at end top : ℕ) (M : List ℕ) → Spaced top M → Spaced top (between at end M)
