@@ -124,4 +124,4 @@ returns-in-120 c = sym (ap class_of c.in-120.is)
 
 pub returns-in_default : goal.returns-in_default
 unfolding letters class_of classes class_at
-returns-in_default c = sym (absent Unit c.args.letter letters c.in_default.rest)
+returns-in_default c = sym (absent Unit c.args.letter letters c.in_default.in_default-own.rest)

@@ -21,8 +21,7 @@ returns-in-11 c = of_class (ap class_at c.in-11.is) c.read_short.ensures
 pub returns-in_default : goal.returns-in_default
 unfolding classes class_at
 returns-in_default c =
-    let start = c in
     let class = c.args.class in
-    let told = c.in_default.rest in
-    let last : class ≡ 12 = omega (arith, told, told.0, c.if-class-lt-BYTES_CLASS.false, c.requires.0) in
+    let told = c.in_default.in_default-own.rest in
+    let last : class ≡ 12 = omega (arith, told, c.if-class-lt-BYTES_CLASS.false, c.requires.0) in
     of_class (ap class_at last) c.read_numbers.ensures

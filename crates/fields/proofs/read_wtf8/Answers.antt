@@ -1,6 +1,6 @@
 -- `fields::read_wtf8` meets its contract: the part that is lent is the contents of the definition.
 -- Assumes nothing.
-use borrow.Author.Tests.{lt-leb, not-true, not-false}
+use borrow.Author.Tests.{lt-leb}
 use Rattle.fields.proofs.Laws.{string-bad, string_in}
 use Rattle.fields.proofs.read_wtf8.Goals as goal
 
@@ -11,10 +11,10 @@ pub returns-then-not-is_wtf8_by_table : goal.returns-then-not-is_wtf8_by_table
 returns-then-not-is_wtf8_by_table c =
     let a = c.args in
     string-bad a.s.now a.at a.size c.if-s-from.false c.is_wtf8_by_table.ensures
-    (not-true _ c.if-not-is_wtf8_by_table.true)
+    c.if-not-is_wtf8_by_table.true
 
 pub returns : goal.returns
 returns c =
     let a = c.args in
     string_in a.s.now a.at a.size c.if-s-from.false c.is_wtf8_by_table.ensures
-    (not-false _ c.if-not-is_wtf8_by_table.false)
+    c.if-not-is_wtf8_by_table.false

@@ -11,4 +11,4 @@ pub returns-in-41 : goal.returns-in-41
 returns-in-41 c = rw c.in-41.is refl
 
 pub returns-in_default : goal.returns-in_default
-returns-in_default c = tuple_none _ c.in_default.rest.0.1 c.in_default.rest.1
+returns-in_default c = tuple_none _ c.in_default.in_default-own.rest.0.1 c.in_default.in_default-own.rest.1
