@@ -1,4 +1,4 @@
--- `visit` meets its contract by the laws cited here. Assumes nothing.
+-- `visit` meets its contract by the laws cited here.
 use Prim.Native.Nat.{◌+◌, ◌-◌}
 use lib.ListN.{length}
 use Rattle.keepvisit.specs.Visit.{stores}
