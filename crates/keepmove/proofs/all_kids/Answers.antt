@@ -11,21 +11,11 @@ loop-i-init c = record { comes = refl; start = omega arith; over = record { fron
 
 pub gather_kids-requires : goal.gather_kids-requires
 gather_kids-requires c =
-    let at_count_of = c in
-    let at_loop_test = c in
-    let at_loop = at_loop_test.before in
-    let at_pre = at_loop.before.before.before.before in
-    all_kids-room at_loop.loop.invariant at_pre.requires.0 at_pre.requires.1 at_pre.requires.2 at_loop_test.loop-test.true c.count_of-count.ensures
+    all_kids-room c.loop-i.invariant c.requires.0 c.requires.1 c.requires.2 c.loop-i-test.true c.count_of-count.ensures
 
 pub loop-i-preserved : goal.loop-i-preserved
 loop-i-preserved c =
-    let at_gather_kids = c in
-    let at_first_of = c in
-    let at_count_of = at_first_of.before in
-    let at_loop_test = at_count_of.before.before in
-    let at_loop = at_loop_test.before in
-    let at_pre = at_loop.before.before.before.before in
-    all_kids_more at_loop.loop.invariant at_pre.requires.0 at_pre.requires.1 at_pre.requires.2 at_loop_test.loop-test.true at_count_of.count_of.ensures at_first_of.first_of.ensures c.gather_kids.ensures
+    all_kids_more c.loop-i.invariant c.requires.0 c.requires.1 c.requires.2 c.loop-i-test.true c.count_of-count.ensures c.first_of-first.ensures c.gather_kids.ensures
 
 pub returns : goal.returns
 returns c = search (all_kids-done, rules)

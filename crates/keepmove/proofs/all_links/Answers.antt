@@ -12,27 +12,15 @@ loop-i-init c = record { comes = rw add-zero refl; over = record { front = refl;
 
 pub gather_links-requires : goal.gather_links-requires
 gather_links-requires c =
-    let at_loop_test = c in
-    let at_loop = c in
-    let at_pre = at_loop.before.before.before in
-    omega (arith, at_pre.requires, all_links-room at_loop.loop.invariant at_pre.requires.0 at_pre.requires.1 c.loop-i-test.true c.count_of-count.ensures)
+    omega (arith, c.requires, all_links-room c.loop-i.invariant c.requires.0 c.requires.1 c.loop-i-test.true c.count_of-count.ensures)
 
 pub overflow_add-number : goal.overflow_add-number
 overflow_add-number c =
-    let at_count_of = c in
-    let at_loop_test = c in
-    let at_loop = at_loop_test.before in
-    let at_pre = at_loop.before.before.before in
-    omega (arith, at_pre.requires, all_links-room at_loop.loop.invariant at_pre.requires.0 at_pre.requires.1 at_loop_test.loop-test.true c.count_of-count.ensures)
+    omega (arith, c.requires, all_links-room c.loop-i.invariant c.requires.0 c.requires.1 c.loop-i-test.true c.count_of-count.ensures)
 
 pub loop-i-preserved : goal.loop-i-preserved
 loop-i-preserved c =
-    let at_gather_links = c in
-    let at_count_of = c in
-    let at_loop_test = at_count_of.before.before in
-    let at_loop = at_loop_test.before in
-    let at_pre = at_loop.before.before.before in
-    all_links_more at_loop.loop.invariant at_pre.requires.0 at_pre.requires.1 at_loop_test.loop-test.true at_count_of.count_of.ensures c.gather_links.ensures
+    all_links_more c.loop-i.invariant c.requires.0 c.requires.1 c.loop-i-test.true c.count_of-count.ensures c.gather_links.ensures
 
 pub returns : goal.returns
 returns c = search (all_links-done, rules)

@@ -12,10 +12,7 @@ loop-i-init c = record { comes = rw add-zero refl; over = record { front = refl;
 
 pub overflow_add-at : goal.overflow_add-at
 overflow_add-at c =
-    let at_loop_test = c in
-    let at_loop = c in
-    let at_pre = at_loop.before.before.before in
-    omega (arith, at_pre.requires, firsts_room at_loop.loop.invariant at_pre.requires.0 at_pre.requires.1 c.loop-i-test.true c.count_of-count.ensures)
+    omega (arith, c.requires, firsts_room c.loop-i.invariant c.requires.0 c.requires.1 c.loop-i-test.true c.count_of-count.ensures)
 
 pub loop-i-preserved : goal.loop-i-preserved
 loop-i-preserved c = search (firsts_more, rules)

@@ -4,7 +4,4 @@ use Rattle.keepmove.proofs.move_column.Goals as goal
 
 pub returns : goal.returns
 returns c =
-    let at_lay_nodes = c in
-    let at_gather_column = c in
-    let at_pre = at_gather_column.before.before.before.before.before in
-    column_moved at_gather_column.gather-column.ensures c.lay_nodes.ensures at_pre.requires.1
+    column_moved c.gather_column.ensures c.lay_nodes.ensures c.requires.1

@@ -11,23 +11,13 @@ loop-i-init c = search (down_start, rules)
 
 pub overflow_add-at : goal.overflow_add-at
 overflow_add-at c =
-    let at_node_of = c in
-    let at_loop_test = c in
-    let at_loop = at_loop_test.before in
-    let at_pre = at_loop.before.before.before in
-    let k = down-room at_loop.loop.invariant at_pre.requires.0 at_pre.requires.1 at_loop_test.loop-test.true (ap (λ x. x.count) c.node_of-node.ensures) in
-    omega (arith, at_pre.requires.2, k)
+    let k = down-room c.loop-i.invariant c.requires.0 c.requires.1 c.loop-i-test.true (ap (λ x. x.count) c.node_of-node.ensures) in
+    omega (arith, c.requires.2, k)
 
 pub loop-i-preserved : goal.loop-i-preserved
 loop-i-preserved c =
-    let at_write = c in
-    let at_first = c in
-    let at_node_of = at_first.before in
-    let at_loop_test = at_node_of.before.before.before in
-    let at_loop = at_loop_test.before in
-    let at_pre = at_loop.before.before.before in
-    down_more at_loop.loop.invariant at_node_of.node_of_lem.result at_pre.requires.0 at_pre.requires.1 at_pre.requires.3 at_loop_test.loop-test.true at_node_of.node_of_lem.ensures
-    at_first.first-at.ensures c.write_node.ensures
+    down_more c.loop-i.invariant c.node_of-node.result c.requires.0 c.requires.1 c.requires.3 c.loop-i-test.true c.node_of-node.ensures
+    c.first_at.ensures c.write_node.ensures
 
 pub returns : goal.returns
 returns c = search (down-done, rules)

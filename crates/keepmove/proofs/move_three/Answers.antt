@@ -4,8 +4,4 @@ use Rattle.keepmove.proofs.move_three.Goals as goal
 
 pub returns : goal.returns
 returns c =
-    let at_move_column3 = c in
-    let at_move_column2 = c in
-    let at_move_column = at_move_column2.before.before.before.before.before.before.before in
-    let at_pre = at_move_column.before.before.before.before.before in
-    three-moved at_move_column.move-column.ensures at_move_column2.move-column2.ensures c.move_column-3.ensures at_pre.requires.0 at_pre.requires.2
+    three-moved c.move_column.ensures c.move_column-2.ensures c.move_column-3.ensures c.requires.0 c.requires.2

@@ -4,6 +4,5 @@ use Rattle.raising.proofs.raise_node.Goals as goal
 
 pub returns : goal.returns
 returns c =
-    let at_raised = c in
     let b = c.args in
     node-relabelled b.nodes.now b.n b.kept b.number c.node_at-read.ensures c.raised.ensures c.write_node.ensures

@@ -8,20 +8,15 @@ returns-then-bytes c = let b = c.args in away_long b.bytes _ _ (keeping b.keptno
 
 pub returns-then-node_capacity-keptnodes : goal.returns-then-node_capacity-keptnodes
 returns-then-node_capacity-keptnodes c =
-    let at_long = c in
     let b = c.args in
     away_nodes b.bytes _ _ (keeping b.keptnodes b.keptentries 0) c.if-bytes.false c.node_capacity.ensures c.if-node_capacity-keptnodes.true
 
 pub returns-then-entry_capacity-keptentries : goal.returns-then-entry_capacity-keptentries
 returns-then-entry_capacity-keptentries c =
-    let at_nodes = c in
-    let at_long = c in
-    let b = at_long.before.args in
-    away_entries b.bytes _ _ (keeping b.keptnodes b.keptentries 0) at_long.if1.false c.node_capacity.ensures c.if-node_capacity-keptnodes.false c.entry_capacity.ensures c.if-entry_capacity-keptentries.true
+    let b = c.before.args in
+    away_entries b.bytes _ _ (keeping b.keptnodes b.keptentries 0) c.if1.false c.node_capacity.ensures c.if-node_capacity-keptnodes.false c.entry_capacity.ensures c.if-entry_capacity-keptentries.true
 
 pub returns : goal.returns
 returns c =
-    let at_nodes = c in
-    let at_long = c in
-    let b = at_long.before.args in
-    away_none b.bytes _ _ (keeping b.keptnodes b.keptentries 0) at_long.if1.false c.node_capacity.ensures c.if-node_capacity-keptnodes.false c.entry_capacity.ensures c.if-entry_capacity-keptentries.false
+    let b = c.before.args in
+    away_none b.bytes _ _ (keeping b.keptnodes b.keptentries 0) c.if1.false c.node_capacity.ensures c.if-node_capacity-keptnodes.false c.entry_capacity.ensures c.if-entry_capacity-keptentries.false
