@@ -10,7 +10,7 @@ returns-then-bound-node c =
 
 pub returns-in-Fault : goal.returns-in-Fault
 returns-in-Fault c =
-    kept-fault c.requires c.args.node c.args.slots.now c.visit-seen.new.s c.visit-seen.ensures c.seen.given.1 c.visit-seen.auto.s c.clear_words.ensures c.refused-in-Fault.ensures
+    kept-fault c.requires c.args.node c.args.slots.now c.visit-seen.new.s c.visit-seen.ensures c.in-Fault.is c.visit-seen.auto.s c.clear_words.ensures c.refused-in-Fault.ensures
 
 pub overflow_sub-freed : goal.overflow_sub-freed
 overflow_sub-freed c =
@@ -26,4 +26,4 @@ move_all-requires c =
 
 pub returns-in-All : goal.returns-in-All
 returns-in-All c =
-    kept_all c.requires c.args.node c.args.slots.now c.visit-seen.new.s c.visit-seen.ensures c.seen2.given.1 c.visit-seen.auto.s c.move_all.ensures c.node_capacity.ensures c.entry_capacity.ensures refl
+    kept_all c.requires c.args.node c.args.slots.now c.visit-seen.new.s c.visit-seen.ensures c.in-All.is c.visit-seen.auto.s c.move_all.ensures c.node_capacity.ensures c.entry_capacity.ensures refl
