@@ -17,16 +17,14 @@ pub struct SillExceptions {
 }
 
 // `decode_exception_table`.
-#[unsafe(no_mangle)]
-pub extern "C" fn sill_read_exceptions(table: &[u8], entries: &mut [u32]) -> SillExceptions
+pub fn sill_read_exceptions(table: &[u8], entries: &mut [u32]) -> SillExceptions
     ensures { (result, entries.new) ≡ decoded_as (decoded_of table.now (length entries.old)) }
 {
     decoded_numbers(exceptiontable::decode_exception_table(table, entries))
 }
 
 // `encode_exception_table`.
-#[unsafe(no_mangle)]
-pub extern "C" fn sill_write_exceptions(entries: &[u32], out: &mut [u8]) -> SillWritten
+pub fn sill_write_exceptions(entries: &[u32], out: &mut [u8]) -> SillWritten
     ensures { (result, out.new) ≡ encoded_as (encoded_of entries.now (length out.old)) }
 {
     encoded_numbers(exceptiontable::encode_exception_table(entries, out))

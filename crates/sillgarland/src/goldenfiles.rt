@@ -16,8 +16,7 @@ pub struct SillMoved {
 }
 
 // An old golden, code and result back to back, into fields.
-#[unsafe(no_mangle)]
-pub extern "C" fn sill_golden_to_fields(
+pub fn sill_golden_to_fields(
     plain: &[u8],
     nodes: &mut [u32],
     entries: &mut [u32],
@@ -34,8 +33,7 @@ pub extern "C" fn sill_golden_to_fields(
 }
 
 // A golden in fields into the old form.
-#[unsafe(no_mangle)]
-pub extern "C" fn sill_golden_from_fields(
+pub fn sill_golden_from_fields(
     fields: &[u8],
     nodes: &mut [u32],
     entries: &mut [u32],

@@ -29,8 +29,7 @@ pub struct SillLine {
 }
 
 // Puts one whole table behind another that leaves its first line.
-#[unsafe(no_mangle)]
-pub extern "C" fn sill_join(
+pub fn sill_join(
     a: &[u8],
     first_a: i32,
     count_a: u32,
@@ -47,8 +46,7 @@ pub extern "C" fn sill_join(
 }
 
 // The running line of a table, without its records.
-#[unsafe(no_mangle)]
-pub extern "C" fn sill_line_after(table: &[u8], first_line: i32, count: u32) -> SillLine
+pub fn sill_line_after(table: &[u8], first_line: i32, count: u32) -> SillLine
     ensures { result ≡ line_struct (line_told table.now (first_line_of first_line) count) }
 {
     let answer = join::line_after(table, first_line, count);

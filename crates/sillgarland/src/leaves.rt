@@ -23,16 +23,14 @@ pub struct SillLeaf {
 }
 
 // What a node is, if it is a leaf.
-#[unsafe(no_mangle)]
-pub extern "C" fn sill_leaf(input: &[u8], nodes: &[u32], used: u32, node: u32) -> SillLeaf
+pub fn sill_leaf(input: &[u8], nodes: &[u32], used: u32, node: u32) -> SillLeaf
     ensures { result ≡ leaf_struct (answered_of (leaf_of input.now nodes.now used node)) }
 {
     leaf_numbers(leaf::leaf_of(input, nodes, used, node))
 }
 
 // `linetable_to_locations` of a bytes node, four numbers an instruction.
-#[unsafe(no_mangle)]
-pub extern "C" fn sill_locate_node(
+pub fn sill_locate_node(
     input: &[u8],
     nodes: &[u32],
     used: u32,

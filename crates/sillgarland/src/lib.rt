@@ -1,4 +1,4 @@
-// The port as a static library: each exported function calls one proved function and hands its answer on as numbers.
+// The calls for C and Rust: each calls one proved function and hands its answer on as numbers. sillgarland_c exports them.
 // Refusal 0 means accepted; on refusal every field but refusal and place is 0, on acceptance place is 0; a truth is 0 or 1.
 #![tactic(auto)]
 

@@ -18,8 +18,7 @@ pub struct SillSplit {
 }
 
 // `split_localplus`.
-#[unsafe(no_mangle)]
-pub extern "C" fn sill_split(
+pub fn sill_split(
     kinds: &[u8],
     names: u32,
     args: u32,

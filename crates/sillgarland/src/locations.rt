@@ -17,8 +17,7 @@ pub struct SillLocated {
 }
 
 // `linetable_to_locations`, four numbers an instruction.
-#[unsafe(no_mangle)]
-pub extern "C" fn sill_locate(
+pub fn sill_locate(
     table: &[u8],
     first_line: i32,
     count: u32,
@@ -32,8 +31,7 @@ pub extern "C" fn sill_locate(
 }
 
 // `linetable_to_locations`, one struct an instruction, with a store of four numbers an instruction beside it.
-#[unsafe(no_mangle)]
-pub extern "C" fn sill_locations(
+pub fn sill_locations(
     table: &[u8],
     first_line: i32,
     count: u32,

@@ -17,24 +17,21 @@ pub struct SillTotalled {
 }
 
 // `count_answers`.
-#[unsafe(no_mangle)]
-pub extern "C" fn sill_totals(before: &[u64], answers: &[u32], after: &mut [u64]) -> SillTotalled
+pub fn sill_totals(before: &[u64], answers: &[u32], after: &mut [u64]) -> SillTotalled
     ensures { (result, after.new) ≡ totalled_as (totals_of before.now answers.now (length after.old)) }
 {
     totalled_numbers(totals::count_answers(before, answers, after))
 }
 
 // `add_totals`.
-#[unsafe(no_mangle)]
-pub extern "C" fn sill_add_totals(a: &[u64], b: &[u64], sum: &mut [u64]) -> SillTotalled
+pub fn sill_add_totals(a: &[u64], b: &[u64], sum: &mut [u64]) -> SillTotalled
     ensures { (result, sum.new) ≡ totalled_as (added_of a.now b.now (length sum.old)) }
 {
     totalled_numbers(totals::add_totals(a, b, sum))
 }
 
 // `print_totals`.
-#[unsafe(no_mangle)]
-pub extern "C" fn sill_print_totals(totals: &[u64], out: &mut [u8]) -> SillWritten
+pub fn sill_print_totals(totals: &[u64], out: &mut [u8]) -> SillWritten
     ensures { (result, out.new) ≡ printed_as (printed_of totals.now (length out.old)) }
 {
     printed_numbers(printedtotals::print_totals(totals, out))

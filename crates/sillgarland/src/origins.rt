@@ -19,8 +19,7 @@ pub struct SillSourced {
 }
 
 // A byte an instruction: where the place that `sill_locate` shows comes from.
-#[unsafe(no_mangle)]
-pub extern "C" fn sill_sources(
+pub fn sill_sources(
     table: &[u8],
     first_line: i32,
     count: u32,

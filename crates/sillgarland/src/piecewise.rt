@@ -8,8 +8,7 @@ use crate::locations::SillLocated;
 use piecestate::Pieced;
 
 // `locate_begin`.
-#[unsafe(no_mangle)]
-pub extern "C" fn sill_locate_begin(
+pub fn sill_locate_begin(
     first_line: i32,
     count: u32,
     state: &mut [u32],
@@ -22,8 +21,7 @@ pub extern "C" fn sill_locate_begin(
 }
 
 // `locate_piece`.
-#[unsafe(no_mangle)]
-pub extern "C" fn sill_locate_piece(
+pub fn sill_locate_piece(
     bytes: &[u8],
     state: &mut [u32],
     records: &mut [u32],
@@ -35,8 +33,7 @@ pub extern "C" fn sill_locate_piece(
 }
 
 // `locate_end`.
-#[unsafe(no_mangle)]
-pub extern "C" fn sill_locate_end(state: &mut [u32], records: &mut [u32]) -> SillLocated
+pub fn sill_locate_end(state: &mut [u32], records: &mut [u32]) -> SillLocated
     ensures { LeavesStruct (end state.old records.old) result state.new records.new }
 {
     let answer = bypiece::locate_end(state, records);

@@ -21,8 +21,7 @@ pub struct SillKept {
 }
 
 // A node and everything reachable from it moves to the front of the stores. Refused, nodes, entries and slots are as they were.
-#[unsafe(no_mangle)]
-pub extern "C" fn sill_keep(
+pub fn sill_keep(
     nodes: &mut [u32],
     entries: &mut [u32],
     slots: &mut [u32],
@@ -52,16 +51,14 @@ fn kept_numbers(answer: Kept) -> SillKept
 }
 
 // How many numbers of a stack such a move needs.
-#[unsafe(no_mangle)]
-pub extern "C" fn sill_keep_need(used_nodes: u32, used_entries: u32) -> u64
+pub fn sill_keep_need(used_nodes: u32, used_entries: u32) -> u64
     ensures { result ≡ need used_nodes used_entries }
 {
     keep::keep_need(used_nodes, used_entries) as u64
 }
 
 // One more value, read behind so many kept nodes and entries. Refused, the kept part is as it was and the rest is zero.
-#[unsafe(no_mangle)]
-pub extern "C" fn sill_read_more(
+pub fn sill_read_more(
     input: &[u8],
     nodes: &mut [u32],
     entries: &mut [u32],

@@ -21,8 +21,7 @@ pub struct SillSalvaged {
 }
 
 // Makes a whole line table of what a cut or damaged one still says.
-#[unsafe(no_mangle)]
-pub extern "C" fn sill_salvage(
+pub fn sill_salvage(
     table: &[u8],
     first_line: i32,
     count: u32,

@@ -26,24 +26,21 @@ pub struct SillStart {
 }
 
 // `index_starts`.
-#[unsafe(no_mangle)]
-pub extern "C" fn sill_index_starts(records: &[u32], count: u32, index: &mut [u64]) -> SillIndexed
+pub fn sill_index_starts(records: &[u32], count: u32, index: &mut [u64]) -> SillIndexed
     ensures { (result, index.new) ≡ indexed_as (indexed records.now count (length index.old)) }
 {
     indexed_numbers(startindex::index_starts(records, count, index))
 }
 
 // `starts_before`.
-#[unsafe(no_mangle)]
-pub extern "C" fn sill_starts_before(index: &[u64], count: u32, n: u32) -> SillStart
+pub fn sill_starts_before(index: &[u64], count: u32, n: u32) -> SillStart
     ensures { result ≡ start_struct (starts_before index.now count n) }
 {
     start_numbers(starts::starts_before(index, count, n))
 }
 
 // `start_at`.
-#[unsafe(no_mangle)]
-pub extern "C" fn sill_start_at(index: &[u64], count: u32, k: u32) -> SillStart
+pub fn sill_start_at(index: &[u64], count: u32, k: u32) -> SillStart
     ensures { result ≡ start_struct (start_at index.now count k) }
 {
     start_numbers(starts::start_at(index, count, k))

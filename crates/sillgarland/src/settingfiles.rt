@@ -49,8 +49,7 @@ pub struct SillEdition {
 }
 
 // Where the contents of a tag stand, in the override or else in the default.
-#[unsafe(no_mangle)]
-pub extern "C" fn sill_setting(own: &[u8], fallback: &[u8], tag: u32) -> SillSetting
+pub fn sill_setting(own: &[u8], fallback: &[u8], tag: u32) -> SillSetting
     ensures { result ≡ setting_struct (setting_of own.now fallback.now tag) }
 {
     let answer = settings::find_setting(own, fallback, tag);
@@ -58,8 +57,7 @@ pub extern "C" fn sill_setting(own: &[u8], fallback: &[u8], tag: u32) -> SillSet
 }
 
 // Writes a file of fields again with the contents that the changes have.
-#[unsafe(no_mangle)]
-pub extern "C" fn sill_rewrite_settings(
+pub fn sill_rewrite_settings(
     file: &[u8],
     changes: &[u8],
     out: &mut [u8],
@@ -72,8 +70,7 @@ pub extern "C" fn sill_rewrite_settings(
 }
 
 // Saves a file behind those of an archive.
-#[unsafe(no_mangle)]
-pub extern "C" fn sill_save_edition(archive: &[u8], file: &[u8], out: &mut [u8]) -> SillSaved
+pub fn sill_save_edition(archive: &[u8], file: &[u8], out: &mut [u8]) -> SillSaved
     ensures { (result ≡ kept_struct (saved_of archive.now file.now (length out.old)).0)
         × (out.new ≡ (saved_of archive.now file.now (length out.old)).1) }
 {
@@ -82,8 +79,7 @@ pub extern "C" fn sill_save_edition(archive: &[u8], file: &[u8], out: &mut [u8])
 }
 
 // Where the file of an edition stands in an archive.
-#[unsafe(no_mangle)]
-pub extern "C" fn sill_edition(archive: &[u8], edition: &[u8]) -> SillEdition
+pub fn sill_edition(archive: &[u8], edition: &[u8]) -> SillEdition
     ensures { result ≡ edition_struct (edition_of archive.now edition.now) }
 {
     let answer = editions::find_edition(archive, edition);

@@ -21,8 +21,7 @@ pub struct SillSpan {
 }
 
 // The bytes of a node, and whether they stand alone.
-#[unsafe(no_mangle)]
-pub extern "C" fn sill_span(
+pub fn sill_span(
     input: &[u8],
     nodes: &[u32],
     entries: &[u32],

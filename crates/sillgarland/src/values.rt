@@ -23,8 +23,7 @@ pub struct SillRead {
 }
 
 // `deserialize_value`.
-#[unsafe(no_mangle)]
-pub extern "C" fn sill_read(
+pub fn sill_read(
     input: &[u8],
     nodes: &mut [u32],
     entries: &mut [u32],
@@ -67,8 +66,7 @@ pub fn read_numbers(answer: Outcome) -> SillRead
 }
 
 // `serialize_value`.
-#[unsafe(no_mangle)]
-pub extern "C" fn sill_write(
+pub fn sill_write(
     input: &[u8],
     nodes: &[u32],
     entries: &[u32],

@@ -32,48 +32,42 @@ pub struct SillFound {
 }
 
 // `write_varint`.
-#[unsafe(no_mangle)]
-pub extern "C" fn sill_write_varint(out: &mut [u8], value: u32) -> SillWritten
+pub fn sill_write_varint(out: &mut [u8], value: u32) -> SillWritten
     ensures { (result, out.new) ≡ written_as (stored (length out.old) (little_endian value)) }
 {
     written_numbers(varint::write_varint(out, value))
 }
 
 // `write_signed_varint`.
-#[unsafe(no_mangle)]
-pub extern "C" fn sill_write_signed_varint(out: &mut [u8], value: i32) -> SillWritten
+pub fn sill_write_signed_varint(out: &mut [u8], value: i32) -> SillWritten
     ensures { (result, out.new) ≡ written_as (stored_signed (length out.old) (of_z w32 value)) }
 {
     written_numbers(varint::write_signed_varint(out, value))
 }
 
 // `write_varint_be`.
-#[unsafe(no_mangle)]
-pub extern "C" fn sill_write_varint_be(out: &mut [u8], value: u32) -> SillWritten
+pub fn sill_write_varint_be(out: &mut [u8], value: u32) -> SillWritten
     ensures { (result, out.new) ≡ written_as (stored (length out.old) (big_endian value)) }
 {
     written_numbers(varint::write_varint_be(out, value))
 }
 
 // `write_varint_with_start`.
-#[unsafe(no_mangle)]
-pub extern "C" fn sill_write_varint_with_start(out: &mut [u8], value: u32) -> SillWritten
+pub fn sill_write_varint_with_start(out: &mut [u8], value: u32) -> SillWritten
     ensures { (result, out.new) ≡ written_as (stored (length out.old) (big_endian_with_start value)) }
 {
     written_numbers(varint::write_varint_with_start(out, value))
 }
 
 // `read_varint`.
-#[unsafe(no_mangle)]
-pub extern "C" fn sill_read_varint(data: &[u8], at: usize) -> SillFound
+pub fn sill_read_varint(data: &[u8], at: usize) -> SillFound
     ensures { result ≡ found_struct at (read_varint «data».now at) }
 {
     found_numbers(varintread::read_varint(data, at), at)
 }
 
 // `read_varint_with_start`.
-#[unsafe(no_mangle)]
-pub extern "C" fn sill_read_varint_with_start(data: &[u8], at: usize) -> SillFound
+pub fn sill_read_varint_with_start(data: &[u8], at: usize) -> SillFound
     ensures { result ≡ found_struct at (read_varint_with_start «data».now at) }
 {
     found_numbers(varintread::read_varint_with_start(data, at), at)

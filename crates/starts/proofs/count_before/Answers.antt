@@ -3,4 +3,4 @@ use Rattle.starts.proofs.Answers.{summed}
 use Rattle.starts.proofs.count_before.Goals as goal
 
 pub returns : goal.returns
-returns c = summed _ _ c.sum_ones-sum.ensures.0 c.low_bits.ensures c.ones_of-last.ensures.0 c.wrapping_add_u64.ensures
+returns c = summed _ _ c.sum_ones-sum.ensures.0 c.low_bits.ensures c.ones_of-last.ensures.0 c.wrapping_add_u64.ensures.value
