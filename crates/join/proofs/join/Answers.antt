@@ -22,34 +22,16 @@ returns-then-not-m c = joins-apart _ _ _ _ _ _ _ (sym c.too_long.ensures ∙ c.i
 
 pub returns-then-out-size : goal.returns-then-out-size
 returns-then-out-size c =
-    let at_meet = c in
-    let at_if1 = c in
-    let at_too_long = at_if1.before in
-    let at_clear_bytes = at_too_long.before.before.before in
-    let l = at_clear_bytes.clear-bytes.auto.0 in joins-short _ _ _ _ _ _ _ (sym at_too_long.too_long.ensures ∙ at_if1.if1.false) c.meet-m.ensures (not-false _ c.if-not-m.false) (omega (arith, l, c.if-out-size.true)) (c.refusal-then-out-size.ensures ∙ ap (refused_with no_room) (c.short_place.ensures ∙ ap (λ i. min i 4294967295) l)) at_clear_bytes.clear-bytes.ensures
+    let l = c.clear_bytes.auto.bytes in joins-short _ _ _ _ _ _ _ (sym c.too_long.ensures ∙ c.if-too_long.false) c.meet-m.ensures (not-false _ c.if-not-m.false) (omega (arith, l, c.if-out-size.true)) (c.refusal-then-out-size.ensures ∙ ap (refused_with no_room) (c.short_place.ensures ∙ ap (λ i. min i 4294967295) l)) c.clear_bytes.ensures
 
 pub overflow_cast-result : goal.overflow_cast-result
 overflow_cast-result c =
-    let at_if1 = c in
-    let at_too_long = c in
-    let at_args = at_too_long.before.before.before.before.before.before.before.before in
-    let a = at_args.args in let h = ltb-false most_bytes (length a.a.now + length a.b.now) (sym at_too_long.too_long.ensures ∙ c.if-too_long.false) in omega (arith, h)
+    let a = c.args in let h = ltb-false most_bytes (length a.a.now + length a.b.now) (sym c.too_long.ensures ∙ c.if-too_long.false) in omega (arith, h)
 
 pub overflow_add-result : goal.overflow_add-result
 overflow_add-result c =
-    let at_if2 = c in
-    let at_meet = c in
-    let at_if1 = at_meet.before in
-    let at_too_long = at_if1.before in
-    let at_args = at_too_long.before.before.before.before.before.before.before.before in
-    let a = at_args.args in let h = ltb-false most_bytes (length a.a.now + length a.b.now) (sym at_too_long.too_long.ensures ∙ at_if1.if1.false) in omega (arith, met-small a.a.now a.first_a a.count_a a.b.now a.first_b a.count_b at_meet.meet.ensures (not-false _ c.if-not-m.false) h)
+    let a = c.args in let h = ltb-false most_bytes (length a.a.now + length a.b.now) (sym c.too_long.ensures ∙ c.if-too_long.false) in omega (arith, met-small a.a.now a.first_a a.count_a a.b.now a.first_b a.count_b c.meet-m.ensures (not-false _ c.if-not-m.false) h)
 
 pub returns : goal.returns
 returns c =
-    let at_if3 = c in
-    let at_if2 = c in
-    let at_meet = at_if2.before.before in
-    let at_if1 = at_meet.before in
-    let at_too_long = at_if1.before in
-    let at_clear_bytes = at_too_long.before.before.before in
-    let l = at_clear_bytes.clear-bytes.auto.0 in joins-done _ _ _ _ _ _ _ (sym at_too_long.too_long.ensures ∙ at_if1.if1.false) at_meet.meet.ensures (not-false _ at_if2.if2.false) (omega (arith, l, c.if-out-size.false)) at_clear_bytes.clear-bytes.ensures c.write_both.ensures
+    let l = c.clear_bytes.auto.bytes in joins-done _ _ _ _ _ _ _ (sym c.too_long.ensures ∙ c.if-too_long.false) c.meet-m.ensures (not-false _ c.if-not-m.false) (omega (arith, l, c.if-out-size.false)) c.clear_bytes.ensures c.write_both.ensures
