@@ -8,7 +8,6 @@ use lib.ListN.{length, get_or}
 use lib.Dec.{leb, ltb, eqb}
 use lib.Bits.{bit_or, or_lt}
 use borrow.Author.Tests.{lt-ltb, le-ltb, ltb-true, ltb-false, leb-true, eqb-true}
-use Rattle.lineentry.specs.declared.Moved.{Moved}
 use Rattle.lineentry.specs.declared.Moved.TheVariants.{To, Outside}
 use Rattle.lineentry.specs.Varint.{signed_at}
 use Rattle.lineentry.specs.declared.Entry.TheVariants.{OutOfRange}

@@ -2,18 +2,17 @@
 use mathlib.Core.Path.{◌≡◌, refl, sym, ap, ◌∙◌}
 use mathlib.Core.Bool.{Bool, true, false, cond, ◌&&◌, ◌||◌}
 use mathlib.Core.List.{List}
-use Prim.Native.Nat.{ℕ, ◌+◌, ◌-◌, ◌*◌, ◌/◌, ◌%◌, ◌^◌, ◌≤◌, ◌<◌}
+use Prim.Native.Nat.{ℕ, ◌+◌, ◌-◌, ◌*◌, ◌/◌, ◌%◌, ◌≤◌, ◌<◌}
 use native.Mathlib.Omega.{arith}
 use lib.ListN.{length, get_or}
 use lib.Dec.{ltb, eqb}
 use borrow.Author.Tests.{lt-ltb, le-ltb, ltb-true, ltb-false, eqb-true}
-use Rattle.lineentry.specs.declared.Varint.{Varint}
-use Rattle.lineentry.specs.declared.Varint.TheVariants.{Value, TooLong}
+use Rattle.lineentry.specs.declared.Varint.TheVariants.{Value}
 use Rattle.lineentry.specs.declared.short.Numbers.{Numbers}
-use Rattle.lineentry.specs.Varint.{varint_within, varint_at, signed_at}
+use Rattle.lineentry.specs.Varint.{varint_at, signed_at}
 use Rattle.lineentry.specs.Entry.{long_form, long_columns, by_code, entry_of, entry_at}
 use Rattle.lineentry.specs.Quick.{one_byte}
-use Rattle.lineentry.specs.Short.{is_long, Long, short_of, short_at, third_at, numbers_at, long_by, Read}
+use Rattle.lineentry.specs.Short.{is_long, Long, short_of, short_at, numbers_at, long_by, Read}
 use Rattle.lineentry.proofs.Varints.{on_more, varint_last, varint_next, more_small}
 use Rattle.lineentry.proofs.Bytes.{and_left, and_right}
 

@@ -1,5 +1,5 @@
 -- `lineentry::varint_within`: at each return the varint a byte at a time, a law of proofs/Varints a case.
-use Rattle.std.proofs.Common.{rules, arith, sym, ap, subst, ◌∙◌, get_or, ◌+◌, ◌*◌, ◌%◌, ◌<◌, ◌≤◌}
+use Rattle.std.proofs.Common.{arith, sym, ap, subst, ◌∙◌, get_or, ◌+◌, ◌*◌, ◌%◌, ◌<◌, ◌≤◌}
 use Rattle.lineentry.specs.Varint.{varint_within}
 use Rattle.lineentry.proofs.Varints.{varint_end, varint_none, varint_last, varint_next, on_more, more_large, more_small}
 use Rattle.lineentry.proofs.+varint_within.Goals as goal
