@@ -98,7 +98,7 @@ returns-in-108 c = rw c.in-108.is c.long_leaf.ensures
 pub returns-in_default : goal.returns-in_default
 unfolding definition.leaf_as
 returns-in_default c =
-    let rest = c.in_default.rest in
+    let rest = c.in_default.in_default-own.rest in
     rw (
       ne_eqb _ _ rest.0.0.0.0.0.0.0.0.0.1,
       ne_eqb _ _ rest.0.0.0.0.0.0.0.0.1,

@@ -18,20 +18,20 @@ returns-then-input c = rw (lt-ltb _ _ c.if-input.true)
 pub returns-then-not-sound_at : goal.returns-then-not-sound_at
 unfolding definition.leaf_of
 returns-then-not-sound_at c =
-    rw (le-ltb _ _ c.if-input.false, ← c.sound_at.ensures, not-true c.sound_at.result c.if-not-sound_at.true)
+    rw (le-ltb _ _ c.if-input.false, ← c.sound_at.ensures, c.if-not-sound_at.true)
 
 pub node_at-requires : goal.node_at-requires
 node_at-requires c =
     let tested = c in
     let args = c.args in
-    let ok = sym c.sound_at.ensures ∙ not-false _ c.if-not-sound_at.false in
+    let ok = sym c.sound_at.ensures ∙ c.if-not-sound_at.false in
     in_store args.input.now args.nodes.now args.used args.node ok
 
 pub leaf_as-requires : goal.leaf_as-requires
 leaf_as-requires c =
     let tested = c in
     let args = c.args in
-    let ok = sym c.sound_at.ensures ∙ not-false _ c.if-not-sound_at.false in
+    let ok = sym c.sound_at.ensures ∙ c.if-not-sound_at.false in
     (ap (sound args.input.now) c.node_at.ensures ∙ sound-node args.input.now args.nodes.now args.used args.node ok, search rules)
 
 pub returns : goal.returns
@@ -39,6 +39,6 @@ unfolding definition.leaf_of
 returns c =
     let tested = c in
     let input = c.args.input.now in
-    rw (le-ltb _ _ c.if-input.false, ← c.sound_at.ensures, not-false c.sound_at.result c.if-not-sound_at.false)
+    rw (le-ltb _ _ c.if-input.false, ← c.sound_at.ensures, c.if-not-sound_at.false)
     (ap answered.Told c.leaf_as.ensures
     ∙ ap (λ (n : Node). answered.Told (told_of (definition.leaf_as input n.letter n.place))) c.node_at.ensures)

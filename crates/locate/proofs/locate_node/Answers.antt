@@ -26,21 +26,21 @@ unfolding records_of
 returns-then-not-sound_at c =
     let a = c.args in
     let capacity = length a.records.now / 4 in
-    let bad = sym c.sound_at.ensures ∙ not-true _ c.if-not-sound_at.true in
+    let bad = sym c.sound_at.ensures ∙ c.if-not-sound_at.true in
     rw (unsound a.input.now a.nodes.now a.used a.node (first_line_of a.first_line) a.count capacity c.if-input.false bad)
     c.refuse-then-not-sound_at.ensures
 
 pub node_at-found-requires : goal.node_at-found-requires
 node_at-found-requires c =
     let a = c.args in
-    in_store a.input.now a.nodes.now a.used a.node (sym c.sound_at.ensures ∙ not-false _ c.if-not-sound_at.false)
+    in_store a.input.now a.nodes.now a.used a.node (sym c.sound_at.ensures ∙ c.if-not-sound_at.false)
 
 pub returns-then-found-ne-BYTES_LETTER : goal.returns-then-found-ne-BYTES_LETTER
 unfolding records_of
 returns-then-found-ne-BYTES_LETTER c =
     let a = c.args in
     let capacity = length a.records.now / 4 in
-    let good = sym c.sound_at.ensures ∙ not-false _ c.if-not-sound_at.false in
+    let good = sym c.sound_at.ensures ∙ c.if-not-sound_at.false in
     let same = ap (λ (m : Node). m.letter) c.node_at-found.ensures in
     rw (other a.input.now a.nodes.now a.used a.node (first_line_of a.first_line) a.count capacity c.if-input.false good (λ e. c.if-found-ne-BYTES_LETTER.true (same ∙ e)))
     c.refuse-then-found-ne-BYTES_LETTER.ensures
@@ -48,7 +48,7 @@ returns-then-found-ne-BYTES_LETTER c =
 pub slice_bounds-linetable_to_records-end : goal.slice_bounds-linetable_to_records-end
 slice_bounds-linetable_to_records-end c =
     let a = c.args in
-    let good = sym c.sound_at.ensures ∙ not-false _ c.if-not-sound_at.false in
+    let good = sym c.sound_at.ensures ∙ c.if-not-sound_at.false in
     let same = c.node_at-found.ensures in
     omega (arith, sound-span a.input.now a.nodes.now a.used a.node good, ap (λ (m : Node). m.place) same, ap (λ (m : Node). m.size) same)
 
@@ -56,7 +56,7 @@ pub returns : goal.returns
 unfolding records_of
 returns c =
     let a = c.args in
-    let good = sym c.sound_at.ensures ∙ not-false _ c.if-not-sound_at.false in
+    let good = sym c.sound_at.ensures ∙ c.if-not-sound_at.false in
     let node = c.node_at-found in
     let same = node.ensures in
     let found = simp (to_z-of_z c.ranges.first_line) at c.linetable_to_records.ensures in

@@ -16,4 +16,4 @@ unfolding classes class_at
 returns-in-11 c = rw (← c.class_of.ensures, c.in-11.is)
 
 pub returns-in_default : goal.returns-in_default
-returns-in_default c = rw (← c.class_of.ensures) (lead-other c.class_of.result c.in_default.rest.0.0.1 c.in_default.rest.0.1 c.in_default.rest.1)
+returns-in_default c = rw (← c.class_of.ensures) (lead-other c.class_of.result c.in_default.in_default-own.rest.0.0.1 c.in_default.in_default-own.rest.0.1 c.in_default.in_default-own.rest.1)

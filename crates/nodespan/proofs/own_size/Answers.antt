@@ -9,4 +9,4 @@ unfolding classes class_at
 returns-in-12 c = (rw (← c.class_of.ensures, c.in-12.is), omega arith)
 
 pub returns-in_default : goal.returns-in_default
-returns-in_default c = (rw (← c.class_of.ensures) (own_other c.class_of.result _ c.in_default.rest.1), omega arith)
+returns-in_default c = (rw (← c.class_of.ensures) (own_other c.class_of.result _ c.in_default.in_default-own.rest.1), omega arith)

@@ -14,22 +14,22 @@ returns-then-input c = rw (lt-ltb _ _ c.if-input.true)
 pub returns-then-not-sound_at : goal.returns-then-not-sound_at
 returns-then-not-sound_at c =
     let a = c.args in
-    let t = tables_of a.input.now a.nodes.now a.entries.now a.used_nodes a.used_entries_lem in
-    span_unsound t a.node (le-ltb _ _ c.if-input.false) (sym c.sound_at.ensures ∙ not-true _ c.if-not-sound_at.true)
+    let t = tables_of a.input.now a.nodes.now a.entries.now a.used_nodes a.used_entries in
+    span_unsound t a.node (le-ltb _ _ c.if-input.false) (sym c.sound_at.ensures ∙ c.if-not-sound_at.true)
 
 pub node_at-requires : goal.node_at-requires
 node_at-requires c =
     let a = c.args in
-    in_store a.input.now a.nodes.now a.used_nodes a.node (sym c.sound_at.ensures ∙ not-false _ c.if-not-sound_at.false)
+    in_store a.input.now a.nodes.now a.used_nodes a.node (sym c.sound_at.ensures ∙ c.if-not-sound_at.false)
 
 pub returns-then-not-spanned : goal.returns-then-not-spanned
 returns-then-not-spanned c =
     let a = c.args in
-    let t = tables_of a.input.now a.nodes.now a.entries.now a.used_nodes a.used_entries_lem in
-    span_outside t a.node (le-ltb _ _ c.if-input.false) (sym c.sound_at.ensures ∙ not-false _ c.if-not-sound_at.false) c.node_at.ensures c.spanned.ensures (not-true _ c.if-not-spanned.true)
+    let t = tables_of a.input.now a.nodes.now a.entries.now a.used_nodes a.used_entries in
+    span_outside t a.node (le-ltb _ _ c.if-input.false) (sym c.sound_at.ensures ∙ c.if-not-sound_at.false) c.node_at.ensures c.spanned.ensures c.if-not-spanned.true
 
 pub returns : goal.returns
 returns c =
     let a = c.args in
-    let t = tables_of a.input.now a.nodes.now a.entries.now a.used_nodes a.used_entries_lem in
-    span-sound t a.node (le-ltb _ _ c.if-input.false) (sym c.sound_at.ensures ∙ not-false _ c.if-not-sound_at.false) c.node_at.ensures c.spanned.ensures _ (not-false _ c.if-not-spanned.false) c.nodes_in.ensures c.entries_in.ensures.0 c.input_of.ensures c.header_of.ensures c.end_of.ensures c.span_at.ensures
+    let t = tables_of a.input.now a.nodes.now a.entries.now a.used_nodes a.used_entries in
+    span-sound t a.node (le-ltb _ _ c.if-input.false) (sym c.sound_at.ensures ∙ c.if-not-sound_at.false) c.node_at.ensures c.spanned.ensures _ c.if-not-spanned.false c.nodes_in.ensures c.entries_in.ensures.0 c.input_of.ensures c.header_of.ensures c.end_of.ensures c.span_at.ensures
