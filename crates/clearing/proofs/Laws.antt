@@ -1,12 +1,12 @@
 -- Laws on lent stores: a loop that clears one from the front, and what is written over zeros.
 -- Assumes nothing.
-use mathlib.Core.Path.{◌≡◌, refl, sym, ap, ◌∙◌}
+use mathlib.Core.Path.{◌≡◌, ap, ◌∙◌}
 use Prim.Native.Nat.{ℕ, zero, suc, ◌+◌, ◌-◌, ◌≤◌, ◌<◌}
 use native.Mathlib.Omega.{arith}
 use native.Mathlib.Numerals.{unary_clauses}
 use native.Mathlib.Nat.{zero-add}
-use mathlib.Core.List.{List, [], ◌∷◌, ◌++◌, append-nil}
-use lib.ListN.{length, replicate, set, drop, length-append, length-replicate, length-set, drop_of_length-le}
+use mathlib.Core.List.{List, [], ◌++◌, append-nil}
+use lib.ListN.{length, set, drop, length-append, length-replicate, length-set, drop_of_length-le}
 use lib.Seq.{sets, sets-eq}
 use borrow.Author.Fill.{fill_more}
 use Rattle.clearing.specs.Lent.{zeros, padded}

@@ -1,5 +1,4 @@
 -- `copying::copy_bytes` meets its contract: what is left to copy still comes to the same output. Assumes nothing.
-use Prim.Native.Nat.{◌-◌}
 use native.Mathlib.Omega.{arith}
 use Rattle.copying.proofs.Copying.{copying_none, copying_more, copying_all}
 use borrow.Author.Rules.{rules}
