@@ -1,13 +1,13 @@
 -- What is promised of decimals: the laws of Digits, and that a number ends where a byte is no digit. Assumes nothing.
-use mathlib.Core.Path.{◌≡◌, refl, ap, ◌∙◌}
+use mathlib.Core.Path.{◌≡◌, refl, ap}
 use mathlib.Core.Bool.{Bool, true, false, cond}
 use mathlib.Core.List.{List, [], ◌∷◌, ◌++◌}
 use Prim.Native.Nat.{ℕ, zero, suc, ◌+◌, ◌-◌, ◌*◌, ◌/◌, ◌%◌, ◌≤◌, ◌<◌}
 use native.Mathlib.Omega.{arith}
 use borrow.Author.Tests.{ltb-true, ltb-false, le-leb, lt-leb}
 use lib.Dec.{ltb, leb}
-use lib.ListN.{length, get_or}
-use Rattle.decimals.specs.Decimal.{digit, decimal, worth_from, worth}
+use lib.ListN.{length}
+use Rattle.decimals.specs.Decimal.{digit, decimal, worth_from}
 use Rattle.decimals.specs.Promised.{Digits, NoneInFront, Promised}
 use Rattle.decimals.proofs.Digits.{decimal_last, decimal_more, worth-exact, front-some}
 

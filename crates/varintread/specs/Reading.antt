@@ -1,6 +1,6 @@
 -- What big-endian bytes read as: 01, 'Locals, numbers and locations', with 02's K5. Little-endian numbers stand in line tables alone: they are
 -- read by `lineentry`, whose specs/Varint says what they are.
-use Rattle.std.specs.Prelude.{ℕ, ◌+◌, ◌*◌, ◌/◌, ◌%◌, ◌^◌, Bool, true, false, cond, List, [], ◌∷◌, ltb, leb, eqb, length, get_or, drop}
+use Rattle.std.specs.Prelude.{ℕ, ◌+◌, ◌*◌, ◌/◌, ◌%◌, ◌^◌, Bool, cond, List, [], ◌∷◌, ltb, leb, eqb, length, get_or, drop}
 use Rattle.refusals.specs.Numbers.{accepted, data_too_short, number_range}
 use Rattle.varintread.specs.declared.Found.{Found}
 use Rattle.varintread.specs.declared.Found.TheVariants.{Number, Nothing, Refused}

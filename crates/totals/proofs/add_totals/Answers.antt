@@ -13,19 +13,11 @@ add_to-requires c = fresh-zeros _ (length c.args.sum.now) c.clear_counters.ensur
 
 pub add_to-requires-in-Done : goal.add_to-requires-in-Done
 add_to-requires-in-Done c =
-    let at_add-to = c in
-    let at_if1 = at_add-to.before.before in
-    let at_clear_counters = at_if1.before.before.before in
-    let at_args = at_clear_counters.before.before.before.before.before in
-    fresh-alone at_args.args.a.now at_args.args.b.now (length at_args.args.sum.now) at_clear_counters.clear-counters.ensures at_if1.if1.false at_add-to.add-to.ensures c.in-Done.is
+    fresh-alone c.args.a.now c.args.b.now (length c.args.sum.now) c.clear_counters.ensures c.if-sum-lt-COUNTERS.false c.add_to.ensures c.in-Done.is
 
 pub returns-in-Done : goal.returns-in-Done
 returns-in-Done c =
-    let at_enum_told = c in
-    let at_add-to = c in
-    let at_if1 = at_add-to.before.before in
-    let at_clear_counters = at_if1.before.before.before in
-    c.add_to-in-Done.ensures ∙ added-both _ _ _ at_clear_counters.clear-counters.ensures at_if1.if1.false at_add-to.add-to.ensures c.in-Done.is
+    c.add_to-in-Done.ensures ∙ added-both _ _ _ c.clear_counters.ensures c.if-sum-lt-COUNTERS.false c.add_to.ensures c.in-Done.is
 
 pub returns-in-Refused : goal.returns-in-Refused
 returns-in-Refused c = added-refused _ _ _ c.clear_counters.ensures c.if-sum-lt-COUNTERS.false c.add_to.ensures c.in-Refused.is

@@ -17,16 +17,9 @@ add_to-requires c = fresh_tallied (omega (arith, c.if-after-lt-COUNTERS.false, c
 
 pub returns-then-tally : goal.returns-then-tally
 returns-then-tally c =
-    let at_if2 = c in
-    let at_tally = c in
-    let at_if1 = at_tally.before.before in
-    let at_clear_counters = at_if1.before.before.before in
-    c.add_to.ensures ∙ totals_summed _ _ _ (omega (arith, at_if1.if1.false, at_clear_counters.clear-counters.auto.0)) (at_tally.tally.auto.0 ∙ at_clear_counters.clear-counters.auto.0) at_tally.tally.ensures c.if-tally.true
+    c.add_to.ensures
+    ∙ totals_summed _ _ _ (omega (arith, c.if-after-lt-COUNTERS.false, c.clear_counters.auto.store)) (c.tally.auto.after ∙ c.clear_counters.auto.store) c.tally.ensures c.if-tally.true
 
 pub returns : goal.returns
 returns c =
-    let at_if2 = c in
-    let at_tally = c in
-    let at_if1 = at_tally.before.before in
-    let at_clear_counters = at_if1.before.before.before in
-    totals_unknown _ _ _ _ (omega (arith, at_if1.if1.false, at_clear_counters.clear-counters.auto.0)) at_tally.tally.ensures c.if-tally.false c.clear_counters-2.ensures (at_tally.tally.auto.0 ∙ at_clear_counters.clear-counters.auto.0)
+    totals_unknown _ _ _ _ (omega (arith, c.if-after-lt-COUNTERS.false, c.clear_counters.auto.store)) c.tally.ensures c.if-tally.false c.clear_counters-2.ensures (c.tally.auto.after ∙ c.clear_counters.auto.store)

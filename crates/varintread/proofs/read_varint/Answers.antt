@@ -1,7 +1,6 @@
 -- `varintread::read_varint` meets its contract: at each turn the bytes that are left still read as the same number, or as one too large.
 -- Assumes nothing.
 use mathlib.Core.Path.{◌∙◌}
-use Prim.Native.Nat.{◌-◌}
 use borrow.Author.Tests.{le-ltb}
 use Rattle.varintread.specs.Reading.{read_varint}
 use Rattle.varintread.proofs.ReadLoop.{read_start, read-turn, read_end, read-cut}

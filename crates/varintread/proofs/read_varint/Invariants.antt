@@ -6,7 +6,7 @@ use Rattle.varintread.proofs.ReadLoop.{ReadSoFar}
 use Rattle.varintread.proofs.read_varint.Given as goal
 
 abbrev pub invariant-loop-next : goal.invariant-loop-next
-invariant-loop-next l = ReadSoFar «data» l.at l.val l.next
+invariant-loop-next l = ReadSoFar l.«data» l.at l.val l.next
 
 abbrev pub decreases-loop-next : goal.decreases-loop-next
-decreases-loop-next l = length «data» - l.next
+decreases-loop-next l = length l.«data» - l.next
