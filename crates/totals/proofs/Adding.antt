@@ -1,8 +1,8 @@
 -- What holds at each turn of adding to a store, and what the two calls come to. Assumes nothing.
 use mathlib.Core.Path.{◌≡◌, refl, sym, ap, ◌∙◌}
 use mathlib.Core.Bool.{Bool, true, false, cond, ◌&&◌}
-use mathlib.Core.List.{List, [], ◌∷◌, ◌++◌}
-use Prim.Native.Nat.{ℕ, zero, suc, ◌+◌, ◌-◌, ◌^◌, ◌≤◌, ◌<◌}
+use mathlib.Core.List.{List}
+use Prim.Native.Nat.{ℕ, suc, ◌+◌, ◌-◌, ◌^◌, ◌≤◌, ◌<◌}
 use native.Mathlib.Omega.{arith}
 use native.Mathlib.Numerals.{add-one}
 use borrow.Author.Tests.{lt-ltb, le-ltb, ltb-true, ltb-false, eqb-true, eqb-false}
@@ -11,7 +11,7 @@ use lib.ListN.{length, get_or, set, length-set, length-replicate}
 use lib.Seq.{get_or-set_same, get_or-set_other}
 use Rattle.refusals.specs.Numbers.{no_room, number_range}
 use Rattle.clearing.specs.Lent.{zeros, padded}
-use Rattle.totals.specs.Totals.{counters, Totals, held_in, counts, count_of, known, plus, cells_from, fit_from, cells, stored, totals_of, added_of}
+use Rattle.totals.specs.Totals.{counters, Totals, held_in, count_of, plus, fit_from, cells, stored, totals_of, added_of}
 use Rattle.totals.specs.Steps.{Fresh, Tallied}
 use Rattle.totals.specs.declared.Totalled.{Totalled}
 use Rattle.totals.specs.declared.Totalled.TheVariants as totalled

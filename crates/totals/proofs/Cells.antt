@@ -5,13 +5,12 @@ use mathlib.Core.List.{List, [], ◌∷◌, ◌++◌}
 use Prim.Native.Nat.{ℕ, zero, suc, ◌+◌, ◌-◌, ◌^◌, ◌≤◌, ◌<◌}
 use native.Mathlib.Omega.{arith}
 use native.Mathlib.Nat.{zero-add, not-suc-le-zero}
-use native.Mathlib.Numerals.{unary_clauses}
-use borrow.Author.Tests.{lt-ltb, le-ltb, ltb-true, ltb-false}
+use borrow.Author.Tests.{lt-ltb, ltb-true}
 use lib.Dec.{ltb}
 use lib.ListN.{length, get_or, length-append, length-replicate}
 use Rattle.refusals.specs.Numbers.{number_range}
 use Rattle.clearing.specs.Lent.{zeros, padded}
-use Rattle.totals.specs.Totals.{counters, Totals, held_in, plus, cells_from, fit_from, cells, stored}
+use Rattle.totals.specs.Totals.{counters, Totals, held_in, cells_from, fit_from, cells, stored}
 use Rattle.totals.specs.declared.Totalled.TheVariants as totalled
 
 -- ---- what a store holds

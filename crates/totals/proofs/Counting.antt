@@ -5,15 +5,15 @@ use mathlib.Core.Bool.{Bool, true, false, cond, ◌&&◌, not}
 use mathlib.Core.List.{List, [], ◌∷◌, ◌++◌}
 use Prim.Native.Nat.{ℕ, zero, suc, ◌+◌, ◌-◌, ◌^◌, ◌≤◌, ◌<◌}
 use native.Mathlib.Omega.{arith}
-use native.Mathlib.Nat.{add-zero, zero-add}
+use native.Mathlib.Nat.{add-zero}
 use native.Mathlib.Numerals.{add-one}
-use borrow.Author.Tests.{eqb-true, eqb-false, eq-eqb, ne_eqb, le-leb, lt-leb, leb-true, leb-false}
+use borrow.Author.Tests.{eqb-true, eqb-false, eq-eqb, ne_eqb, le-leb, lt-leb, leb-true}
 use lib.Dec.{leb, eqb}
 use lib.ListN.{length, get_or, set, take, drop, length-set}
 use lib.Seq.{take-suc, drop-cons, take_all, drop-length, get_or-set_same, get_or-set_other}
 use Rattle.refusals.specs.Numbers.{last_number}
-use Rattle.clearing.specs.Lent.{zeros, padded}
-use Rattle.totals.specs.Totals.{counters, counts, count_of, known, cells}
+use Rattle.clearing.specs.Lent.{zeros}
+use Rattle.totals.specs.Totals.{counters, counts, count_of, known}
 use Rattle.totals.specs.Steps.{Tallied}
 use Rattle.totals.proofs.Cells.{zero_held, holds-cells}
 

@@ -1,18 +1,18 @@
 -- What K14 promises of totals: counts of two parts add up, and what the whole fits each part does. Assumes nothing.
 use mathlib.Core.Path.{◌≡◌, refl, sym, ap, ◌∙◌}
 use mathlib.Core.Bool.{Bool, true, false, cond, ◌&&◌}
-use mathlib.Core.List.{List, [], ◌∷◌, ◌++◌}
-use Prim.Native.Nat.{ℕ, zero, suc, ◌+◌, ◌≤◌, ◌<◌}
+use mathlib.Core.List.{List, [], ◌++◌}
+use Prim.Native.Nat.{ℕ, ◌+◌, ◌≤◌, ◌<◌}
 use native.Mathlib.Omega.{arith}
 use borrow.Author.Tests.{lt-ltb, le-ltb, ltb-true, ltb-false}
 use lib.Dec.{ltb}
 use Rattle.refusals.specs.Numbers.{no_room, number_range}
-use Rattle.clearing.specs.Lent.{zeros, padded}
+use Rattle.clearing.specs.Lent.{padded}
 use Rattle.totals.specs.Totals.{counters, Totals, held_in, count_of, known, plus, fit_from, cells, refused_at, stored, totals_of, added_of}
-use Rattle.totals.specs.Promised.{Balanced, Grouping, part, both, answers_of, both_added, totals_of_parts, Promised}
+use Rattle.totals.specs.Promised.{Grouping, part, both, answers_of, both_added, totals_of_parts, Promised}
 use Rattle.totals.specs.declared.Totalled.{Totalled}
 use Rattle.totals.specs.declared.Totalled.TheVariants as totalled
-use Rattle.totals.proofs.Cells.{held_cells, stored-alike, stored_fit, stored_unfit, fit_part}
+use Rattle.totals.proofs.Cells.{held_cells, stored-alike, fit_part}
 use Rattle.totals.proofs.Counting.{count-append, known-append, count-both, both_true}
 
 no_path : false ≡ true → ⊥

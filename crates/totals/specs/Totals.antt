@@ -1,6 +1,6 @@
 -- Nightly totals: 02, K14, "Over many inputs print exact counts in this form and order .. `inputs 3`, `accepted 2`, `refused 1`, then
 -- `refusal N COUNT` for N from 1 to 26." Counter 0 is `inputs`, 1 `accepted`, 2 `refused`, 2 + N that of refusal N.
-use Rattle.std.specs.Prelude.{ℕ, zero, suc, ◌+◌, ◌^◌, Bool, true, false, cond, ◌&&◌, not, List, [], ◌∷◌, ltb, leb, eqb, length, get_or}
+use Rattle.std.specs.Prelude.{ℕ, zero, suc, ◌+◌, ◌^◌, Bool, true, cond, ◌&&◌, not, List, [], ◌∷◌, ltb, leb, eqb, get_or}
 use Rattle.refusals.specs.Numbers.{accepted, no_room, number_range, last_number}
 use Rattle.clearing.specs.Lent.{zeros, padded}
 use Rattle.totals.specs.declared.Totalled.{Totalled}

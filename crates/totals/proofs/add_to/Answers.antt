@@ -1,6 +1,5 @@
 -- `totals::add_to` meets its contract: at each turn the counters before the next one are summed.
 -- Assumes nothing.
-use Prim.Native.Nat.{◌-◌}
 use borrow.Author.Rules.{rules}
 use Rattle.totals.proofs.Adding.{add_start, add-stop, add_turn, add_end}
 use Rattle.totals.proofs.add_to.Goals as goal

@@ -1,7 +1,6 @@
 -- `totals::clear_counters` meets its contract: the laws on a store that is cleared from the front carry it.
 -- Assumes nothing.
 use mathlib.Core.Path.{refl}
-use Prim.Native.Nat.{◌-◌}
 use native.Mathlib.Omega.{arith}
 use Rattle.clearing.proofs.Laws.{cleared_more, cleared_all}
 use Rattle.totals.proofs.clear_counters.Goals as goal

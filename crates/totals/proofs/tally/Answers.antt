@@ -1,6 +1,5 @@
 -- `totals::tally` meets its contract: each answer is one more in the cell of its own number.
 -- Assumes nothing.
-use Prim.Native.Nat.{◌-◌}
 use borrow.Author.Rules.{rules}
 use Rattle.totals.proofs.Counting.{tally_start, tally_unknown, tally_low, tally_turn, room_one, room-two, accepted-most, tally_end}
 use Rattle.totals.proofs.tally.Goals as goal
