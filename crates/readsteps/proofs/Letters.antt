@@ -3,11 +3,11 @@
 use mathlib.Core.Path.{◌≡◌, refl, sym, ap, ◌∙◌}
 use Prim.Native.Nat.{ℕ, zero, suc, ◌-◌, ◌≤◌, ◌<◌}
 use native.Mathlib.Omega.{arith}
-use mathlib.Core.Bool.{Bool, true, false, cond, not, ◌&&◌}
+use mathlib.Core.Bool.{Bool, true, false, cond, ◌&&◌}
 use mathlib.Core.List.{List}
 use lib.ListN.{get_or}
 use lib.Dec.{eqb}
-use borrow.Author.Tests.{ne_eqb, not-true, not-false}
+use borrow.Author.Tests.{ne_eqb}
 use Rattle.grammar.specs.Letters.{is_bytes, is_tuple, is_string}
 use Rattle.grammar.specs.State.{node_at, entry_at}
 use Rattle.grammar.specs.Steps.{Rule, whatever, as_bytes, as_tuple, as_names, as_string, rules}
@@ -36,11 +36,11 @@ module _ (ns es : List ℕ) (left e : ℕ) {child letter : ℕ} {t : Bool} (some
       ap (λ n. strings_in ns es n e) more
       ∙ ap (λ b. b && strings_in ns es (left - 1) (entry_at es e).next) (ap (λ c. is_string (node_at ns c).letter) (sym at) ∙ ap is_string (sym is) ∙ sym test)
 
-  pub strings-cut : not t ≡ true → strings_in ns es left e ≡ false
-  strings-cut h = opens-chain ∙ ap (λ b. b && strings_in ns es (left - 1) (entry_at es e).next) (not-true t h)
+  pub strings-cut : t ≡ false → strings_in ns es left e ≡ false
+  strings-cut h = opens-chain ∙ ap (λ b. b && strings_in ns es (left - 1) (entry_at es e).next) h
 
-  pub strings_more : {next : ℕ} → not t ≡ false → next ≡ (entry_at es e).next → strings_in ns es left e ≡ strings_in ns es (left - 1) next
-  strings_more h on = opens-chain ∙ ap (λ b. b && strings_in ns es (left - 1) (entry_at es e).next) (not-false t h) ∙ ap (strings_in ns es (left - 1)) (sym on)
+  pub strings_more : {next : ℕ} → t ≡ true → next ≡ (entry_at es e).next → strings_in ns es left e ≡ strings_in ns es (left - 1) next
+  strings_more h on = opens-chain ∙ ap (λ b. b && strings_in ns es (left - 1) (entry_at es e).next) h ∙ ap (strings_in ns es (left - 1)) (sym on)
 
 pub strings_all : (ns es : List ℕ) (left e : ℕ) → left ≤ 0 → strings_in ns es left e ≡ true
 unfolding strings_in

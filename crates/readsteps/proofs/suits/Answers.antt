@@ -1,8 +1,6 @@
 -- `suits` is the definition's test over the stores, rule by rule.
--- Assumes nothing.
 use mathlib.Core.Path.{refl}
 use Rattle.readsteps.proofs.Letters.{bytes-is, rule_string}
-use borrow.Author.Tests.{not-true, not-false}
 use Rattle.readsteps.proofs.suits.Goals as goal
 
 pub returns-then-rule-eq-WHATEVER : goal.returns-then-rule-eq-WHATEVER
@@ -15,14 +13,11 @@ pub returns-then-rule-eq-AS_TUPLE : goal.returns-then-rule-eq-AS_TUPLE
 returns-then-rule-eq-AS_TUPLE c = rw (c.if-rule-eq-AS_TUPLE.true, ← c.letter_of-letter.ensures) c.is_tuple.ensures
 
 pub returns-then-not-is_tuple : goal.returns-then-not-is_tuple
-returns-then-not-is_tuple c = rw (c.if-rule-eq-AS_NAMES.true, ← c.letter_of-letter.ensures, ← c.is_tuple-then-rule-eq-AS_NAMES.ensures, not-true c.is_tuple-then-rule-eq-AS_NAMES.result c.if-not-is_tuple.true) refl
+returns-then-not-is_tuple c = rw (c.if-rule-eq-AS_NAMES.true, ← c.letter_of-letter.ensures, ← c.is_tuple-then-rule-eq-AS_NAMES.ensures, c.if-not-is_tuple.true) refl
 
 pub returns-then-rule-eq-AS_NAMES : goal.returns-then-rule-eq-AS_NAMES
 returns-then-rule-eq-AS_NAMES c =
-    let at_is_tuple2 = c in
-    let at_if4 = c in
-    let at_letter_of = at_if4.before.before.before in
-    rw (at_if4.if4.true, ← at_letter_of.letter-of.ensures, ← c.is_tuple-then-rule-eq-AS_NAMES.ensures, not-false c.is_tuple-then-rule-eq-AS_NAMES.result c.if-not-is_tuple.false, ← c.count_of-count.ensures, ← c.first_of-first.ensures) c.strings.ensures
+    rw (c.if-rule-eq-AS_NAMES.true, ← c.letter_of-letter.ensures, ← c.is_tuple-then-rule-eq-AS_NAMES.ensures, c.if-not-is_tuple.false, ← c.count_of-count.ensures, ← c.first_of-first.ensures) c.strings.ensures
 
 pub returns : goal.returns
 returns c = rw (rule_string _ c.if-rule-eq-WHATEVER.false c.if-rule-eq-AS_BYTES.false c.if-rule-eq-AS_TUPLE.false c.if-rule-eq-AS_NAMES.false, ← c.letter_of-letter.ensures) c.is_string.ensures
