@@ -5,5 +5,5 @@ use Rattle.raising.proofs.raise_entry.Goals as goal
 pub returns : goal.returns
 returns c =
     let b = c.args in
-    entry-relinked b.entries.now b.e b.nodes b.kept c.child_at.ensures c.wrapping_add_u32.ensures c.next_at.ensures c.raised.ensures c.write_entry.ensures
+    entry-relinked b.entries.now b.e b.nodes b.kept c.child_at.ensures c.wrapping_add_u32-child.ensures.value c.next_at.ensures c.raised-next.ensures c.write_entry.ensures
     c.link_entry.ensures

@@ -6,4 +6,4 @@ pub returns-then-n-stays : goal.returns-then-n-stays
 returns-then-n-stays c = rw (eq-eqb _ _ c.if-n-stays.true)
 
 pub returns : goal.returns
-returns c = rw (ne_eqb _ _ c.if-n-stays.false) c.wrapping_add_u32.ensures
+returns c = rw (ne_eqb _ _ c.if-n-stays.false) c.wrapping_add_u32.ensures.value
