@@ -12,13 +12,13 @@ use Rattle.readmore.proofs.raise_read.Goals as goal
 
 pub returns : goal.returns
 returns c =
-    let b = c.before.before.before.before.before.args in
+    let b = c.args in
     record {
       exact-nodes = λ store ns fits e n r.
           raised-behind (b.keptnodes * node_width) store (node_cells ns) (node_cells (map (appended_node b.keptentries b.number) ns)) (omega (arith, length-node_cells ns)) e
-          c.raise-nodes.ensures.same (λ k. c.raise-nodes.ensures.exact ns k n r);
+          c.raise_nodes.ensures.same (λ k. c.raise_nodes.ensures.exact ns k n r);
       exact-entries = λ store es fits e n r.
           raised-behind (b.keptentries * entry_width) store (entry_cells es) (entry_cells (map (appended_entry b.keptnodes b.keptentries) es)) (omega (arith, length-entry_cells es)) e
-          c.raise-entries.ensures.same (λ k. c.raise-entries.ensures.exact es k n r);
+          c.raise_entries.ensures.same (λ k. c.raise_entries.ensures.exact es k n r);
       exact-slots = λ ss k n r. c.raise_slots.ensures.exact ss k n r ∙ ap (λ m. padded m (map (appended_slot b.keptnodes) ss)) c.raise_slots.ensures.same;
     }

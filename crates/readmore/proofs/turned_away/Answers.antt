@@ -13,10 +13,10 @@ returns-then-node_capacity-keptnodes c =
 
 pub returns-then-entry_capacity-keptentries : goal.returns-then-entry_capacity-keptentries
 returns-then-entry_capacity-keptentries c =
-    let b = c.before.args in
-    away_entries b.bytes _ _ (keeping b.keptnodes b.keptentries 0) c.if1.false c.node_capacity.ensures c.if-node_capacity-keptnodes.false c.entry_capacity.ensures c.if-entry_capacity-keptentries.true
+    let b = c.args in
+    away_entries b.bytes _ _ (keeping b.keptnodes b.keptentries 0) c.if-bytes.false c.node_capacity.ensures c.if-node_capacity-keptnodes.false c.entry_capacity.ensures c.if-entry_capacity-keptentries.true
 
 pub returns : goal.returns
 returns c =
-    let b = c.before.args in
-    away_none b.bytes _ _ (keeping b.keptnodes b.keptentries 0) c.if1.false c.node_capacity.ensures c.if-node_capacity-keptnodes.false c.entry_capacity.ensures c.if-entry_capacity-keptentries.false
+    let b = c.args in
+    away_none b.bytes _ _ (keeping b.keptnodes b.keptentries 0) c.if-bytes.false c.node_capacity.ensures c.if-node_capacity-keptnodes.false c.entry_capacity.ensures c.if-entry_capacity-keptentries.false
