@@ -19,7 +19,7 @@ def weight(name):
 def dependencies():
     """Each crate's own dependencies, as crates.txt lists them."""
     lines = (line.split("#")[0].partition(":") for line in (ROOT / "crates.txt").read_text().splitlines())
-    return {name.strip(): needs.split() for name, colon, needs in lines if colon}
+    return {name.split()[0]: needs.split() for name, colon, needs in lines if colon}
 
 
 def stands_on(name, listed):
