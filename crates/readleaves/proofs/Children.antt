@@ -3,12 +3,12 @@
 use mathlib.Core.Path.{◌≡◌, refl, sym, ap, ap₂, subst, ◌∙◌}
 use Prim.Native.Nat.{ℕ, ◌+◌, ◌*◌, ◌≤◌, ◌<◌}
 use native.Mathlib.Omega.{arith}
-use mathlib.Core.Bool.{Bool, true, false, cond, not}
+use mathlib.Core.Bool.{Bool, true, false, cond}
 use mathlib.Core.Option.{Option, none, some}
 use mathlib.Core.List.{List}
 use lib.ListN.{length}
 use lib.Dec.{ltb}
-use borrow.Author.Tests.{ltb-true, ltb-false, not-true, not-false}
+use borrow.Author.Tests.{ltb-true, ltb-false}
 use Rattle.refusals.specs.Numbers.{bad_type, no_entry}
 use Rattle.refusals.specs.Limits.{nothing, most_records}
 use Rattle.grammar.specs.Reading.{done, refused, claim, entry}
@@ -69,14 +69,14 @@ module _ {s : List ℕ} {room : Room} {allowance : ℕ} {line : Line} {ns es ss 
                 ∙ ap₂ (λ n at. run (rooms room (depth + allowance)) (cond t (claim entry (n + 1) at (done (attach x v y.0))) (refused bad_type at))) (sym y.2.entries) (sym h.walk.at),
           )
 
-      child-claims : not t ≡ false → (fuel depth : ℕ) (x : Chain) (h : HoldsChain line ns es ss x) (l : length s ≤ line.walk.at + fuel)
+      child-claims : t ≡ true → (fuel depth : ℕ) (x : Chain) (h : HoldsChain line ns es ss x) (l : length s ≤ line.walk.at + fuel)
           → run (rooms room (depth + allowance)) (child rule (value fuel s depth) x)
           ≡ run (rooms room (depth + allowance)) (claim entry (a.entries + 1) line.walk.at (done (attach x v (child_at fuel depth x h l).0)))
       child-claims u fuel depth x h l =
           let y = child_at fuel depth x h l in
-          y.2 ∙ ap (λ b. run (rooms room (depth + allowance)) (cond b (claim entry (a.entries + 1) line.walk.at (done (attach x v y.0))) (refused bad_type line.walk.at))) (not-false t u)
+          y.2 ∙ ap (λ b. run (rooms room (depth + allowance)) (cond b (claim entry (a.entries + 1) line.walk.at (done (attach x v y.0))) (refused bad_type line.walk.at))) u
 
-      child-attached : not t ≡ false → (es'' : List ℕ) → length es' ≡ length es → (a.entries < room.entries → es'' ≡ entries_next es' line v a) → (b : Bool) → ltb a.entries room.entries ≡ b
+      child-attached : t ≡ true → (es'' : List ℕ) → length es' ≡ length es → (a.entries < room.entries → es'' ≡ entries_next es' line v a) → (b : Bool) → ltb a.entries room.entries ≡ b
           → Lists (child_of s rule) 1 s room allowance line ns es ss (cond b (linked.Line (line_next line v a)) (linked.Refused no_entry line.walk.at)) ns' es'' ss'
       child-attached u es'' le kept true e =
           let lt : a.entries < room.entries = ltb-true a.entries room.entries e in
@@ -105,7 +105,7 @@ module _ {s : List ℕ} {room : Room} {allowance : ℕ} {line : Line} {ns es ss 
     attach-counted false = tt
 
     module _ {rule : ℕ} {t : Bool} (test : t ≡ suits_in (rule_of rule) ns' es' v) where
-      pub child_unfit : not t ≡ true → ReadsChild rule s room allowance line ns es ss (linked.Refused bad_type line.walk.at) ns' es' ss'
+      pub child_unfit : t ≡ false → ReadsChild rule s room allowance line ns es ss (linked.Refused bad_type line.walk.at) ns' es' ss'
       unfolding run
       child_unfit u =
           record {
@@ -114,11 +114,11 @@ module _ {s : List ℕ} {room : Room} {allowance : ℕ} {line : Line} {ns es ss 
               moved = tt;
               exact = λ fuel depth x h l.
                   let y = child_at (rule_of rule) t test fuel depth x h l in
-                  y.2 ∙ ap (λ b. run (rooms room (depth + allowance)) (cond b (claim entry (a.entries + 1) line.walk.at (done (attach x v y.0))) (refused bad_type line.walk.at))) (not-true t u);
+                  y.2 ∙ ap (λ b. run (rooms room (depth + allowance)) (cond b (claim entry (a.entries + 1) line.walk.at (done (attach x v y.0))) (refused bad_type line.walk.at))) u;
             };
           }
 
-      pub child-linked : not t ≡ false → {es'' : List ℕ} {r : Linked} → length es' ≡ length es → Attaches room.entries line line.walk.at v a es' r es''
+      pub child-linked : t ≡ true → {es'' : List ℕ} {r : Linked} → length es' ≡ length es → Attaches room.entries line line.walk.at v a es' r es''
           → ReadsChild rule s room allowance line ns es ss r ns' es'' ss'
       child-linked u {es''} {r} le at =
           record {

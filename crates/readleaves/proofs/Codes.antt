@@ -21,19 +21,19 @@ use Rattle.readsteps.specs.Held.{rooms, Safe, LineIn}
 use Rattle.readsteps.specs.Linking.{rule_of, line_lined, first_lined, fault_in}
 use Rattle.readsteps.proofs.Runs.{bind_assoc}
 use Rattle.readsteps.proofs.States.{holds-lined, fault_held}
-use Rattle.readleaves.specs.Readings.{ChainReader, Lists, child_of, first_line_of, parts_of, code_of}
+use Rattle.readleaves.specs.Readings.{ChainReader, Lists, child_of, line_of, parts_of, code_of}
 use Rattle.readleaves.specs.Turns.{Stands, Inv, Then, InvCode}
 use Rattle.readleaves.proofs.Chains.{inv_start, inv_as, inv_end, inv-refused, inv-cut, inv_more, lists-inside}
 
 -- `first_line` is the reading of its name
 pub line-lists : {s : List ℕ} {room : Room} (allowance i : ℕ) {line₀ line : Line} {ns₀ es₀ ss₀ ns es ss : List ℕ} {r : Linked} → Stands s room line₀ ns₀ es₀ ss₀ ns es ss line → r ≡ first_lined s i line
-    → Lists (first_line_of s i) 0 s room allowance line ns es ss r ns es ss
+    → Lists (line_of s i) 0 s room allowance line ns es ss r ns es ss
 unfolding first_line_of run
 line-lists {s} {room} allowance i {line₀} {line} {ns₀} {es₀} {ss₀} {ns} {es} {ss} {r} st e =
-    subst (λ q. Lists (first_line_of s i) 0 s room allowance line ns es ss q ns es ss) (sym e) (go (eqb i line_part) refl (leb (line.walk.at + 4) (length s)) refl)
+    subst (λ q. Lists (line_of s i) 0 s room allowance line ns es ss q ns es ss) (sym e) (go (eqb i line_part) refl (leb (line.walk.at + 4) (length s)) refl)
   where
     go : (b : Bool) → eqb i line_part ≡ b → (d : Bool) → leb (line.walk.at + 4) (length s) ≡ d
-        → Lists (first_line_of s i) 0 s room allowance line ns es ss (cond b (cond d (linked.Line (line_lined line)) (linked.Refused data_too_short line.walk.at)) (linked.Line line)) ns es ss
+        → Lists (line_of s i) 0 s room allowance line ns es ss (cond b (cond d (linked.Line (line_lined line)) (linked.Refused data_too_short line.walk.at)) (linked.Line line)) ns es ss
     go true eb true ed =
         let le : line.walk.at + 4 ≤ length s = leb-true (line.walk.at + 4) (length s) ed in
         record {
@@ -101,11 +101,11 @@ module _ {s : List ℕ} {room : Room} {allowance at : ℕ} {line₀ : Line} {ns�
     abbrev part : ChainReader
     part = child_of s (get_or rules i whatever)
 
-    open_code : Inv (Then (parts_of s code_parts 0) (λ fuel depth. ended s at)) (Then (first_line_of s i) (Then part later)) s room (allowance - 1) line₀ ns₀ es₀ ss₀ ns es ss line
+    open_code : Inv (Then (parts_of s code_parts 0) (λ fuel depth. ended s at)) (Then (line_of s i) (Then part later)) s room (allowance - 1) line₀ ns₀ es₀ ss₀ ns es ss line
     unfolding parts_from
     open_code =
         let e : code_parts - i ≡ suc (code_parts - (i + 1)) = omega arith in
-        inv_as v.inv (Then (first_line_of s i) (Then part later))
+        inv_as v.inv (Then (line_of s i) (Then part later))
         (λ fuel depth c h. ap (λ n. bind (parts_of s n i fuel depth c) (ended s at)) e ∙ assoc fuel depth c)
       where
         assoc : (fuel depth : ℕ) (c : Chain)
@@ -116,15 +116,15 @@ module _ {s : List ℕ} {room : Room} {allowance at : ℕ} {line₀ : Line} {ns�
             ∙ ap (bind (first_line_of s i c)) (λ j d. bind_assoc (part fuel depth d) (parts_of s (code_parts - (i + 1)) (i + 1) fuel depth) (ended s at) j)
 
     module _ {g : Linked} (f : g ≡ first_lined s i line) where
-      lines : Lists (first_line_of s i) 0 s room (allowance - 1) line ns es ss g ns es ss
+      lines : Lists (line_of s i) 0 s room (allowance - 1) line ns es ss g ns es ss
       lines = line-lists (allowance - 1) i v.inv.stands f
 
       pub line-cut : {n p : ℕ} → g ≡ linked.Refused n p → Lists (code_of s at) 0 s room allowance line₀ ns₀ es₀ ss₀ (linked.Refused n p) ns es ss
-      line-cut is = code-lists at some (inv-cut (first_line_of s i) (Then part later) open_code lines is)
+      line-cut is = code-lists at some (inv-cut (line_of s i) (Then part later) open_code lines is)
 
       module _ {m : Line} (is : g ≡ linked.Line m) where
         after_line : Inv (Then (parts_of s code_parts 0) (λ fuel depth. ended s at)) (Then part later) s room (allowance - 1) line₀ ns₀ es₀ ss₀ ns es ss m
-        after_line = inv_more (first_line_of s i) (Then part later) open_code lines is refl refl refl
+        after_line = inv_more (line_of s i) (Then part later) open_code lines is refl refl refl
 
         module _ (rule : ℕ) (ruled : rule_of rule ≡ get_or rules i whatever) {r : Linked} {ns' es' ss' : List ℕ} (k : Lists (child_of s (rule_of rule)) 1 s room (allowance - 1) m ns es ss r ns' es' ss') where
           part-lists : Lists part 1 s room (allowance - 1) m ns es ss r ns' es' ss'

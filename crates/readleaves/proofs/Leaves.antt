@@ -3,7 +3,7 @@
 use mathlib.Core.Path.{◌≡◌, refl, subst}
 use Prim.Native.Nat.{ℕ, ◌+◌, ◌*◌, ◌≤◌, ◌<◌}
 use native.Mathlib.Omega.{arith}
-use mathlib.Core.Bool.{Bool, true, false, not}
+use mathlib.Core.Bool.{Bool, true, false}
 use mathlib.Core.List.{List}
 use lib.ListN.{length}
 use Rattle.refusals.specs.Numbers.{bad_type}
@@ -75,10 +75,10 @@ module _ {s : List ℕ} {room : Room} {allowance : ℕ} {line : Line} {ns es ss 
     leaf_attach-asks = attach-asks safe li read refl refl
 
     module _ {rule : ℕ} {b : Bool} (test : b ≡ suits_in (rule_of rule) ns' es v) where
-      pub tries_unfit : not b ≡ true → Tries rule s room allowance line ns es ss (tried.Refused bad_type line.walk.at) ns' es ss'
+      pub tries_unfit : b ≡ false → Tries rule s room allowance line ns es ss (tried.Refused bad_type line.walk.at) ns' es ss'
       tries_unfit u = record { is = child_unfit safe li read refl test u }
 
-      module _ (u : not b ≡ false) {es' : List ℕ} {r : Linked} (k : Attaches room.entries line line.walk.at v a es r es') where
+      module _ (u : b ≡ true) {es' : List ℕ} {r : Linked} (k : Attaches room.entries line line.walk.at v a es r es') where
         made : ReadsChild rule s room allowance line ns es ss r ns' es' ss'
         made = child-linked safe li read refl test u refl k
 

@@ -67,8 +67,8 @@ kids_of s count fuel depth = kids (value fuel s depth) count
 abbrev pub couples_of : List ℕ → ℕ → ChainReader
 couples_of s extra fuel depth = couples (value fuel s depth) s extra
 
-abbrev pub first_line_of : List ℕ → ℕ → ChainReader
-first_line_of s i fuel depth = first_line_of s i
+abbrev pub line_of : List ℕ → ℕ → ChainReader
+line_of s i fuel depth = first_line_of s i
 
 abbrev pub parts_of : List ℕ → ℕ → ℕ → ChainReader
 parts_of s more i fuel depth = parts_from (value fuel s depth) s more i

@@ -1,5 +1,4 @@
 -- `front` is the steps' own front where it takes a value; a law for a reference and one for a leaf.
--- Assumes nothing.
 use mathlib.Core.Path.{ap}
 use mathlib.Core.List.{List, []}
 use Prim.Native.Nat.{ℕ}
@@ -10,7 +9,6 @@ use Rattle.readleaves.proofs.front.Goals as goal
 
 pub class_at-class-requires : goal.class_at-class-requires
 class_at-class-requires c =
-    let start = c in
     (search rules, ap (λ (t : List (List ℕ)). get_or t 0 []) c.requires.4)
 
 pub returns-then-class-eq-REFERENCE_CLASS : goal.returns-then-class-eq-REFERENCE_CLASS
@@ -18,7 +16,6 @@ returns-then-class-eq-REFERENCE_CLASS c = search (front-refers, rules)
 
 pub head-requires : goal.head-requires
 head-requires c =
-    let start = c in
     (search rules, search rules, ap (λ (t : List (List ℕ)). get_or t 1 []) c.requires.4)
 
 pub returns : goal.returns

@@ -1,5 +1,4 @@
 -- `leaf` reads what `front` takes; a law of Leaves for each way out.
--- Assumes nothing.
 use native.Mathlib.Omega.{arith}
 use Rattle.readleaves.proofs.Leaves.{leaf_head, takes_none, takes_known, takes_leaf}
 use borrow.Author.Rules.{rules}
@@ -13,17 +12,11 @@ overflow_add-after-in-Leaf-2 c = omega (arith, c.requires.0, (leaf_head c.front-
 
 pub fill_slot-requires : goal.fill_slot-requires
 fill_slot-requires c =
-    let at_o2 = c in
-    let at_front = c in
-    let at_pre = at_front.before.before.before.before.before in
-    (omega (arith, at_pre.requires.0, (leaf_head at_front.front.ensures c.in-Leaf.is)), omega (arith, at_pre.requires.0, (leaf_head at_front.front.ensures c.in-Leaf.is)))
+    let head = leaf_head c.front-o.ensures c.in-Leaf.is in
+    (omega (arith, c.requires.0, head), omega (arith, c.requires.0, head))
 
 pub write_node-requires : goal.write_node-requires
-write_node-requires c =
-    let at_o2 = c in
-    let at_front = c in
-    let at_pre = at_front.before.before.before.before.before in
-    omega (arith, at_pre.requires.0, (leaf_head at_front.front.ensures c.in-Leaf.is))
+write_node-requires c = omega (arith, c.requires.0, (leaf_head c.front-o.ensures c.in-Leaf.is))
 
 pub returns-in-Other : goal.returns-in-Other
 returns-in-Other c = search (takes_none, rules)
