@@ -1,6 +1,6 @@
 -- What a reading made, step by step: a reference, a value after what was read, its entry, and a node closed over its children. Assumes nothing
 -- but what it names.
-use mathlib.Core.Path.{◌≡◌, refl, ap, ◌∙◌}
+use mathlib.Core.Path.{◌≡◌, refl, ap, subst, ◌∙◌}
 use Prim.Native.Nat.{ℕ, suc, ◌+◌, ◌≤◌, ◌<◌}
 use native.Mathlib.Omega.{arith}
 use mathlib.Core.Bool.{Bool, true, false, cond}
@@ -66,7 +66,7 @@ member w v (x ∷ xs) m = go (eqb w x) refl m (λ q. member w v xs q)
     more (last q) = last q
 
     go : (b : Bool) → eqb w x ≡ b → cond b true (among w (xs ++ v ∷ [])) ≡ true → (among w (xs ++ v ∷ []) ≡ true → Member w v xs) → Member w v (x ∷ xs)
-    go true e q k = before (rw (eqb-true w x e) (among_self x xs))
+    go true e q k = before (subst (λ y. among w (y ∷ xs) ≡ true) (eqb-true w x e) (among_self w xs))
     go false e q k = more (k q)
 
 module _ (s : List ℕ) where

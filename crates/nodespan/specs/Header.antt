@@ -26,7 +26,7 @@ header_of n = n.place - lead (class_of n.letter)
 abbrev pub own_size : Class → ℕ → ℕ
 own_size refers size = size
 own_size (keeps form) size = size
-own_size (contains sort) size = size
+own_size (contains _) size = size
 own_size codes size = size + 4
 own_size (refuses number) size = size
 
