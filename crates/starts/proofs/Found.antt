@@ -164,8 +164,8 @@ block-enough rs count room b k r ends = sym (ap spot (ap (λ (m : ℕ). kth_star
           ∙ ap (λ (x : ℕ). kth_start rs (512 * b) x (k - starts_in rs 0 (512 * b))) (sym m)
 
 -- what is found is an instruction that there is
-in_count : (rs : List ℕ) (count k : ℕ) → 0 < k → in_count count (spot (kth_start rs 0 count k)) ≡ spot (kth_start rs 0 count k)
-in_count rs count k h = go (kth_start rs 0 count k) refl where
+in_count-spot : (rs : List ℕ) (count k : ℕ) → 0 < k → in_count count (spot (kth_start rs 0 count k)) ≡ spot (kth_start rs 0 count k)
+in_count-spot rs count k h = go (kth_start rs 0 count k) refl where
   go : (o : Option ℕ) → kth_start rs 0 count k ≡ o → in_count count (spot o) ≡ spot o
   go none e = refl
   go (some p) e = let i = kth-inverts rs count 0 k p h e in rw (lt-ltb p count (omega (arith, i.1)))
@@ -187,7 +187,7 @@ kth-finds rs count room (suc m) r =
     let b = block_with index (blocks_of count) k in
     ap (in_count count) (ap (λ (t : Bool). cond t (kth_of index (first_word b) 8 (512 * b) (k - total_of index b)) Missing) (lt-ltb (total_of index b) k ends.below)
     ∙ found b (k - total_of index b) ends.inside (omega (arith, ends.below)) ∙ block-enough rs count room b k r ends)
-    ∙ in_count rs count k (omega arith) where
+    ∙ in_count-spot rs count k (omega arith) where
       found : (b c : ℕ) → b < blocks_of count → 0 < c → kth_of (index_of rs count room) (first_word b) 8 (512 * b) c ≡ spot (kth_start rs (512 * b) (min 512 (count - 512 * b)) c)
       found b c h p =
           let z : first_word b + 0 ≡ first_word b = omega arith in
