@@ -1,17 +1,15 @@
 -- Bytes put behind bytes, how long labels and lines are, and what holds at each turn over the lines. Assumes nothing.
 use mathlib.Core.Path.{◌≡◌, refl, sym, ap, ◌∙◌}
-use mathlib.Core.Bool.{Bool, true, false, cond}
 use mathlib.Core.List.{List, [], ◌∷◌, ◌++◌}
 use Prim.Native.Nat.{ℕ, zero, suc, ◌+◌, ◌-◌, ◌*◌, ◌≤◌, ◌<◌}
 use native.Mathlib.Omega.{arith}
 use native.Mathlib.Nat.{add-zero}
 use native.Mathlib.Numerals.{add-one}
 use borrow.Author.Tests.{lt-ltb, le-ltb}
-use lib.Dec.{ltb}
 use lib.ListN.{length, set, get_or, length-append, length-replicate}
 use lib.Seq.{sets, length-sets}
 use Rattle.refusals.specs.Numbers.{no_room}
-use Rattle.clearing.specs.Lent.{zeros, padded}
+use Rattle.clearing.specs.Lent.{zeros}
 use Rattle.clearing.proofs.Laws.{sets-padded}
 use Rattle.decimals.specs.Decimal.{decimal}
 use Rattle.totals.specs.Totals.{counters, Totals, held_in}

@@ -1,5 +1,5 @@
 -- Two totals that print alike are equal: each line's label is the same, and its number ends at the newline. Assumes nothing.
-use mathlib.Core.Path.{◌≡◌, refl, sym, ap, ◌∙◌}
+use mathlib.Core.Path.{◌≡◌, sym, ap, ◌∙◌}
 use mathlib.Core.List.{List, [], ◌∷◌, ◌++◌, append_assoc}
 use Prim.Native.Nat.{ℕ, zero, suc, ◌+◌, ◌<◌}
 use native.Mathlib.Omega.{arith}
@@ -7,7 +7,7 @@ use native.Mathlib.Nat.{zero-add, not-suc-le-zero}
 use Rattle.decimals.specs.Decimal.{decimal}
 use Rattle.decimals.proofs.Promised.{decimals_keep_their_promises}
 use Rattle.totals.specs.Totals.{counters, Totals}
-use Rattle.printedtotals.specs.Lines.{newline, label, line, lines_from, lines}
+use Rattle.printedtotals.specs.Lines.{newline, label, line, lines_from}
 use Rattle.printedtotals.specs.Promised.{Promised}
 
 abbrev behind : List ℕ → List ℕ

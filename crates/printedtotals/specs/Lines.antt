@@ -1,6 +1,6 @@
 -- The totals as text: 02, K14, "print exact counts in this form and order, zero lines included, one per line: `inputs 3`, `accepted 2`,
 -- `refused 1`, then `refusal N COUNT` for N from 1 to 26." The last line ends with a newline too.
-use Rattle.std.specs.Prelude.{ℕ, zero, suc, ◌+◌, cond, List, [], ◌∷◌, ◌++◌, ltb, length}
+use Rattle.std.specs.Prelude.{ℕ, zero, suc, cond, List, [], ◌∷◌, ◌++◌, ltb, length}
 use Rattle.refusals.specs.Numbers.{no_room}
 use Rattle.clearing.specs.Lent.{zeros, padded}
 use Rattle.decimals.specs.Decimal.{decimal}

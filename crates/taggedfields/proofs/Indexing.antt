@@ -3,17 +3,17 @@
 use mathlib.Core.Path.{◌≡◌, refl, sym, ap, ◌∙◌, subst}
 use mathlib.Core.Bool.{Bool, true, false, cond, not}
 use mathlib.Core.List.{List, [], ◌∷◌}
-use mathlib.Core.Option.{Option, none, some}
+use mathlib.Core.Option.{some}
 use Prim.Native.Nat.{ℕ, zero, suc, ◌+◌, ◌-◌, ◌*◌, ◌≤◌, ◌<◌}
 use native.Mathlib.Omega.{arith}
-use lib.Dec.{ltb, eqb}
-use lib.ListN.{length, get_or, set, take, drop, replicate, length-set, length-replicate, get_or-replicate}
+use lib.Dec.{eqb}
+use lib.ListN.{length, get_or, set, length-set, get_or-replicate}
 use lib.Seq.{get_or-set_same, get_or-set_other}
 use borrow.Author.Tests.{eq-eqb, ne_eqb, eqb-true, eqb-false}
 use Rattle.refusals.specs.Numbers.{data_too_short, repeated_tag}
 use Rattle.clearing.specs.Lent.{zeros}
 use Rattle.taggedfields.specs.declared.Fault.{Fault}
-use Rattle.taggedfields.specs.Fields.{Field, Reading, ended, stopped, with_field, among, read_from, reading, find, field_in}
+use Rattle.taggedfields.specs.Fields.{Reading, ended, stopped, with_field, among, read_from, reading, find, field_in}
 use Rattle.taggedfields.specs.Looking.{told, fault_of, placed}
 use Rattle.taggedfields.specs.Looking.{size_in, field_at}
 use Rattle.taggedfields.proofs.Steps.{from, from_end, from_repeated, from-cut-header, from_cut, from_field}

@@ -1,13 +1,12 @@
 -- The answers of `look`: a fault, no field, or the part where the field stands. Assumes nothing.
-use mathlib.Core.Path.{◌≡◌, refl, sym, ap, ◌∙◌, subst}
+use mathlib.Core.Path.{◌≡◌, refl, sym, ap, ◌∙◌}
 use mathlib.Core.List.{List}
 use mathlib.Core.Option.{Option, none, some}
-use Prim.Native.Nat.{ℕ, zero, suc, ◌+◌, ◌-◌, ◌≤◌, ◌<◌}
+use Prim.Native.Nat.{ℕ, ◌+◌, ◌-◌, ◌≤◌, ◌<◌}
 use native.Mathlib.Omega.{arith}
 use lib.ListN.{length, get_or}
 use Rattle.taggedfields.specs.declared.Fault.{Fault}
-use Rattle.taggedfields.specs.declared.Looked.{Looked}
-use Rattle.taggedfields.specs.Fields.{Field, reading, start_of, field_in}
+use Rattle.taggedfields.specs.Fields.{Field, reading, field_in}
 use Rattle.taggedfields.specs.Looking.{told, fault_of, placed, looked_as, looked}
 use Rattle.taggedfields.specs.Looking.{size_in}
 use Rattle.taggedfields.proofs.Parts.{In, field_found, fault-within}

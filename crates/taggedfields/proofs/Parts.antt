@@ -4,14 +4,14 @@ use mathlib.Core.Path.{◌≡◌, refl, sym, ap, ◌∙◌, subst}
 use mathlib.Core.Bool.{Bool, true, false, cond}
 use mathlib.Core.List.{List, [], ◌∷◌}
 use mathlib.Core.Option.{Option, none, some}
-use Prim.Native.Nat.{ℕ, zero, suc, ◌+◌, ◌-◌, ◌*◌, ◌≤◌, ◌<◌}
+use Prim.Native.Nat.{ℕ, zero, suc, ◌+◌, ◌*◌, ◌≤◌, ◌<◌}
 use native.Mathlib.Omega.{arith}
 use lib.Dec.{ltb, eqb}
 use lib.ListN.{length, get_or, take, drop, length-drop}
 use lib.Seq.{length-take-le}
 use borrow.Author.Tests.{eqb-true}
 use Rattle.refusals.specs.Numbers.{data_too_short, repeated_tag}
-use Rattle.taggedfields.specs.Fields.{Field, Reading, ended, stopped, with_field, start_of, among, headed, read_from, reading, find, field_in}
+use Rattle.taggedfields.specs.Fields.{Field, stopped, with_field, among, headed, read_from, reading, find, field_in}
 use Rattle.taggedfields.specs.Looking.{size_in, field_at}
 use Rattle.taggedfields.proofs.Steps.{from, Step, ends, stops, goes, step}
 
@@ -30,8 +30,8 @@ pub record In (file : List ℕ) (f : Field) : Type 0 where
   pub within : f.place + 3 + length f.contents ≤ length file
   pub part : f.contents ≡ take (length f.contents) (drop (f.place + 3) file)
 
-pub field_in : (file : List ℕ) (at : ℕ) → at + 3 + size_in file at ≤ length file → In file (field_at file at)
-field_in file at h =
+pub field_at-in : (file : List ℕ) (at : ℕ) → at + 3 + size_in file at ≤ length file → In file (field_at file at)
+field_at-in file at h =
     let l : length (field_at file at).contents ≡ size_in file at = length-take-le (size_in file at) (drop (at + 3) file) (omega (arith, length-drop (at + 3) file)) in
     record { tag = refl; size = l; within = omega (arith, l); part = ap (λ n. take n (drop (at + 3) file)) (sym l) }
 
@@ -49,7 +49,7 @@ found_in (suc bound) file tags at t f e = go (found_in bound file (get_or file a
     go again (goes h k q) = case (eqb t (get_or file at 0)) refl (sym (ap (λ r. find t r.fields) q) ∙ e)
       where
         case : (c : Bool) → eqb t (get_or file at 0) ≡ c → cond c (some (field_at file at)) (find t rest) ≡ some f → In file f × (f.tag ≡ t)
-        case true d z = subst (λ x. In file x × (x.tag ≡ t)) (here z) (field_in file at h, sym (eqb-true t (get_or file at 0) d))
+        case true d z = subst (λ x. In file x × (x.tag ≡ t)) (here z) (field_at-in file at h, sym (eqb-true t (get_or file at 0) d))
           where
             here : some (field_at file at) ≡ some f → field_at file at ≡ f
             here y = cc

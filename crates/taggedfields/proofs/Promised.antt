@@ -1,21 +1,20 @@
 -- THEOREM of files of fields (specs/Promised): by induction over the fields that are written, and over the bytes that are read; the rest is
 -- Spelt's laws. Assumes nothing.
 use mathlib.Core.Path.{◌≡◌, refl, sym, ap, ◌∙◌, subst}
-use mathlib.Core.Bool.{Bool, true, false, cond}
+use mathlib.Core.Bool.{false, cond}
 use mathlib.Core.List.{List, [], ◌∷◌, ◌++◌}
-use mathlib.Core.Option.{Option, none, some}
-use Prim.Native.Nat.{ℕ, zero, suc, ◌+◌, ◌-◌, ◌*◌, ◌/◌, ◌%◌, ◌≤◌, ◌<◌}
+use mathlib.Core.Option.{none, some}
+use Prim.Native.Nat.{ℕ, zero, suc, ◌+◌, ◌*◌, ◌/◌, ◌%◌, ◌≤◌}
 use native.Mathlib.Omega.{arith}
-use lib.Dec.{ltb, eqb}
 use lib.ListN.{length, get_or, take, drop, length-append}
 use lib.Seq.{take-append_seam, drop-append_seam}
 use borrow.Author.Tests.{le-ltb}
 use Rattle.refusals.specs.Numbers.{data_too_short, repeated_tag}
-use Rattle.taggedfields.specs.Fields.{Field, Reading, ended, stopped, with_field, among, sized, headed, read_from, reading, field_in, bytes_of, spelt}
-use Rattle.taggedfields.specs.Looking.{size_in, field_at, bytes_at}
+use Rattle.taggedfields.specs.Fields.{Field, stopped, with_field, among, sized, headed, read_from, reading, field_in, bytes_of, spelt}
+use Rattle.taggedfields.specs.Looking.{size_in}
 use Rattle.taggedfields.specs.Promised.{tags_of, Once, laid, Sound, Promised}
 use Rattle.taggedfields.proofs.Steps.{from, Step, ends, stops, goes, step}
-use Rattle.taggedfields.proofs.Parts.{none-some, field_found}
+use Rattle.taggedfields.proofs.Parts.{field_found}
 use Rattle.taggedfields.proofs.Spelt.{in_bytes, spelt-reading}
 
 -- ---- what is written reads back

@@ -1,19 +1,16 @@
 -- Writing and reading: a field's bytes as they stand in the file are those it is written as; a file without a fault is its fields, written.
 -- Assumes nothing.
-use mathlib.Core.Path.{◌≡◌, refl, sym, ap, ◌∙◌, subst}
-use mathlib.Core.Bool.{Bool, true, false, cond}
+use mathlib.Core.Path.{◌≡◌, sym, ap, ◌∙◌}
 use mathlib.Core.List.{List, [], ◌∷◌, ◌++◌}
-use mathlib.Core.Option.{Option, none, some}
-use Prim.Native.Nat.{ℕ, zero, suc, ◌+◌, ◌-◌, ◌*◌, ◌/◌, ◌%◌, ◌≤◌, ◌<◌}
+use mathlib.Core.Option.{none}
+use Prim.Native.Nat.{ℕ, zero, suc, ◌+◌, ◌/◌, ◌%◌, ◌≤◌, ◌<◌}
 use native.Mathlib.Omega.{arith}
-use lib.Dec.{ltb, eqb}
-use lib.ListN.{length, get_or, take, drop, length-drop, length-append, take-append-drop, drop_of_length-le}
-use lib.Seq.{drop-cons, drop-drop, length-take-le, take-append_seam, drop-append_seam}
-use borrow.Author.Tests.{le-ltb}
-use Rattle.taggedfields.specs.Fields.{Field, Reading, ended, stopped, with_field, among, read_from, reading, find, bytes_of, spelt}
+use lib.ListN.{length, get_or, take, drop, take-append-drop, drop_of_length-le}
+use lib.Seq.{drop-cons, drop-drop}
+use Rattle.taggedfields.specs.Fields.{Field, Reading, read_from, reading, bytes_of, spelt}
 use Rattle.taggedfields.specs.Looking.{size_in, field_at, bytes_at}
 use Rattle.taggedfields.proofs.Steps.{from, behind, Step, ends, stops, goes, step}
-use Rattle.taggedfields.proofs.Parts.{In, none-some, field_in}
+use Rattle.taggedfields.proofs.Parts.{In, none-some, field_at-in}
 
 -- every number is a byte
 abbrev pub Bytes : List ℕ → Type 0
@@ -23,7 +20,7 @@ pub bytes_at_lem : (file : List ℕ) (at : ℕ) → Bytes file → at + 3 + size
 bytes_at_lem file at b h =
     let n = size_in file at in
     let f = field_at file at in
-    let l : length f.contents ≡ n = (field_in file at h).size in
+    let l : length f.contents ≡ n = (field_at-in file at h).size in
     let k : 3 + n ≡ suc (suc (suc n)) = omega arith in
     let low : length f.contents % 256 ≡ get_or file (at + 1) 0 = omega (arith, l, b (at + 1), b (at + 2)) in
     let high : length f.contents / 256 ≡ get_or file (at + 2) 0 = omega (arith, l, b (at + 1), b (at + 2)) in

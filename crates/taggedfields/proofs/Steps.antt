@@ -1,18 +1,17 @@
 -- One step of the reading, where the bytes that are left stand from a place of the file on: a repeated tag, a cut field, a whole field, the end.
 -- Assumes nothing.
-use mathlib.Core.Path.{◌≡◌, refl, sym, ap, ◌∙◌}
+use mathlib.Core.Path.{◌≡◌, refl, ap, ◌∙◌}
 use mathlib.Core.Bool.{Bool, true, false, cond}
 use mathlib.Core.List.{List, [], ◌∷◌}
-use mathlib.Core.Option.{none, some}
-use Prim.Native.Nat.{ℕ, zero, suc, ◌+◌, ◌-◌, ◌*◌, ◌≤◌, ◌<◌}
+use Prim.Native.Nat.{ℕ, zero, suc, ◌+◌, ◌-◌, ◌≤◌, ◌<◌}
 use native.Mathlib.Omega.{arith}
 use lib.Dec.{ltb}
-use lib.ListN.{length, get_or, take, drop, length-drop, drop_of_length-le}
+use lib.ListN.{length, get_or, drop, length-drop, drop_of_length-le}
 use lib.Seq.{drop-cons, drop-drop}
 use borrow.Author.Tests.{lt-ltb, le-ltb, ltb-true, ltb-false}
 use Rattle.refusals.specs.Numbers.{data_too_short, repeated_tag}
 use Rattle.taggedfields.specs.Looking.{size_in, field_at}
-use Rattle.taggedfields.specs.Fields.{Field, Reading, ended, stopped, with_field, among, headed, read_from}
+use Rattle.taggedfields.specs.Fields.{Reading, ended, stopped, with_field, among, headed, read_from}
 
 -- what is read from a place on
 abbrev pub from : ℕ → List ℕ → List ℕ → ℕ → Reading

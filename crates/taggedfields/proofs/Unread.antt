@@ -1,11 +1,11 @@
 -- A second walk over a file that has no fault: at each place that the walk comes to, a whole field stands there. Assumes nothing.
 use mathlib.Core.Path.{◌≡◌, refl, sym, ap, ◌∙◌}
 use mathlib.Core.List.{List, [], ◌∷◌}
-use mathlib.Core.Option.{Option, none, some}
+use mathlib.Core.Option.{none}
 use Prim.Native.Nat.{ℕ, zero, suc, ◌+◌, ◌≤◌, ◌<◌}
 use native.Mathlib.Omega.{arith}
 use lib.ListN.{length, get_or}
-use Rattle.taggedfields.specs.Fields.{Field, Reading, read_from, reading}
+use Rattle.taggedfields.specs.Fields.{Field, reading}
 use Rattle.taggedfields.specs.Looking.{size_in, field_at}
 use Rattle.taggedfields.proofs.Steps.{from, from_end, Step, ends, stops, goes, step}
 use Rattle.taggedfields.proofs.Parts.{none-some}

@@ -2,7 +2,7 @@
 -- What is told of a file's fields: its first fault, the place of each tag, and where the field of one tag stands.
 use Rattle.std.specs.Prelude.{ℕ, ◌+◌, ◌*◌, List, length, get_or, take, drop}
 use Rattle.std.proofs.Math.Option.{Option, none, some}
-use Rattle.taggedfields.specs.Fields.{Field, Reading, start_of, reading, field_in}
+use Rattle.taggedfields.specs.Fields.{Field, start_of, reading, field_in}
 use Rattle.taggedfields.specs.declared.Fault.{Fault}
 use Rattle.taggedfields.specs.declared.Looked.{Looked}
 

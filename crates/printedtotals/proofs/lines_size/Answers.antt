@@ -1,7 +1,6 @@
 -- `printedtotals::lines_size` meets its contract: the lines counted and those left are all.
 -- Assumes nothing.
 use native.Mathlib.Omega.{arith}
-use Prim.Native.Nat.{◌-◌}
 use Rattle.printedtotals.proofs.Printing.{size_start, size-turn, size_low, size_end}
 use Rattle.printedtotals.proofs.lines_size.Goals as goal
 

@@ -28,36 +28,16 @@ put_refusal-requires c = omega (arith, length_more c.args.i (past_two c.args.i c
 
 pub put_decimal-end-requires : goal.put_decimal-end-requires
 put_decimal-end-requires c =
-    let at_if3 = c in
-    let at_if2 = c in
-    let at_if1 = at_if2.before in
-    let at_args = at_if1.before.before in
-    omega (arith, c.put_refusal.auto.out, length_more at_args.args.i (past_two at_args.args.i at_if1.if1.false at_if2.if2.false c.if-i-eq2.false))
+    omega (arith, c.put_refusal.auto.out, length_more c.args.i (past_two c.args.i c.if-i-eq0.false c.if-i-eq1.false c.if-i-eq2.false))
 
 pub put_byte-requires : goal.put_byte-requires
 put_byte-requires c =
-    let at_put-refusal = c in
-    let at_if3 = at_put-refusal.before.before in
-    let at_if2 = at_if3.before in
-    let at_if1 = at_if2.before in
-    let at_args = at_if1.before.before in
-    omega (arith, c.put_decimal-end.auto.out, c.put_decimal-end.ensures.0, at_put-refusal.put-refusal.auto.0, length_more at_args.args.i (past_two at_args.args.i at_if1.if1.false at_if2.if2.false at_if3.if3.false))
+    omega (arith, c.put_decimal-end.auto.out, c.put_decimal-end.ensures.0, c.put_refusal.auto.out, length_more c.args.i (past_two c.args.i c.if-i-eq0.false c.if-i-eq1.false c.if-i-eq2.false))
 
 pub overflow_add-result-2 : goal.overflow_add-result-2
 overflow_add-result-2 c =
-    let at_put-decimal = c in
-    let at_if3 = at_put-decimal.before.before.before.before.before.before in
-    let at_if2 = at_if3.before in
-    let at_if1 = at_if2.before in
-    let at_args = at_if1.before.before in
-    record { fits = omega (arith, at_put-decimal.put-decimal.ensures.0, length_more at_args.args.i (past_two at_args.args.i at_if1.if1.false at_if2.if2.false at_if3.if3.false)) }
+    record { fits = omega (arith, c.put_decimal-end.ensures.0, length_more c.args.i (past_two c.args.i c.if-i-eq0.false c.if-i-eq1.false c.if-i-eq2.false)) }
 
 pub returns : goal.returns
 returns c =
-    let at_put-decimal = c in
-    let at_put-refusal = at_put-decimal.before.before.before.before in
-    let at_if3 = at_put-refusal.before.before in
-    let at_if2 = at_if3.before in
-    let at_if1 = at_if2.before in
-    let at_args = at_if1.before.before in
-    put_more at_args.args.out.now at_args.args.at at_args.args.i (past_two at_args.args.i at_if1.if1.false at_if2.if2.false at_if3.if3.false) at_put-refusal.put-refusal.ensures at_put-decimal.put-decimal.ensures c.put_byte.ensures
+    put_more c.args.out.now c.args.at c.args.i (past_two c.args.i c.if-i-eq0.false c.if-i-eq1.false c.if-i-eq2.false) c.put_refusal.ensures c.put_decimal-end.ensures c.put_byte.ensures

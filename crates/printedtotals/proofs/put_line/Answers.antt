@@ -12,20 +12,12 @@ put_decimal-end-requires c = omega (arith, length-line c.args.i c.args.count, c.
 
 pub put_byte-requires : goal.put_byte-requires
 put_byte-requires c =
-    let at_put-label = c in
-    let at_args = at_put-label.before.before.before in
-    omega (arith, length-line at_args.args.i at_args.args.count, c.put_decimal-end.auto.out, c.put_decimal-end.ensures.0, at_put-label.put-label.auto.0, at_put-label.put-label.ensures.0)
+    omega (arith, length-line c.args.i c.args.count, c.put_decimal-end.auto.out, c.put_decimal-end.ensures.0, c.put_label-digits.auto.out, c.put_label-digits.ensures.0)
 
 pub overflow_add-result : goal.overflow_add-result
 overflow_add-result c =
-    let at_put-decimal = c in
-    let at_put-label = at_put-decimal.before.before.before.before in
-    let at_args = at_put-label.before.before.before in
-    record { fits = omega (arith, length-line at_args.args.i at_args.args.count, at_put-decimal.put-decimal.ensures.0, at_put-label.put-label.ensures.0) }
+    record { fits = omega (arith, length-line c.args.i c.args.count, c.put_decimal-end.ensures.0, c.put_label-digits.ensures.0) }
 
 pub returns : goal.returns
 returns c =
-    let at_put-decimal = c in
-    let at_put-label = at_put-decimal.before.before.before.before in
-    let at_args = at_put-label.before.before.before in
-    put_whole at_args.args.out.now at_args.args.at at_args.args.i at_args.args.count at_put-label.put-label.ensures at_put-decimal.put-decimal.ensures c.put_byte.ensures
+    put_whole c.args.out.now c.args.at c.args.i c.args.count c.put_label-digits.ensures c.put_decimal-end.ensures c.put_byte.ensures

@@ -1,6 +1,5 @@
 -- `printedtotals::put_lines` meets its contract: the lines from each turn on make the whole.
 -- Assumes nothing.
-use Prim.Native.Nat.{◌-◌}
 use borrow.Author.Rules.{rules}
 use Rattle.printedtotals.proofs.Printing.{lines_start, line-room, lines-turn, lines_end}
 use Rattle.printedtotals.proofs.put_lines.Goals as goal

@@ -1,6 +1,5 @@
 -- `taggedfields::index_fields` meets its contract, by the laws of this crate that it names.
 -- Assumes nothing.
-use Prim.Native.Nat.{◌-◌}
 use Rattle.taggedfields.proofs.Indexing.{indexing_start, indexing_end, indexing_repeated, cut-header, cut, more}
 use native.Mathlib.Omega.{arith}
 use Rattle.taggedfields.proofs.index_fields.Goals as goal
