@@ -49,6 +49,8 @@ ends_settled u v line p left stop_byte h s d =
 ends_settled u v line p left (past_count e) h s d =
     let r = entry_runs u line p e d.1 in
     (d.0, entry_local u (u ++ v) line p e d.1 d.2 (narrow p e.next (omega arith) (omega arith) (same_append u v e.next r.upto)), d.2, d.3)
+ends_settled u v line p left table_end h s d = elim s [ ]
+ends_settled u v line p left (cut_short _) h s d = elim s [ ]
 ends_settled u v line p left out_of_range h (gone l) d = (d.0, lost_at u v line p h l)
 
 -- THEOREM: a row that has come to such an end is the row of every table that goes on from these bytes.

@@ -116,6 +116,9 @@ open_of u line e h = on (may_heal u line) refl (rw e at h) where
   on false t k = never k
 
 held_ends : (u : List ℕ) (line p left : ℕ) (x : Ending) → p ≤ length u → Ends u line p left x → Goes u line p x → length (drop p u) ≤ 25
+held_ends u line p left placed_all h d g = elim g [ ]
+held_ends u line p left stop_byte h d g = elim g [ ]
+held_ends u line p left (past_count _) h d g = elim g [ ]
 held_ends u line p left table_end h d g = omega (arith, length-drop p u, d.1)
 held_ends u line p left (cut_short e) h d g =
     omega (arith, length-drop p u, entry-upto u line p e d.1, (entry_runs u line p e d.1).late d.2)

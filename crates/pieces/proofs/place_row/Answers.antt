@@ -41,8 +41,7 @@ pub returns-then-left-n : goal.returns-then-left-n
 returns-then-left-n c =
     let l' = c.loop-left in
     let e' = c.entry_here in
-    let s' = c.span-1 in
-    (ends-past _ l'.invariant.walks (omega arith) (sym e'.ensures ∙ s'.given.1) c.if-span.false c.if-left-n.true, fills-past l'.invariant _ (omega arith) (sym e'.ensures ∙ s'.given.1) c.if-span.false c.if-left-n.true c.fill.ensures)
+    (ends-past _ l'.invariant.walks (omega arith) (sym e'.ensures ∙ c.in-Covers.is) c.if-span.false c.if-left-n.true, fills-past l'.invariant _ (omega arith) (sym e'.ensures ∙ c.in-Covers.is) c.if-span.false c.if-left-n.true c.fill.ensures)
 
 pub overflow_mul-i-in-Covers : goal.overflow_mul-i-in-Covers
 overflow_mul-i-in-Covers c = let z = c.loop-left.invariant.room in omega (arith, z)

@@ -33,18 +33,16 @@ slice_bounds-walk_on-count c =
     let a = c.args in
     let p = c.requires in
     let f' = c.first_of in
-    let s' = c.span-1 in
     omega
-    (arith, from_low a.front.now a.piece.now a.bytes a.k a.state.now a.records.now p _ f'.ensures s'.given.1, from_high a.front.now a.piece.now a.bytes a.k a.state.now a.records.now p _ f'.ensures s'.given.1)
+    (arith, from_low a.front.now a.piece.now a.bytes a.k a.state.now a.records.now p _ f'.ensures c.in-Whole.is, from_high a.front.now a.piece.now a.bytes a.k a.state.now a.records.now p _ f'.ensures c.in-Whole.is)
 
 pub slice_bounds-walk_on-start : goal.slice_bounds-walk_on-start
 slice_bounds-walk_on-start c =
     let a = c.args in
     let p = c.requires in
     let f' = c.first_of in
-    let s' = c.span-1 in
     omega
-    (arith, from_low a.front.now a.piece.now a.bytes a.k a.state.now a.records.now p _ f'.ensures s'.given.1, from_high a.front.now a.piece.now a.bytes a.k a.state.now a.records.now p _ f'.ensures s'.given.1)
+    (arith, from_low a.front.now a.piece.now a.bytes a.k a.state.now a.records.now p _ f'.ensures c.in-Whole.is, from_high a.front.now a.piece.now a.bytes a.k a.state.now a.records.now p _ f'.ensures c.in-Whole.is)
 
 pub overflow_cast-next : goal.overflow_cast-next
 overflow_cast-next c =
