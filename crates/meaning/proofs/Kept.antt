@@ -11,7 +11,7 @@ use Rattle.grammar.specs.Reading.{level, slot, Reading, refused, Answer, gives, 
 use Rattle.grammar.specs.Letters.{Class, refers, keeps, contains, codes, refuses, letter_of, flag_of, class_of}
 use Rattle.grammar.specs.Fields.{Fields, parts, le32, numbers, fields, contained, code_fields}
 use Rattle.grammar.specs.State.{State}
-use Rattle.grammar.specs.Steps.{Front, known, opens, stored, reference, reserving, opened, header, front, whatever, rules, reserve, fill, value}
+use Rattle.grammar.specs.Steps.{Front, known, opens, stored, reference, reserving, opened, header, front, whatever, rules, reserve, fill}
 use Rattle.grammar.proofs.Following.{Need, raise, Follows, FollowsA, follows_cond, follows_reads}
 use Rattle.meaning.specs.Value.{Value, Values, nil, more, count_of}
 use Rattle.meaning.specs.Proper.{Suits, SuitFrom, Proper, ProperAll}

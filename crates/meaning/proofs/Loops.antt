@@ -12,7 +12,7 @@ use Rattle.grammar.specs.Reading.{level, node, done, claim, bind}
 use Rattle.grammar.specs.Letters.{class_of}
 use Rattle.grammar.specs.Fields.{Fields}
 use Rattle.grammar.specs.State.{State, moved_to, blank}
-use Rattle.grammar.specs.Steps.{opens, front, Chain, fresh, Rule, whatever, suits, child, kids, couples, passed, Reader, rules, line_part, first_line_of, parts_from, body, enter, close, after, one, value}
+use Rattle.grammar.specs.Steps.{opens, front, Chain, fresh, Rule, whatever, suits, child, couples, passed, Reader, rules, line_part, first_line_of, parts_from, body, enter, close, after, one, value}
 use Rattle.grammar.specs.Record.{sound}
 use Rattle.grammar.proofs.Following.{Need, raise, follows_bind, follows_map}
 use Rattle.grammar.specs.Input.{Bytes}

@@ -7,10 +7,8 @@ use mathlib.Core.Bool.{true}
 use mathlib.Core.List.{List, [], ◌∷◌, ◌++◌}
 use lib.ListN.{length, get_or}
 use Rattle.grammar.specs.Arguments.{argument_sum}
-use Rattle.grammar.specs.Steps.{as_names, as_string, code_part, kinds_part, locals_part}
+use Rattle.grammar.specs.Steps.{code_part, kinds_part, locals_part}
 use Rattle.writing.specs.Canonical.{bytes32, words}
-use Rattle.writing.specs.Shape as shape
-use Rattle.writing.specs.Names as stores
 use Rattle.writing.specs.Steps as writer
 use Rattle.writing.specs.Steps.{Manner, as_value, as_locals, manners}
 use Rattle.meaning.specs.Value.{Value, Values, nil, more, single, integer, float, complex, bytes, text, sequence, slice, dict, code, count_of, value_at, contents_of, contents_all, members_of}

@@ -1,7 +1,7 @@
 -- Accepted readings of two inputs, the fields of two inputs that agree on the bytes up to the fields' end, and states with slots in front.
 -- Assumes nothing.
 use mathlib.Core.Path.{◌≡◌, refl, sym, ap, ◌∙◌}
-use Prim.Native.Nat.{ℕ, zero, suc, ◌+◌, ◌*◌, ◌-◌, ◌≤◌, ◌<◌}
+use Prim.Native.Nat.{ℕ, zero, suc, ◌+◌, ◌*◌, ◌≤◌, ◌<◌}
 use native.Mathlib.Omega.{arith}
 use mathlib.Core.Bool.{Bool, true, false, cond}
 use mathlib.Core.List.{List, [], ◌∷◌, ◌++◌, append_assoc}
@@ -9,7 +9,7 @@ use lib.ListN.{length, get_or, take, length-append, length-drop}
 use lib.Seq.{get_or-drop, get_or-take, ext_get_or, length-take-le}
 use lib.Dec.{leb, ltb, eqb}
 use borrow.Author.Tests.{le-leb}
-use Rattle.refusals.specs.Numbers.{accepted, data_too_short, bad_size, invalid_bytecode, invalid_utf8}
+use Rattle.refusals.specs.Numbers.{data_too_short, bad_size, invalid_bytecode, invalid_utf8}
 use Rattle.wtf8.specs.Forms.{well_formed}
 use Rattle.grammar.specs.Reading.{Reading, done, refused, claim, bind, Answer, gives, stops}
 use Rattle.grammar.specs.Letters as letter

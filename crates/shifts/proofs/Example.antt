@@ -6,7 +6,7 @@ use Rattle.grammar.specs.Reading.{bind, gives}
 use Rattle.grammar.specs.Letters.{class_of, letters, found}
 use Rattle.grammar.specs.Fields.{fields, contained, code_fields}
 use Rattle.refusals.specs.Limits.{nothing}
-use Rattle.grammar.specs.State.{Node, Entry, State}
+use Rattle.grammar.specs.State.{State}
 use Rattle.grammar.specs.Room.{plainly}
 use Rattle.grammar.specs.Steps.{header, front, reference, attach, suits, child, kids, couples, body, enter, close, after, one, value}
 use Rattle.grammar.specs.Answer.{plain}

@@ -9,7 +9,7 @@ use lib.ListN.{length, get_or}
 use lib.Dec.{leb}
 use borrow.Author.Tests.{leb-true, le-leb}
 use Rattle.refusals.specs.Limits.{most_bytes}
-use Rattle.grammar.specs.Reading.{Kind, level, node, entry, slot, Reading, done, refused, claim, Answer, gives, stops}
+use Rattle.grammar.specs.Reading.{Kind, level, node, entry, slot, Reading, done, refused, claim, Answer, stops}
 use Rattle.grammar.specs.Room.{Rooms, room_for, number_of, run, claims, most, same}
 use Rattle.grammar.specs.Fields.{contents}
 use Rattle.grammar.specs.State.{Node, Entry, State, start}

@@ -1,7 +1,7 @@
 -- The law of lowered indices: where the whole reading of s, with slots in front, is accepted within t, it is the reading of t without those
 -- slots, its slot claims raised. One law a definition of Steps. Assumes nothing of the bytes but Lowers.
 use mathlib.Core.Path.{◌≡◌, refl, sym, ap, ◌∙◌}
-use Prim.Native.Nat.{ℕ, zero, suc, ◌+◌, ◌-◌, ◌≤◌, ◌<◌}
+use Prim.Native.Nat.{ℕ, zero, suc, ◌+◌, ◌≤◌, ◌<◌}
 use native.Mathlib.Omega.{arith}
 use mathlib.Core.Bool.{Bool, true, false, cond}
 use mathlib.Core.List.{List, ◌++◌}
@@ -10,7 +10,7 @@ use lib.Seq.{get_or-append-add}
 use lib.Dec.{leb, ltb, eqb}
 use borrow.Author.Tests.{lt-ltb, le-leb, eq-eqb}
 use Rattle.refusals.specs.Numbers.{accepted, data_too_short, bad_type}
-use Rattle.grammar.specs.Reading.{level, node, entry, slot, Reading, done, refused, claim, bind, reads, Answer, gives, stops}
+use Rattle.grammar.specs.Reading.{level, node, entry, Reading, done, refused, claim, bind, reads, Answer, gives, stops}
 use Rattle.grammar.specs.Letters.{Class, refers, keeps, contains, codes, refuses, letter_of, class_of, among, ends_dict}
 use Rattle.grammar.specs.Fields.{Fields, Children, items, pairs, parts, le32, field, code_numbers, fields, contained, code_fields, sum_at}
 use Rattle.grammar.specs.State.{State, referred}

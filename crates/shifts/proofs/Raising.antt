@@ -1,6 +1,6 @@
 -- The shift of records, of the tests on a child and of each change of a state. One law a definition. Assumes nothing.
 use mathlib.Core.Path.{◌≡◌, refl, sym, ap, ◌∙◌}
-use Prim.Native.Nat.{ℕ, zero, suc, ◌+◌, ◌-◌, ◌≤◌, ◌<◌}
+use Prim.Native.Nat.{ℕ, zero, suc, ◌+◌, ◌≤◌, ◌<◌}
 use native.Mathlib.Omega.{arith}
 use mathlib.Core.Bool.{Bool, true, false, cond, ◌&&◌}
 use mathlib.Core.Option.{Option, none, some}
@@ -10,11 +10,10 @@ use lib.Seq.{get_or-append-add}
 use lib.Dec.{eqb}
 use borrow.Author.Tests.{ne_eqb}
 use Rattle.refusals.specs.Limits.{nothing}
-use Rattle.grammar.specs.Reading.{node}
 use Rattle.grammar.specs.Letters.{is_bytes, is_tuple, is_string}
 use Rattle.grammar.specs.Fields.{Fields}
 use Rattle.grammar.specs.State.{Node, Entry, State, blank, unlinked, moved_to}
-use Rattle.grammar.specs.Steps.{front, Chain, first_of, follow, attach, Rule, whatever, as_bytes, as_tuple, as_names, as_string, letter_in, strings, suits, child, kids, reserve, fill, enter, size_of, close}
+use Rattle.grammar.specs.Steps.{Chain, first_of, follow, attach, Rule, whatever, as_bytes, as_tuple, as_names, as_string, letter_in, strings, suits, reserve, fill, enter, size_of, close}
 use Rattle.grammar.proofs.Tests.{both_agree, never}
 use Rattle.grammar.proofs.Links.{Linked, More, next_of}
 use Rattle.grammar.proofs.Standing.{Finished}

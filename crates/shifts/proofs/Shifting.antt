@@ -1,7 +1,7 @@
 -- The law of two readings that differ by a shift: the whole reading behind kept nodes and entries, deeper and further on, is the plain
 -- reading with its numbers raised. One law a definition of Steps. Assumes that the input is 16 MiB at most.
 use mathlib.Core.Path.{◌≡◌, refl, sym, ap, ap₂}
-use Prim.Native.Nat.{ℕ, zero, suc, ◌+◌, ◌-◌, ◌≤◌, ◌<◌}
+use Prim.Native.Nat.{ℕ, zero, suc, ◌+◌, ◌≤◌, ◌<◌}
 use native.Mathlib.Omega.{arith}
 use mathlib.Core.Bool.{Bool, true, false, cond}
 use mathlib.Core.List.{List, [], ◌∷◌, ◌++◌, map}
@@ -12,7 +12,7 @@ use borrow.Author.Tests.{ltb-true, ltb-false, ne_eqb, eqb-true}
 use Rattle.refusals.specs.Numbers.{accepted, eof_object, bad_type, unknown_type}
 use Rattle.refusals.specs.Limits.{most_bytes, nothing}
 use Rattle.grammar.specs.Reading.{level, entry, done, refused, claim, gives}
-use Rattle.grammar.specs.Letters.{Class, keeps, refuses, class_of, letters, found, ends_dict}
+use Rattle.grammar.specs.Letters.{Class, refuses, class_of, letters, found, ends_dict}
 use Rattle.grammar.specs.Fields.{Fields, Children, items, pairs, parts, field, sum_at}
 use Rattle.grammar.specs.State.{State, blank}
 use Rattle.grammar.specs.Steps.{Front, known, opens, front, Chain, fresh, attach, Rule, whatever, suits, Reader, child, kids, passed, couples, code_parts, rules, code_part, locals_part, kinds_part, line_part, lined, first_line_of, parts_from, fault_of, ended, body, enter, size_of, after, one, value}

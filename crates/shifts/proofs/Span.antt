@@ -1,7 +1,7 @@
 -- The span of a value read alone (02, K7: "the span read alone gives the same value once each index in it is lowered by the slots reserved before
 -- the node"): both laws together, for a value read on the way. Assumes that the input is bytes, 16 MiB of them at most.
 use mathlib.Core.Path.{◌≡◌, refl, sym, ap, ◌∙◌}
-use Prim.Native.Nat.{ℕ, ◌+◌, ◌-◌, ◌≤◌}
+use Prim.Native.Nat.{ℕ, ◌+◌, ◌≤◌}
 use native.Mathlib.Omega.{arith}
 use mathlib.Core.List.{List, [], ◌++◌, append-nil}
 use lib.ListN.{length, take, drop, length-append, length-drop, take-append-drop}
