@@ -1,18 +1,18 @@
 -- An archive with one more file behind it: its files are those that it had, and this one. Assumes nothing.
-use mathlib.Core.Path.{◌≡◌, refl, sym, ap, ◌∙◌, subst}
+use mathlib.Core.Path.{◌≡◌, refl, sym, ap, ◌∙◌}
 use mathlib.Core.Bool.{Bool, true, false, cond}
 use mathlib.Core.List.{List, [], ◌∷◌, ◌++◌}
 use mathlib.Core.Option.{Option, none, some}
-use Prim.Native.Nat.{ℕ, zero, suc, ◌+◌, ◌-◌, ◌*◌, ◌/◌, ◌%◌, ◌≤◌, ◌<◌}
+use Prim.Native.Nat.{ℕ, zero, suc, ◌+◌, ◌≤◌, ◌<◌}
 use native.Mathlib.Omega.{arith}
 use lib.Dec.{ltb, eqb}
-use lib.ListN.{length, get_or, take, drop, length-append, length-drop, get_or-append}
+use lib.ListN.{length, take, drop, length-append, length-drop, get_or-append}
 use lib.Seq.{take-append-le, drop-append-le, take-length, drop-length}
 use borrow.Author.Tests.{le-ltb, ne_eqb, eqb-true, ltb-false}
 use Rattle.refusals.specs.Numbers.{data_too_short}
 use Rattle.taggedfields.specs.Fields.{reading}
 use Rattle.taggedfields.proofs.Parts.{none-some}
-use Rattle.editions.specs.Archive.{Saved, Archive, ended, stopped, with_file, if_sound, le32, sized, archive_from, archive_of, bytes32, record_of}
+use Rattle.editions.specs.Archive.{Saved, Archive, ended, stopped, with_file, if_sound, le32, archive_from, archive_of, bytes32, record_of}
 
 -- a whole record in front: its file, and what is behind it
 front : (bound at : ℕ) (bytes : List ℕ) → 4 ≤ length bytes → le32 bytes ≤ length (drop 4 bytes)

@@ -4,26 +4,25 @@ use mathlib.Core.Path.{◌≡◌, refl, sym, ap, ◌∙◌, subst}
 use mathlib.Core.Bool.{Bool, true, false, cond}
 use mathlib.Core.List.{List, [], ◌∷◌, ◌++◌}
 use mathlib.Core.Option.{Option, none, some}
-use Prim.Native.Nat.{ℕ, ◌+◌, ◌-◌, ◌≤◌, ◌<◌, min}
+use Prim.Native.Nat.{ℕ, ◌+◌, ◌-◌, ◌≤◌, min}
 use native.Mathlib.Omega.{arith}
 use lib.Dec.{ltb}
 use lib.ListN.{length, take, drop, length-append, length-drop}
 use lib.Seq.{take-length, take-append-le, take-append_seam, drop-append-le, drop-append-add}
-use borrow.Author.Tests.{lt-ltb, le-ltb, ltb-true, ltb-false}
+use borrow.Author.Tests.{le-ltb, ltb-false}
 use Rattle.refusals.specs.Numbers.{input_too_long, no_room, no_such_field}
 use Rattle.refusals.specs.Limits.{nothing}
 use Rattle.clearing.specs.Lent.{zeros, padded}
 use Rattle.taggedfields.specs.Fields.{Field, reading, field_in}
-use Rattle.taggedfields.proofs.Parts.{none-some, fault-within}
-use Rattle.editions.specs.declared.Edition.{Edition}
+use Rattle.taggedfields.proofs.Parts.{fault-within}
 use Rattle.editions.specs.declared.Kept.{Kept}
-use Rattle.editions.specs.Archive.{Saved, Archive, archive_of, same, is_field, is_edition, find_edition, record_of}
+use Rattle.editions.specs.Archive.{Saved, archive_of, same, is_field, is_edition, find_edition, record_of}
 use Rattle.editions.specs.Answers.{refused_with, edition_from, edition_of, refused_as, in_room, if_new, saved_from, saved_of}
 use Rattle.editions.specs.Promised.{file_at, IsOf, grown, Saves, Promised}
 use Rattle.editions.proofs.Finding.{archive_number}
 use Rattle.editions.proofs.Saving.{short-enough}
 use Rattle.editions.proofs.Growing.{with, grown_archive}
-use Rattle.editions.proofs.Standing.{Standing, found-stands, same_equal, equal_same, field_is, is_field}
+use Rattle.editions.proofs.Standing.{found-stands, same_equal, equal_same, field_is}
 
 -- ---- what an accepted save says
 record Accepted (archive file : List ℕ) (room : ℕ) : Type 0 where

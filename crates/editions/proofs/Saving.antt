@@ -1,9 +1,9 @@
 -- Saving a file: what is put into the output, and each way out of `save_edition`. Assumes nothing.
-use mathlib.Core.Path.{◌≡◌, refl, sym, ap, ◌∙◌, subst}
+use mathlib.Core.Path.{◌≡◌, refl, sym, ap, ◌∙◌}
 use mathlib.Core.Bool.{Bool, true, false, cond}
-use mathlib.Core.List.{List, [], ◌∷◌, ◌++◌}
+use mathlib.Core.List.{List, ◌++◌}
 use mathlib.Core.Option.{Option, none, some}
-use Prim.Native.Nat.{ℕ, zero, suc, ◌+◌, ◌-◌, ◌%◌, ◌/◌, ◌≤◌, ◌<◌, min}
+use Prim.Native.Nat.{ℕ, ◌+◌, ◌-◌, ◌≤◌, ◌<◌, min}
 use native.Mathlib.Omega.{arith}
 use lib.Dec.{ltb}
 use lib.ListN.{length, take, drop, length-append}
@@ -18,7 +18,7 @@ use Rattle.taggedfields.specs.declared.Looked.{Looked}
 use Rattle.taggedfields.specs.Fields.{Field, reading, field_in}
 use Rattle.taggedfields.specs.Looking.{looked_as, looked}
 use Rattle.taggedfields.proofs.Parts.{field_found}
-use Rattle.taggedfields.proofs.Answers.{Shown, says-fault, says_none, says_absent, says-found}
+use Rattle.taggedfields.proofs.Answers.{says-fault, says_none, says_absent, says-found}
 use Rattle.editions.specs.declared.Kept.{Kept}
 use Rattle.editions.specs.declared.Searched.{Searched}
 use Rattle.editions.specs.Archive.{Saved, archive_of, find_edition, bytes32, record_of}
@@ -53,9 +53,9 @@ module _ (archive file : List ℕ) (len : ℕ) {room : ℕ} (m : room ≡ min le
   answers c e = ap (λ t. cond {A = Answer} t (refused_as no_room (min len nothing) len)
       (record { refusal = 0; place = 0; written = length (archive ++ record_of file) }, padded len (archive ++ record_of file))) (sym e ∙ ap (λ i. ltb i (length (archive ++ record_of file))) m)
 
-  pub no_room : room < length archive + 4 + length file → {k : Kept} {out : List ℕ} → k ≡ record { refusal = no_room; place = room; written = 0 } → out ≡ zeros len
+  pub no_room_lem : room < length archive + 4 + length file → {k : Kept} {out : List ℕ} → k ≡ record { refusal = no_room; place = room; written = 0 } → out ≡ zeros len
       → ◌≡◌ {A = Answer} (k, out) (in_room (archive ++ record_of file) len)
-  no_room h {k} {out} q z =
+  no_room_lem h {k} {out} q z =
       ap {B = Answer} (λ x. (x, out)) q ∙ ap {B = Answer} (λ (o : List ℕ). (record { refusal = no_room; place = room; written = 0 }, o)) z ∙ ap (λ (i : ℕ). refused_as no_room i len) m
       ∙ answers true (lt-ltb room (length (archive ++ record_of file)) (omega (arith, record_length archive file)))
 

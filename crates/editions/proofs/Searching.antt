@@ -1,24 +1,24 @@
 -- The walk over an archive: what is found from here on, behind what was found before, is what the whole archive has. Assumes nothing.
 use mathlib.Core.Path.{◌≡◌, refl, sym, ap, ◌∙◌, subst}
 use mathlib.Core.Bool.{Bool, true, false, cond}
-use mathlib.Core.List.{List, [], ◌∷◌}
+use mathlib.Core.List.{List}
 use mathlib.Core.Option.{Option, none, some}
-use Prim.Native.Nat.{ℕ, zero, suc, ◌+◌, ◌-◌, ◌*◌, ◌≤◌, ◌<◌}
+use Prim.Native.Nat.{ℕ, zero, suc, ◌+◌, ◌-◌, ◌≤◌, ◌<◌}
 use native.Mathlib.Omega.{arith}
 use lib.Dec.{ltb, eqb}
-use lib.ListN.{length, get_or, take, drop, length-drop, drop_of_length-le}
+use lib.ListN.{length, take, drop, length-drop, drop_of_length-le}
 use lib.Seq.{drop-drop, get_or-drop, length-take-le}
 use borrow.Author.Tests.{lt-ltb, le-ltb, eq-eqb, ne_eqb, eqb-true}
 use Rattle.refusals.specs.Numbers.{data_too_short}
 use Rattle.taggedfields.specs.declared.Looked.{Looked}
-use Rattle.taggedfields.specs.Fields.{Field, reading, start_of, field_in}
+use Rattle.taggedfields.specs.Fields.{reading, field_in}
 use Rattle.taggedfields.specs.Looking.{looked}
-use Rattle.taggedfields.proofs.Parts.{In, field_found, fault-within}
+use Rattle.taggedfields.proofs.Parts.{field_found, fault-within}
 use Rattle.taggedfields.proofs.Answers.{Shown, says-fault, says_none, says_absent, says-found}
 use Rattle.editions.specs.declared.Met.{Met}
 use Rattle.editions.specs.declared.Found.{Found}
 use Rattle.editions.specs.declared.Searched.{Searched}
-use Rattle.editions.specs.Archive.{Saved, Archive, ended, stopped, with_file, if_sound, le32, sized, archive_from, archive_of, same, is_field, is_edition, find_edition}
+use Rattle.editions.specs.Archive.{Saved, Archive, ended, stopped, with_file, if_sound, le32, sized, archive_from, archive_of, same, is_edition, find_edition}
 use Rattle.editions.specs.Meeting.{length_in, met_from, met_as, found_as, or_this, searched_from, searched}
 
 -- ---- one saved file

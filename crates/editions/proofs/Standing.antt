@@ -1,7 +1,7 @@
 -- A file that is found in an archive stands there whole, has no fault, and is of the edition. Assumes nothing.
 use mathlib.Core.Path.{◌≡◌, refl, sym, ap, ◌∙◌, subst}
 use mathlib.Core.Bool.{Bool, true, false, cond}
-use mathlib.Core.List.{List, [], ◌∷◌, ◌++◌}
+use mathlib.Core.List.{List, [], ◌∷◌}
 use mathlib.Core.Option.{Option, none, some}
 use Prim.Native.Nat.{ℕ, zero, suc, ◌+◌, ◌-◌, ◌≤◌, ◌<◌}
 use native.Mathlib.Omega.{arith}
@@ -9,9 +9,9 @@ use lib.Dec.{ltb, eqb}
 use lib.ListN.{length, take, drop, length-drop}
 use lib.Seq.{length-take-le}
 use borrow.Author.Tests.{ltb-true, ltb-false, eqb-true, eq-eqb}
-use Rattle.taggedfields.specs.Fields.{Field, reading, field_in}
+use Rattle.taggedfields.specs.Fields.{Field, reading}
 use Rattle.taggedfields.proofs.Parts.{none-some}
-use Rattle.editions.specs.Archive.{Saved, Archive, ended, stopped, with_file, if_sound, archive_from, archive_of, same, is_field, is_edition, find_edition}
+use Rattle.editions.specs.Archive.{Saved, Archive, with_file, if_sound, archive_from, archive_of, same, is_field, is_edition, find_edition}
 use Rattle.editions.specs.Meeting.{length_in}
 use Rattle.editions.specs.Promised.{IsOf}
 use Rattle.editions.proofs.Searching.{from, saved_at, from_end, from-cut-length, from_cut, from-file}
@@ -96,6 +96,6 @@ pub field_is : (edition : List ℕ) (o : Option Field) → is_field edition o �
 field_is edition none e = absurd (never e)
 field_is edition (some f) e = same_equal f.contents edition e
 
-pub is_field : (edition : List ℕ) (o : Option Field) → IsOf edition o → is_field edition o ≡ true
-is_field edition none e = absurd e
-is_field edition (some f) e = ap (λ l. same l edition) e ∙ equal_same edition
+pub is_field_lem : (edition : List ℕ) (o : Option Field) → IsOf edition o → is_field edition o ≡ true
+is_field_lem edition none e = absurd e
+is_field_lem edition (some f) e = ap (λ l. same l edition) e ∙ equal_same edition

@@ -1,6 +1,6 @@
 -- 02, K8: "rolling back to an edition gives exactly that file's fields"; "no such edition, or saving a file whose edition is missing or already
 -- saved, 23; no room 17". An archive above 4,294,967,295 bytes is 14 at 0, first.
-use Rattle.std.specs.Prelude.{ℕ, ◌+◌, min, Bool, cond, List, [], ◌∷◌, ◌++◌, ltb, length}
+use Rattle.std.specs.Prelude.{ℕ, min, cond, List, ◌++◌, ltb, length}
 use Rattle.std.proofs.Math.Option.{Option, none, some}
 use Rattle.refusals.specs.Numbers.{input_too_long, no_room, no_such_field}
 use Rattle.refusals.specs.Limits.{nothing}

@@ -1,6 +1,6 @@
 -- No export and no promise rests on this page.
 -- What the walk over an archive keeps: of one saved file its fault, or whether it is of the edition; of those before, the first that was.
-use Rattle.std.specs.Prelude.{ℕ, ◌+◌, ◌*◌, Bool, true, false, cond, List, eqb, length, get_or}
+use Rattle.std.specs.Prelude.{ℕ, ◌+◌, ◌*◌, Bool, false, cond, List, eqb, length, get_or}
 use Rattle.std.proofs.Math.Option.{Option, none, some}
 use Rattle.taggedfields.specs.Fields.{Field, reading, field_in}
 use Rattle.editions.specs.Archive.{Saved, is_field, archive_of, find_edition}

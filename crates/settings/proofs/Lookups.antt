@@ -2,15 +2,15 @@
 use mathlib.Core.Path.{◌≡◌, refl, sym, ap, ◌∙◌, subst}
 use mathlib.Core.List.{List, []}
 use mathlib.Core.Option.{Option, none, some}
-use Prim.Native.Nat.{ℕ, zero, suc, ◌+◌, ◌-◌, ◌≤◌, ◌<◌}
+use Prim.Native.Nat.{ℕ, ◌+◌, ◌-◌, ◌≤◌}
 use native.Mathlib.Omega.{arith}
 use lib.ListN.{length, take, drop}
 use Rattle.refusals.specs.Numbers.{no_such_field}
 use Rattle.taggedfields.specs.declared.Looked.{Looked}
 use Rattle.taggedfields.specs.Fields.{Field, start_of, reading, field_in}
 use Rattle.taggedfields.specs.Looking.{looked}
-use Rattle.taggedfields.proofs.Parts.{In, field_found, fault-within}
-use Rattle.taggedfields.proofs.Answers.{Shown, says-fault, says_none, says_absent, says-found}
+use Rattle.taggedfields.proofs.Parts.{field_found, fault-within}
+use Rattle.taggedfields.proofs.Answers.{says-fault, says_none, says_absent, says-found}
 use Rattle.settings.specs.declared.Setting.{Setting}
 use Rattle.settings.specs.Setting.{refused_with, found_in, setting_from, setting_of, contents_from, contents_of}
 

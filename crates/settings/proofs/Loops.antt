@@ -1,18 +1,18 @@
 -- The two loops of the rewriting: what is left of the fields still comes to the same output. Assumes nothing.
 use mathlib.Core.Path.{◌≡◌, refl, sym, ap, ◌∙◌, subst}
-use mathlib.Core.Bool.{Bool, true, false, cond}
-use mathlib.Core.List.{List, [], ◌∷◌, ◌++◌, append_assoc, append-nil}
+use mathlib.Core.Bool.{cond}
+use mathlib.Core.List.{List, [], ◌++◌, append_assoc}
 use mathlib.Core.Option.{Option, none, some}
-use Prim.Native.Nat.{ℕ, zero, suc, ◌+◌, ◌-◌, ◌≤◌, ◌<◌}
+use Prim.Native.Nat.{ℕ, ◌+◌, ◌-◌, ◌≤◌, ◌<◌}
 use native.Mathlib.Omega.{arith}
-use lib.Dec.{ltb, eqb}
-use lib.ListN.{length, get_or, take, drop}
+use lib.Dec.{eqb}
+use lib.ListN.{length, get_or}
 use borrow.Author.Tests.{eq-eqb, ne_eqb}
-use Rattle.taggedfields.specs.Fields.{Field, reading, find, field_in, bytes_of, spelt}
+use Rattle.taggedfields.specs.Fields.{Field, reading, field_in, bytes_of, spelt}
 use Rattle.taggedfields.specs.Looking.{placed, size_in, field_at, bytes_at}
-use Rattle.taggedfields.proofs.Parts.{In, field_found}
+use Rattle.taggedfields.proofs.Parts.{field_found}
 use Rattle.taggedfields.proofs.Spelt.{Bytes, bytes_at_lem, in_bytes}
-use Rattle.taggedfields.proofs.Unread.{Unread, rest, unread_start, unread_end, Next, unread_next}
+use Rattle.taggedfields.proofs.Unread.{Unread, rest, unread_start, unread_end, unread_next}
 use Rattle.settings.specs.Rewriting.{or_new, changed, if_new, added}
 use Rattle.settings.specs.Putting.{after, Puts}
 

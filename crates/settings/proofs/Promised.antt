@@ -1,24 +1,24 @@
 -- THEOREM of 02's K8, of settings (specs/Promised): the rewritten file is fields, written, of which no two have one tag, so it reads back as
 -- they are; the rest is what these fields have for a tag (Tags). Assumes nothing.
-use mathlib.Core.Path.{◌≡◌, refl, sym, ap, ◌∙◌, subst}
+use mathlib.Core.Path.{◌≡◌, refl, sym, ap, ◌∙◌}
 use mathlib.Core.Bool.{Bool, true, false, cond}
 use mathlib.Core.List.{List, [], ◌∷◌, ◌++◌, append_assoc, append-nil}
-use mathlib.Core.Option.{Option, none, some}
+use mathlib.Core.Option.{none}
 use Prim.Native.Nat.{ℕ, ◌≤◌, min}
-use lib.Dec.{ltb, eqb}
+use lib.Dec.{eqb}
 use lib.ListN.{length, take, drop}
 use borrow.Author.Tests.{le-ltb, eqb-true, eqb-false}
 use Rattle.refusals.specs.Numbers.{no_room}
 use Rattle.refusals.specs.Limits.{nothing}
 use Rattle.clearing.specs.Lent.{padded}
-use Rattle.taggedfields.specs.Fields.{Field, Reading, read_from, reading, find, spelt, bytes_of}
-use Rattle.taggedfields.specs.Promised.{tags_of, Once, laid, Sound}
+use Rattle.taggedfields.specs.Fields.{Field, read_from, reading, find, spelt, bytes_of}
+use Rattle.taggedfields.specs.Promised.{tags_of, laid, Sound}
 use Rattle.taggedfields.proofs.Promised.{fields_keep_their_promises}
 use Rattle.settings.specs.declared.rewriting.Rewritten.{Rewritten}
 use Rattle.settings.specs.Setting.{setting_of, contents_of}
-use Rattle.settings.specs.Rewriting.{or_new, changed, added, rewritten, refused_as, in_room, rewrite_from, rewrite_of}
-use Rattle.settings.specs.Promised.{contents_in, said, or_else, Rewrites, Promised}
-use Rattle.settings.proofs.Lookups.{Part, Says, says}
+use Rattle.settings.specs.Rewriting.{changed, added, rewritten, refused_as, in_room, rewrite_from, rewrite_of}
+use Rattle.settings.specs.Promised.{contents_in, Rewrites, Promised}
+use Rattle.settings.proofs.Lookups.{Says, says}
 use Rattle.settings.proofs.Tags.{changed_tags, tags_append, laid_tags, laid-find, laid-others, find-both, added-append, others-changed, others-added, once-both}
 
 spelt-append : (xs ys : List Field) → spelt (xs ++ ys) ≡ spelt xs ++ spelt ys

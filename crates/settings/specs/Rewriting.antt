@@ -1,6 +1,6 @@
 -- 02, K8: "An older harness keeps tags it does not know byte for byte when rewriting." A field whose tag the changes have gets its contents there,
 -- where it stands; every other is kept; what the file lacks follows in the order of the changes, which are a file of fields too.
-use Rattle.std.specs.Prelude.{ℕ, ◌+◌, min, cond, List, [], ◌∷◌, ◌++◌, ltb, length}
+use Rattle.std.specs.Prelude.{ℕ, min, cond, List, [], ◌∷◌, ◌++◌, ltb, length}
 use Rattle.std.proofs.Math.Option.{Option, none, some}
 use Rattle.refusals.specs.Numbers.{no_room}
 use Rattle.refusals.specs.Limits.{nothing}

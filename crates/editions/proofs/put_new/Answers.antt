@@ -6,16 +6,16 @@ use lib.Seq.{sets}
 use native.Mathlib.Omega.{arith}
 use lib.ListN.{length}
 use Rattle.editions.specs.Archive.{record_of}
-use Rattle.editions.proofs.Saving.{no_room, in_room_lem}
+use Rattle.editions.proofs.Saving.{no_room_lem, in_room_lem}
 use Rattle.editions.proofs.put_new.Goals as goal
 
 pub returns-then-room-archive : goal.returns-then-room-archive
-returns-then-room-archive c = no_room c.args.archive.now c.args.file.now
+returns-then-room-archive c = no_room_lem c.args.archive.now c.args.file.now
     (length c.args.out.now) c.room_of-room.ensures.0 (omega arith) c.refused.ensures
     c.requires.1
 
 pub returns-then-room-archive-2 : goal.returns-then-room-archive-2
-returns-then-room-archive-2 c = no_room c.args.archive.now
+returns-then-room-archive-2 c = no_room_lem c.args.archive.now
     c.args.file.now (length c.args.out.now)
     c.room_of-room.ensures.0 (omega arith) c.refused-then-room-archive-2.ensures c.requires.1
 

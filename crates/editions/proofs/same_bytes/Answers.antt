@@ -1,6 +1,5 @@
 -- `editions::same_bytes` meets its contract, by the laws of this crate that it names.
 -- Assumes nothing.
-use Prim.Native.Nat.{◌-◌}
 use Rattle.editions.proofs.Same.{longer, same_start, same_other, same_more, same_all}
 use Rattle.editions.proofs.same_bytes.Goals as goal
 

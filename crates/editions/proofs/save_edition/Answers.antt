@@ -22,69 +22,34 @@ slice_bounds-search-end c = let w = part-within c.args.file.now 1
 
 pub returns-then-s-ne0 : goal.returns-then-s-ne0
 returns-then-s-ne0 c =
-    let at_search = c in
-    let at_if1 = c in
-    let at_clear_bytes = at_if1.before.before.before in
-    let at_args = at_clear_bytes.before.before.before.before.before in
-    let a = at_args.args in
-    save_archive_fault a.archive.now a.file.now (length a.out.now) at_if1.if1.false _ c.search-s.ensures c.if-s-ne0.true c.refused-then-s-ne0.ensures at_clear_bytes.clear-bytes.ensures
+    let a = c.args in
+    save_archive_fault a.archive.now a.file.now (length a.out.now) c.if-archive-gt4294967295.false _ c.search-s.ensures c.if-s-ne0.true c.refused-then-s-ne0.ensures c.clear_bytes.ensures
 
 pub returns-then-own-ne0 : goal.returns-then-own-ne0
 returns-then-own-ne0 c =
-    let at_if2 = c in
-    let at_search = c in
-    let at_look = at_search.before.before.before.before in
-    let at_if1 = at_look.before in
-    let at_clear_bytes = at_if1.before.before.before in
-    let at_args = at_clear_bytes.before.before.before.before.before in
-    let a = at_args.args in
-    save_file-fault a.archive.now a.file.now (length a.out.now) at_if1.if1.false _ at_search.search.ensures c.if-s-ne0.false at_look.look.ensures c.if-own-ne0.true c.refused-then-own-ne0.ensures at_clear_bytes.clear-bytes.ensures
+    let a = c.args in
+    save_file-fault a.archive.now a.file.now (length a.out.now) c.if-archive-gt4294967295.false _ c.search-s.ensures c.if-s-ne0.false c.look-own.ensures c.if-own-ne0.true c.refused-then-own-ne0.ensures c.clear_bytes.ensures
 
 pub returns-then-own-eq0 : goal.returns-then-own-eq0
 returns-then-own-eq0 c =
-    let at_if3 = c in
-    let at_if2 = c in
-    let at_search = at_if2.before.before in
-    let at_look = at_search.before.before.before.before in
-    let at_if1 = at_look.before in
-    let at_clear_bytes = at_if1.before.before.before in
-    let at_args = at_clear_bytes.before.before.before.before.before in
-    let a = at_args.args in
-    save_missing a.archive.now a.file.now (length a.out.now) at_if1.if1.false _ at_search.search.ensures at_if2.if2.false at_look.look.ensures c.if-own-ne0.false c.if-own-eq0.true c.refused-then-own-eq0.ensures at_clear_bytes.clear-bytes.ensures
+    let a = c.args in
+    save_missing a.archive.now a.file.now (length a.out.now) c.if-archive-gt4294967295.false _ c.search-s.ensures c.if-s-ne0.false c.look-own.ensures c.if-own-ne0.false c.if-own-eq0.true c.refused-then-own-eq0.ensures c.clear_bytes.ensures
 
 pub shape_of-out-then-s-ne0-2 : goal.shape_of-out-then-s-ne0-2
 shape_of-out-then-s-ne0-2 c = c.clear_bytes.auto.bytes
 
 pub returns-then-s-ne0-2 : goal.returns-then-s-ne0-2
 returns-then-s-ne0-2 c =
-    let at_if4 = c in
-    let at_if3 = c in
-    let at_if2 = at_if3.before.before in
-    let at_search = at_if2.before.before in
-    let at_look = at_search.before.before.before.before in
-    let at_if1 = at_look.before in
-    let at_clear_bytes = at_if1.before.before.before in
-    let at_args = at_clear_bytes.before.before.before.before.before in
-    let a = at_args.args in
-    save_already a.archive.now a.file.now (length a.out.now) at_if1.if1.false _ at_search.search.ensures at_if2.if2.false at_look.look.ensures at_if3.if3.false c.if-own-eq0.false refl c.if-s-ne0-2.true c.refused-then-s-ne0-2.ensures at_clear_bytes.clear-bytes.ensures
+    let a = c.args in
+    save_already a.archive.now a.file.now (length a.out.now) c.if-archive-gt4294967295.false _ c.search-s.ensures c.if-s-ne0.false c.look-own.ensures c.if-own-ne0.false c.if-own-eq0.false refl c.if-s-ne0-2.true c.refused-then-s-ne0-2.ensures c.clear_bytes.ensures
 
 pub put_new-requires : goal.put_new-requires
 put_new-requires c = (c.if-archive-gt4294967295.false, c.clear_bytes.ensures ∙ ap zeros (sym c.clear_bytes.auto.bytes))
 
 pub shape_of-out : goal.shape_of-out
-shape_of-out c = c.put_new.auto.file.1.0 ∙ c.clear_bytes.auto.bytes
+shape_of-out c = c.put_new.auto.out ∙ c.clear_bytes.auto.bytes
 
 pub returns : goal.returns
 returns c =
-    let at_put_new = c in
-    let at_if5 = c in
-    let at_if4 = at_if5.before.before in
-    let at_if3 = at_if4.before.before in
-    let at_if2 = at_if3.before.before in
-    let at_search = at_if2.before.before in
-    let at_look = at_search.before.before.before.before in
-    let at_if1 = at_look.before in
-    let at_clear_bytes = at_if1.before.before.before in
-    let at_args = at_clear_bytes.before.before.before.before.before in
-    let a = at_args.args in
-    save_new a.archive.now a.file.now (length a.out.now) at_if1.if1.false _ at_search.search.ensures at_if2.if2.false at_look.look.ensures at_if3.if3.false at_if4.if4.false refl at_if5.if5.false (c.put_new.ensures ∙ ap (in_room (a.archive.now ++ record_of a.file.now)) at_clear_bytes.clear-bytes.auto.0)
+    let a = c.args in
+    save_new a.archive.now a.file.now (length a.out.now) c.if-archive-gt4294967295.false _ c.search-s.ensures c.if-s-ne0.false c.look-own.ensures c.if-own-ne0.false c.if-own-eq0.false refl c.if-s-ne0-2.false (c.put_new.ensures ∙ ap (in_room (a.archive.now ++ record_of a.file.now)) c.clear_bytes.auto.bytes)

@@ -2,7 +2,6 @@
 -- Assumes nothing.
 use mathlib.Core.Path.{refl}
 use native.Mathlib.Omega.{arith}
-use Prim.Native.Nat.{◌-◌}
 use Rattle.editions.proofs.Searching.{search_start, search_end, search_cut-length, search_cut, met-place, search_fault, search_more}
 use Rattle.editions.proofs.search.Goals as goal
 

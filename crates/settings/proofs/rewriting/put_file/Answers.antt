@@ -2,7 +2,6 @@
 -- Assumes nothing.
 use mathlib.Core.Path.{◌∙◌}
 use native.Mathlib.Omega.{arith}
-use Prim.Native.Nat.{◌-◌}
 use Rattle.settings.proofs.Loops.{kept_start, kept_whole, kept_more, kept_end, place-whole}
 use borrow.Author.Rules.{rules}
 use Rattle.settings.proofs.rewriting.put_file.Goals as goal
@@ -28,7 +27,7 @@ loop-at-preserved c = kept_more c.loop-at.invariant c.loop-at-test.true
     (λ i. omega (arith, c.type_inv.changes i))
     (c.noted-place.ensures.0
     ∙ c.requires.1 _
-    c.noted-place.ensures.1) c.size_at.ensures.0 c.put_changed-used.auto.at.1.1.1.1.1.0
+    c.noted-place.ensures.1) c.size_at.ensures.0 c.put_changed-used.auto.out
     c.put_changed-used.ensures
 
 pub returns : goal.returns

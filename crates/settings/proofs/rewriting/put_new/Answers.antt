@@ -2,7 +2,6 @@
 -- Assumes nothing.
 use mathlib.Core.Path.{◌∙◌}
 use native.Mathlib.Omega.{arith}
-use Prim.Native.Nat.{◌-◌}
 use Rattle.settings.proofs.Loops.{added_start, added-whole, added_more, added_end}
 use borrow.Author.Rules.{rules}
 use Rattle.settings.proofs.rewriting.put_new.Goals as goal
@@ -20,7 +19,7 @@ pub loop-at-preserved : goal.loop-at-preserved
 loop-at-preserved c = added_more c.loop-at.invariant c.loop-at-test.true
     (λ i. omega (arith, c.type_inv.changes i))
     (c.noted-place.ensures.0 ∙ c.requires.1 _
-    c.noted-place.ensures.1) c.size_at.ensures.0 c.put_added-used.auto.at.1.1.1.1.0
+    c.noted-place.ensures.1) c.size_at.ensures.0 c.put_added-used.auto.out
     c.put_added-used.ensures
 
 pub returns : goal.returns

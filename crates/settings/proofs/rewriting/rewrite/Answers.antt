@@ -36,12 +36,5 @@ put_all-requires c = (
 
 pub returns : goal.returns
 returns c =
-    let at_put_all = c in
-    let at_if2 = c in
-    let at_index_fields2 = at_if2.before.before in
-    let at_if1 = at_index_fields2.before.before in
-    let at_index-fields = at_if1.before.before in
-    let at_clear_bytes = at_index-fields.before.before.before.before in
-    let at_args = at_clear_bytes.before.before.before.before.before in
-    let a = at_args.args in
-    no_faults a.file.now a.changes.now (length a.out.now) at_index-fields.index-fields.ensures.0 at_if1.if1.false at_index_fields2.index-fields2.ensures.0 at_if2.if2.false (c.put_all.ensures ∙ ap (in_room (rewritten a.file.now a.changes.now)) at_clear_bytes.clear-bytes.auto.0)
+    let a = c.args in
+    no_faults a.file.now a.changes.now (length a.out.now) c.index_fields-a.ensures.0 c.if-a-ne0.false c.index_fields-b.ensures.0 c.if-b-ne0.false (c.put_all.ensures ∙ ap (in_room (rewritten a.file.now a.changes.now)) c.clear_bytes.auto.bytes)
