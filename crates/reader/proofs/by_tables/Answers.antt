@@ -1,5 +1,4 @@
 -- `by_tables` makes the tables as the definitions have them, and reads by them.
--- Assumes nothing.
 use mathlib.Core.Path.{refl}
 use Rattle.wtf8.specs.Leads.{lead_table}
 use Rattle.fields.specs.Headers.{header_table}
