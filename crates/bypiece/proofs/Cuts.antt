@@ -167,6 +167,7 @@ long-cut u h line a b l f g k = one (next_of (h ∷ u) 1 (omega arith) (omega ar
 -- ---- the held bytes
 module _ (s : List ℕ) (h : 40 ≤ length s) where
   held_behind_lem : (size : ℕ) → 0 < size → held_in s size ≡ get_or s 10 0 % 256 ∷ held_behind s size
+  held_behind_lem zero k = elim k [ ]
   held_behind_lem (suc n) k =
       let z : suc n - 1 ≡ n = omega arith in
       rw (drop-cons s 10 0 (omega arith), z)

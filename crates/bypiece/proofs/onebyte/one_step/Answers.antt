@@ -1,10 +1,6 @@
 -- `bypiece::onebyte::one_step` meets its contract: what the tests say and what is read make the step. Assumes nothing.
 use native.Mathlib.Omega.{arith}
-use borrow.Author.Tests.{not-false}
 use Rattle.bypiece.proofs.ByByte.{step_held, step_whole}
-use borrow.Author.Tests.{not-false}
-use borrow.Author.Tests.{not-false}
-use borrow.Author.Tests.{not-false}
 use Rattle.bypiece.proofs.onebyte.one_step.Goals as goal
 
 pub step_of-requires : goal.step_of-requires
