@@ -193,6 +193,9 @@ module _ (first count n : ℕ) (u : List ℕ) (x : Left) (g : Stands first count
         (ends-refused n s rs reading number_range p (get_or s 4 0) (reads_by out_of_range e) (ap (λ k. k.start) a.keeps) g.wide)
 
   final_on : (y : Ending) → r.ending ≡ y → Goes u (line_after first es) p y → Ends u (line_after first es) p m y → GoingAs first count n u es (drop p u) x → Reaches n reading (end s rs)
+  final_on placed_all e k d a = elim k [ ]
+  final_on stop_byte e k d a = elim k [ ]
+  final_on (past_count _) e k d a = elim k [ ]
   final_on table_end e k d a = final_nothing a d.0 e d.1
   final_on (cut_short y) e k d a = final_cut a d.0 y e d.1
   final_on out_of_range e k d a = final_out a d.0 e
@@ -251,6 +254,10 @@ module _ (first count n : ℕ) (u : List ℕ) (x : Left) (g : Stands first count
       a.fills refl (fits (shown_of count r ++ []) count (length-append (shown_of count r) [] ∙ omega arith) (omega arith)))
 
   final_over : (y : Ending) → r.ending ≡ y → Stopped y → Ends u (line_after first es) p m y → OverAs first count n u r x → Reaches n reading (end s rs)
+  final_over placed_all e k d a = elim k [ ]
+  final_over table_end e k d a = elim k [ ]
+  final_over (cut_short _) e k d a = elim k [ ]
+  final_over out_of_range e k d a = elim k [ ]
   final_over stop_byte e k d a = final_stop e a
   final_over (past_count y) e k d a = final_past y e d.3 a
 

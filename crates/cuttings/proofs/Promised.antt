@@ -140,11 +140,18 @@ module _ (first count n : ℕ) (u : List ℕ) (x : Left) where
 
   -- what goes on or has stopped shows no 18
   open_shows : (y : Ending) → Goes u line (place_after 0 r.entries) y → (is_out y && lost held line) ≡ false
+  open_shows placed_all k = elim k [ ]
+  open_shows stop_byte k = elim k [ ]
+  open_shows (past_count _) k = elim k [ ]
   open_shows table_end k = refl
   open_shows (cut_short e) k = refl
   open_shows out_of_range (unsure l) = l
 
   stop-shows : (y : Ending) → Stopped y → (is_out y && lost held line) ≡ false
+  stop-shows placed_all k = elim k [ ]
+  stop-shows table_end k = elim k [ ]
+  stop-shows (cut_short _) k = elim k [ ]
+  stop-shows out_of_range k = elim k [ ]
   stop-shows stop_byte k = refl
   stop-shows (past_count e) k = refl
 

@@ -12,7 +12,7 @@ use Rattle.grammar.specs.Input.{Bytes}
 use Rattle.clearing.specs.Lent.{zeros}
 use Rattle.lineentry.specs.declared.Span.{Span}
 use Rattle.linetable.specs.Answer.{numbers}
-use Rattle.rows.specs.Row.{Ending, placed_all, table_end, cut_short, out_of_range, Row, alone, row, Ends, Rowed, total, locations, line_after, place_after}
+use Rattle.rows.specs.Row.{Ending, placed_all, table_end, cut_short, out_of_range, Row, alone, row, Ends, Rowed, total, locations, line_after, place_after, past_count, stop_byte}
 use Rattle.rows.proofs.Chains.{rowed, chain-upto, row_ends}
 use Rattle.lostentry.specs.Lost.{lost}
 use Rattle.piecestate.specs.declared.Kept.{Kept}
@@ -47,6 +47,8 @@ module _ (held : List ℕ) (start bytes line placed_now count : ℕ) (s rs : Lis
 
   quiet_by : (y : Ending) → Quiet held line y → after held start bytes count line n s (sets rs (4 * placed_now) (numbers (shown_of n (alone y)))) (alone y) ≡ onward s rs line placed_now start bytes going held
   unfolding after shown_of
+  quiet_by stop_byte q = elim q [ ]
+  quiet_by (past_count _) q = elim q [ ]
   quiet_by placed_all (placed e) = goes_same [] (sym e)
   quiet_by table_end (none e) = goes_same [] (sym e)
   quiet_by (cut_short x) cut = goes_same held refl
@@ -109,6 +111,9 @@ module _ (first count n : ℕ) (u : List ℕ) (x : Left) (g : Stands first count
         ∙ ap (λ t. left t s rs) (sym a.answers)
 
   same_on : (y : Ending) → Goes u (line_after first r.entries) p y → Ends u (line_after first r.entries) p (count - total r.entries) y → GoingAs first count n u r.entries (drop p u) x → piece [] s rs ≡ x
+  same_on placed_all k d a = elim k [ ]
+  same_on stop_byte k d a = elim k [ ]
+  same_on (past_count _) k d a = elim k [ ]
   same_on table_end k d a =
       let e : drop p u ≡ [] = drop_of_length-le u {i = p} d.1 in
       going_same (drop p u) a (bytes_drop u p b) table_end (none e) (row_ends (drop p u) (line_after first r.entries) 0 (count - total r.entries) table_end (d.0, omega (arith, ap length e)))

@@ -77,6 +77,9 @@ held_covers t line p e h c =
 -- it is not complete and not lost
 pub goes_open : (t : List ℕ) (line p n : ℕ) (x : Ending) → p ≤ length t → Ends t line p n x → Goes t line p x → 0 < length (drop p t) → open_entry (drop p t) line ≡ true
 unfolding open_entry
+goes_open t line p n placed_all h d g k = elim g [ ]
+goes_open t line p n stop_byte h d g k = elim g [ ]
+goes_open t line p n (past_count _) h d g k = elim g [ ]
 goes_open t line p n table_end h d g k = absurd (omega (arith, length-drop p t, d.1))
 goes_open t line p n (cut_short e) h d g k =
     let u = held_covers t line p e h d.1 in

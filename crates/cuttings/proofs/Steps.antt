@@ -14,7 +14,7 @@ use Rattle.lineentry.specs.declared.Span.{Span}
 use Rattle.lineentry.specs.declared.Entry.TheVariants.{OutOfRange}
 use Rattle.lineentry.specs.Entry.{entry_at}
 use Rattle.linetable.specs.Answer.{numbers}
-use Rattle.rows.specs.Row.{Ending, placed_all, stop_byte, out_of_range, past_count, Row, row, Chain, Ends, Rowed, total, locations, line_after, place_after}
+use Rattle.rows.specs.Row.{Ending, placed_all, stop_byte, out_of_range, past_count, Row, row, Chain, Ends, Rowed, total, locations, line_after, place_after, cut_short, table_end}
 use Rattle.rows.proofs.Chains.{rowed, chain-upto, row_ends}
 use Rattle.lostentry.specs.Lost.{Lost, lost}
 use Rattle.lostentry.proofs.Losing.{lost-refuses}
@@ -38,6 +38,10 @@ use Rattle.cuttings.proofs.Sound.{bytes_drop, bytes-front, counted-sound}
 use Rattle.cuttings.proofs.Standing.{GoingAs, OverAs, GoneAs, Stopped, byte, past, Way, all, on, stopped, gone, Stands, walked-stands}
 
 stopped_settled : (u : List ℕ) (line p : ℕ) (x : Ending) → Stopped x → Settled u line p x
+stopped_settled u line p placed_all g = elim g [ ]
+stopped_settled u line p table_end g = elim g [ ]
+stopped_settled u line p (cut_short _) g = elim g [ ]
+stopped_settled u line p out_of_range g = elim g [ ]
 stopped_settled u line p stop_byte g = stop_settled
 stopped_settled u line p (past_count e) g = past_settled
 
