@@ -25,13 +25,11 @@ BYTES = {"s", "input", "out", "bytes", "data", "table"}
 WORDS = re.compile(r"--.*|[(){}\[\],;]|[^\s(){}\[\],;]+")
 SWAPS = {
     "<": "≤", "≤": "<", "&&": "||", "||": "&&", "+": "-", "-": "+", "*": "+", "/": "*", "%": "/", "true": "false", "false": "true",
-    "ltb": "leb", "leb": "ltb", "eqb": "leb", "min": "max", "max": "min",
+    "ltb": "leb", "leb": "ltb", "eqb": "leb", "min": "max", "max": "min", "nat_lt": "nat_le", "nat_le": "nat_lt",
 }
-# Where a word that a change brings in comes from.
-HOMES = {
-    "ltb": "lib.Dec", "leb": "lib.Dec", "true": "mathlib.Core.Bool", "false": "mathlib.Core.Bool", "&&": "mathlib.Core.Bool", "||": "mathlib.Core.Bool",
-    **{word: "Prim.Native.Nat" for word in ("<", "≤", "+", "-", "*", "/", "%", "min", "max")},
-}
+# Where the words that a change may bring in come from.
+PRELUDE = "Rattle.std.specs.Prelude"
+BROUGHT = {"ltb", "leb", "eqb", "true", "false", "min", "max", "nat_lt", "nat_le", "&&", "||", "<", "≤", "+", "-", "*", "/", "%"}
 # Pages whose names are all numbers, so that each may stand where another does.
 NUMBER_PAGES = ("Numbers", "Limits", "LetterNames")
 
@@ -250,8 +248,8 @@ def made(change):
     """The page's text as changed; a word that the page does not have in scope is brought in."""
     text = text_of(change.crate, change.page)
     new = text[:change.start] + change.new + text[change.end:]
-    home = HOMES.get(change.new) if change.page.startswith("specs/") else None
-    word = change.new if change.new.isalpha() else f"_{change.new}_"
+    home = PRELUDE if change.new in BROUGHT and change.page.startswith("specs/") else None
+    word = change.new if re.fullmatch(r"\w+", change.new) else f"◌{change.new}◌"
     if home and word not in imports(text).get(home, []):
         if home in imports(text):
             return new.replace(f"use {home}.{{", f"use {home}.{{{word}, ", 1)

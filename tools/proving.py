@@ -1,5 +1,6 @@
-"""What tools/edits and tools/mutate share: the crates as crates.txt lists them, and a bench, which is a place where a changed crate is
-checked over what `rt check` proved of it, so that only what the change touches is proved again."""
+"""What tools/mutate checks its changes on: the crates as crates.txt lists them, and a bench, which is a place where a changed crate is
+checked over what `rt lib` or `rt ci` proved of those below it, and over what `rt check` kept of the crate, so that only what the change
+touches is proved again."""
 import os
 import pathlib
 import resource
@@ -11,9 +12,14 @@ CRATES = ROOT / "crates"
 WORKERS = int(os.environ.get("RT_JOBS", 0)) or min(os.cpu_count() or 1, 4)
 
 
+def kit():
+    """The kit's folder, from the path of `rt` itself."""
+    return pathlib.Path(shutil.which("rt")).resolve().parent.parent
+
+
 def weight(name):
     """About how long a crate takes: its text."""
-    return sum(page.stat().st_size for page in (CRATES / name).rglob("*") if page.is_file())
+    return sum(page.stat().st_size for page in (CRATES / name).rglob("*") if page.is_file() and "out" not in page.relative_to(CRATES / name).parts)
 
 
 def dependencies():
@@ -33,96 +39,71 @@ def stands_on(name, listed):
     return found
 
 
-def stamp(name):
-    return ROOT / "target" / "stamp" / name
+def library(name):
+    return CRATES / name / "out" / "rlib" / f"{name}.rlib"
 
 
 def is_proved(name):
-    return stamp(name).is_file() and stamp(name).stat().st_size > 0
-
-
-def library(name):
-    return ROOT / "target" / "rlib" / f"{name}.rlib"
-
-
-def build(name):
-    """The folder that the prover keeps a library's checked modules in, over an incremental folder: its build's name."""
-    for line in (library(name) / "format").read_text().splitlines():
-        if line.startswith("rattle-build "):
-            return line.split()[1].replace("/", "_")
-    return None
+    """Whether `rt lib`, a check of a crate above it, or `rt ci` left its library; which text that was of is not asked."""
+    return (library(name) / "format").is_file()
 
 
 class Bench:
-    """A copy of the repository's proved state in which crates are changed. All crates share one incremental folder."""
+    """A place in which crates are changed and checked. All crates share one incremental folder."""
 
     def __init__(self, place, seconds=None):
-        self.place, self.seconds, self.laid = place, seconds, {}
-        self.pool = place / "target" / "pool"
+        self.place, self.seconds, self.laid = place, seconds, set()
+        self.pool = place / "pool"
         (place / "crates").mkdir(parents=True)
-        shutil.copy(ROOT / "crates.txt", place)
-        for crate in CRATES.iterdir():
-            (place / "crates" / crate.name).symlink_to(crate)
-        for part in ("stamp", "log", "inc", "pool"):
-            (place / "target" / part).mkdir(parents=True)
-        (place / "target" / "rlib").symlink_to(ROOT / "target" / "rlib")
-
-    def bring(self, names):
-        """These crates count as proved here too. Each was whole before the next that stands on it was begun."""
-        for name in names:
-            shutil.copy(stamp(name), self.place / "target" / "stamp" / name)
+        self.pool.mkdir()
 
     def renew(self, name):
         """The crate as it stands, in a folder of its own."""
         own = self.place / "crates" / name
-        self.unlink(own)
-        shutil.copytree(CRATES / name, own)
+        shutil.rmtree(own, ignore_errors=True)
+        shutil.copytree(CRATES / name, own, ignore=shutil.ignore_patterns("out"))
         return own
 
-    def unlink(self, own):
-        if own.is_symlink():
-            own.unlink()
-        elif own.exists():
-            shutil.rmtree(own)
-
     def lay_out(self, name):
-        """What was proved of the crate, where an incremental check looks for it. A program keeps nothing, and is proved again."""
-        inc, proved = self.place / "target" / "inc" / name, library(name) / "toolchain" / "checked"
-        if not inc.exists():
-            inc.symlink_to(self.pool)
-        if proved.is_dir() and name not in self.laid:
-            self.laid[name] = proved
-            self.put(name, self.pool / build(name))
+        """What a check kept of the crate, where an incremental check looks for it, and its text where there is none yet."""
+        if not (self.place / "crates" / name).exists():
+            self.renew(name)
+        self.laid.add(name)
+        self.put(name)
 
-    def put(self, name, folder):
-        """The crate's checked modules, where they are not there as they were laid out."""
-        folder.mkdir(exist_ok=True)
-        for module in self.laid[name].iterdir():
-            there, seen = folder / module.name, module.stat()
-            if not there.exists() or (there.stat().st_size, there.stat().st_mtime_ns) != (seen.st_size, seen.st_mtime_ns):
-                shutil.copy2(module, there)
+    def put(self, name):
+        """The crate's kept modules, by links: a check replaces such a file, and changes none."""
+        kept = CRATES / name / "out" / "incremental"
+        for module in kept.rglob("*"):
+            there = self.pool / module.relative_to(kept)
+            if module.is_dir():
+                there.mkdir(parents=True, exist_ok=True)
+            elif not there.exists() or not there.samefile(module):
+                there.unlink(missing_ok=True)
+                os.link(module, there)
 
     def restore(self):
         """All that was laid out, as it was before any change."""
         for name in self.laid:
-            self.put(name, self.pool / build(name))
+            self.put(name)
 
-    def prove(self, name, needs=None, words=()):
-        """The exit status of `rt dev`, and what it said. A check that takes longer than the bench's seconds of the processor is ended.
-        Where `needs` lists the libraries that the crate is checked over, rt does not ask again whether each is proved as it stands."""
-        shutil.copy(ROOT / "crates.txt", self.place)
-        if needs is not None:
-            ours = [need for need in needs if (CRATES / need).is_dir()]
-            (self.place / "crates.txt").write_text(f"{name}: {' '.join(need for need in needs if need not in ours)}\n")
-            words = [word for need in ours for word in ("--extern", f"{need}=target/rlib/{need}.rlib")] + list(words)
+    def prove(self, name, needs, words=()):
+        """The exit status of a check over the libraries that it needs, and what it said. A check that takes longer than the bench's seconds of
+        the processor is ended."""
+        home, listed = kit(), dependencies()
+        command = [home / "bin/rattle", "check", "--crate-name", name, "src/lib.rt", "--extern", f"std={home}/rlibs/std.rlib", "-L", f"dependency={home}/rlibs"]
+        command += [word for need in needs for word in ("--extern", f"{need}={library(need)}")]
+        below = {one for need in needs for one in stands_on(need, listed)}
+        command += [word for one in sorted(below) for word in ("-L", f"dependency={library(one).parent}")]
+        command += ["--antt-project", home / "rattle/logic/antt-project.json", "--logic-built", home / "logic_built", "--jobs", "1", "--incremental", self.pool, *words]
         limit = self.seconds and (lambda: resource.setrlimit(resource.RLIMIT_CPU, (self.seconds, self.seconds)))
-        ran = subprocess.run(["rt", "dev", name, *words], cwd=self.place, capture_output=True, text=True, preexec_fn=limit)
+        ran = subprocess.run(command, cwd=self.place / "crates" / name, capture_output=True, text=True, preexec_fn=limit)
         return ran.returncode, ran.stdout + ran.stderr
 
     def forget(self, name):
-        """The crate is the repository's own again, and nothing stays of what was proved."""
-        self.unlink(self.place / "crates" / name)
-        (self.place / "crates" / name).symlink_to(CRATES / name)
+        """Nothing stays of the crate, or of what was proved."""
+        shutil.rmtree(self.place / "crates")
         shutil.rmtree(self.pool)
+        (self.place / "crates").mkdir()
         self.pool.mkdir()
-        self.laid = {}
+        self.laid = set()

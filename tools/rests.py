@@ -1,5 +1,5 @@
 """What rests on what in a crate, read from the names in its text, and so whose fault it is what the prover says where several things were
-changed at once. tools/edits and tools/mutate go by it.
+changed at once. tools/mutate goes by it.
 
 A part is a declaration of a page of specs/ or proofs/ (a `mutual` block is one), a constant, or of a function its contract, its body and
 its proof. A part rests on the parts that it names, and on what these rest on: the prover searches no instances, so that nothing reaches a
@@ -18,7 +18,7 @@ Refusal = collections.namedtuple("Refusal", "kind place words")
 
 WORD = re.compile(r"--.*|[(){}\[\],;⌜⌝⟦⟧]|[^\s(){}\[\],;⌜⌝⟦⟧]+")
 USE = re.compile(r"(?m)^(?:pub )?(?:ghost )?use ([^\s{;]+?)(?:\.\{(.*)\})?(?: as (\S+?))?;?$")
-ERROR = re.compile(r"(?m)^(\S*?\.(?:antt|rt)):(\d+):\d+: error: (.*)$")
+ERROR = re.compile(r"(?m)^(\S*?\.(?:antt|rt)):(\d+):\d+: error(?:\[[\w-]+\])?: (.*)$")
 NOTE = re.compile(r"(?m)^note: (\S+?):(\d+):\d+: (it is not proved that.*)$")
 FUNCTION = re.compile(r"(?m)^fn (\S+): (.*)$")
 LATER = "was not admitted"
@@ -197,7 +197,7 @@ class Crate:
     def own_path(self, home):
         """A page's path in this crate, beginning with specs or proofs; None of another's."""
         for part in ("specs", "proofs"):
-            lead = f"Rattle·{self.name}·{part}.{part}"
+            lead = f"Rattle.{self.name}.{part}"
             if home == lead or home.startswith(lead + "."):
                 return [part] + home[len(lead) + 1:].split(".") if home != lead else [part]
         return None
@@ -282,9 +282,9 @@ class Crate:
         return self.known[part]
 
     def at_line(self, path, line):
-        """The part that a line of a page belongs to, or None; the page by the end of its path."""
+        """The part that a line of a page belongs to, or None; the page by its path in the crate, or the end of a longer one."""
         for page, blocks in self.lines.items():
-            if path.endswith(f"/{self.name}/{page}"):
+            if path.removeprefix("./") == page or path.endswith(f"/{self.name}/{page}"):
                 return next((part for first, last, part in blocks if first <= int(line) <= last), None)
         return None
 
@@ -368,4 +368,4 @@ def is_proof(part):
 def spelled(name):
     """The words that a name is used by: of an operator its marks."""
     bare = name.strip("«»")
-    return [bare] if name.startswith("«") or "_" not in name else [bare, *(word for word in name.split("_") if word)]
+    return [bare, *(word for word in name.split("◌") if word)] if "◌" in name else [bare]
