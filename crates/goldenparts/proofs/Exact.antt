@@ -13,7 +13,7 @@ use borrow.Author.Tests.{lt-ltb, le-ltb, eq-eqb, ne_eqb, ltb-true, ltb-false, eq
 use Rattle.refusals.specs.Numbers.{no_such_field}
 use Rattle.taggedfields.specs.Fields.{Field, reading}
 use Rattle.taggedfields.specs.Looking.{size_in, field_at}
-use Rattle.taggedfields.proofs.Parts.{field_in}
+use Rattle.taggedfields.proofs.Parts.{field_at-in}
 use Rattle.taggedfields.proofs.Unread.{Unread, rest, unread_start, unread_end, unread_next}
 use Rattle.grammar.specs.Reading.{Answer, gives, stops}
 use Rattle.goldenparts.specs.declared.Spans.{Spans}
@@ -126,7 +126,7 @@ module _ (file : List ℕ) (clean : (reading file).fault ≡ none) where
           refuses (field_at file 0 ∷ rest n.behind) (sym start.1 ∙ n.splits) (no_edition (field_at file 0) (rest n.behind) (rw (ne_eqb (get_or file 0 0) 1 t) refl))
       go (here h t z) =
           let n = unread_next start.0 h in
-          let l = (field_in file 0 n.whole).size in
+          let l = (field_at-in file 0 n.whole).size in
           let no : only_one (field_at file 0).contents ≡ false = not-one (field_at file 0).contents (λ q. k (omega (arith, z, l, q))) in
           refuses (field_at file 0 ∷ rest n.behind) (sym start.1 ∙ n.splits)
           (no_edition (field_at file 0) (rest n.behind) (rw (no, and-false (eqb (get_or file 0 0) 1)) refl))
@@ -211,8 +211,8 @@ module _ (file : List ℕ) (clean : (reading file).fault ≡ none) where
           go (here h t z) =
               let n = unread_next g.behind h in
               let last : rest n.behind ≡ [] = unread_end n.behind (omega (arith, z, q)) in
-              let c = (field_in file 4 (omega (arith, g.size, g.whole))).size in
-              let r = (field_in file result n.whole).size in
+              let c = (field_at-in file 4 (omega (arith, g.size, g.whole))).size in
+              let r = (field_at-in file result n.whole).size in
               let cs : result - 7 ≡ length (field_at file 4).contents = omega (arith, c, g.size) in
               let rs : end - result - 3 ≡ length (field_at file result).contents = omega (arith, r, z) in
               let is : golden_fields (field_at file 0 ∷ field_at file 4 ∷ field_at file result ∷ []) ≡ some (record { code = part_of (field_at file 4); result = part_of (field_at file result) }) =

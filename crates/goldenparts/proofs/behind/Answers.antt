@@ -1,36 +1,25 @@
 -- `goldenparts::behind` meets its contract, by the laws of this crate that it names.
--- Assumes nothing.
 use native.Mathlib.Omega.{arith}
 use Rattle.goldenparts.proofs.Exact.{behind_none, behind-other, behind-here}
 use Rattle.goldenparts.proofs.behind.Goals as goal
 
 pub returns-then-file-at : goal.returns-then-file-at
 returns-then-file-at c =
-    let at_start = c in
     (behind_none c.args.file.now c.args.at c.args.tag c.if-file-at.true, omega arith, omega arith)
 
 pub returns-then-file-at-2 : goal.returns-then-file-at-2
 returns-then-file-at-2 c =
-    let at_if1 = c in
-    let at_start = c in
-    (behind-other at_start.args.file.now at_start.args.at at_start.args.tag c.if-file-at.false c.if-file-at-2.true, omega arith, omega arith)
+    (behind-other c.args.file.now c.args.at c.args.tag c.if-file-at.false c.if-file-at-2.true, omega arith, omega arith)
 
 pub size_at-requires : goal.size_at-requires
 size_at-requires c =
-    let at_if1 = c in
-    let at_start = c in
-    let w = at_start.requires c.if-file-at.false in omega (arith, w)
+    let w = c.requires c.if-file-at.false in omega (arith, w)
 
 pub overflow_add-result-2 : goal.overflow_add-result-2
 overflow_add-result-2 c =
-    let at_if1 = c in
-    let at_start = c in
-    let w = at_start.requires c.if-file-at.false in record { fits = omega (arith, w, c.size_at.ensures) }
+    let w = c.requires c.if-file-at.false in record { fits = omega (arith, w, c.size_at.ensures) }
 
 pub returns : goal.returns
 returns c =
-    let at_if2 = c in
-    let at_if1 = c in
-    let at_start = at_if1.before.before in
-    let file = at_start.args.file.now in
-    let w = at_start.requires at_if1.if1.false in (behind-here file at_start.args.at at_start.args.tag at_if1.if1.false c.if-file-at-2.false c.size_at.ensures.0, omega (arith, c.size_at.ensures), omega (arith, w, c.size_at.ensures))
+    let file = c.args.file.now in
+    let w = c.requires c.if-file-at.false in (behind-here file c.args.at c.args.tag c.if-file-at.false c.if-file-at-2.false c.size_at.ensures.0, omega (arith, c.size_at.ensures), omega (arith, w, c.size_at.ensures))

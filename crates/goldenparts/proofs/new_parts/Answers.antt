@@ -1,5 +1,4 @@
 -- `goldenparts::new_parts` meets its contract, by the laws of this crate that it names.
--- Assumes nothing.
 use mathlib.Core.Path.{ap, subst, ◌∙◌}
 use lib.ListN.{length}
 use Rattle.clearing.specs.Lent.{zeros}
@@ -12,35 +11,19 @@ use Rattle.goldenparts.proofs.new_parts.Goals as goal
 
 pub read_both-requires : goal.read_both-requires
 read_both-requires c =
-    let at_f2 = c in
-    let at_golden_fields = c in
-    let at_start = at_golden_fields.before.before.before.before.before.before.before.before.before.before.before.before.before.before.before.before.before in
-    subst (StandingIn (length at_start.args.file.now)) (ap taken_of c.in-Apart.is) at_golden_fields.golden-fields.ensures.1
+    subst (StandingIn (length c.args.file.now)) (ap taken_of c.in-Apart.is) c.golden_fields-f.ensures.1
 
 pub returns-in-Refused : goal.returns-in-Refused
 returns-in-Refused c =
-    let at_f = c in
-    let at_golden_fields = c in
-    let at_clear_words3 = at_golden_fields.before.before.before in
-    let at_clear_words2 = at_clear_words3.before.before.before.before in
-    let at_clear_words = at_clear_words2.before.before.before.before in
-    let at_start = at_clear_words.before.before.before.before.before.before in
-    (new_refused (lent _ _ _ _) at_start.args.file.now at_golden_fields.golden-fields.ensures.0 c.in-Refused.is, tt, at_clear_words.clear-words.ensures, at_clear_words2.clear-words2.ensures, at_clear_words3.clear-words3.ensures)
+    (new_refused (lent _ _ _ _) c.args.file.now c.golden_fields-f.ensures.0 c.in-Refused.is, tt, c.clear_words.ensures, c.clear_words-2.ensures, c.clear_words-3.ensures)
 
 pub returns-in-Apart : goal.returns-in-Apart
-returns-in-Apart c =
-    let at_read-both = c in
-    let at_f2 = at_read-both.before.before.before.before.before in
-    let at_golden_fields = at_f2.before.before in
-    let at_clear_words3 = at_golden_fields.before.before.before in
-    let at_clear_words2 = at_clear_words3.before.before.before.before in
-    let at_clear_words = at_clear_words2.before.before.before.before in
-    let at_start = at_clear_words.before.before.before.before.before.before in (
-      new_value (lent _ _ _ _) at_start.args.file.now at_golden_fields.golden-fields.ensures.0 at_f2.f2.given.1
-          (lent_same at_start.args.nesting at_clear_words.clear-words.auto.0 at_clear_words2.clear-words2.auto.0 at_clear_words3.clear-words3.auto.0) at_read-both.read-both.ensures.0,
-      both_standing (lent _ _ _ _) at_start.args.file.now _
-          (subst (StandingIn (length at_start.args.file.now)) (ap taken_of at_f2.f2.given.1) at_golden_fields.golden-fields.ensures.1) at_read-both.read-both.ensures.0,
-      at_read-both.read-both.ensures.1 ∙ ap zeros at_clear_words.clear-words.auto.0,
-      at_read-both.read-both.ensures.2 ∙ ap zeros at_clear_words2.clear-words2.auto.0,
-      at_read-both.read-both.ensures.3 ∙ ap zeros at_clear_words3.clear-words3.auto.0,
+returns-in-Apart c = (
+      new_value (lent _ _ _ _) c.args.file.now c.golden_fields-f.ensures.0 c.in-Apart.is
+          (lent_same c.args.nesting c.clear_words.auto.words c.clear_words-2.auto.words c.clear_words-3.auto.words) c.read_both.ensures.0,
+      both_standing (lent _ _ _ _) c.args.file.now _
+          (subst (StandingIn (length c.args.file.now)) (ap taken_of c.in-Apart.is) c.golden_fields-f.ensures.1) c.read_both.ensures.0,
+      c.read_both.ensures.1 ∙ ap zeros c.clear_words.auto.words,
+      c.read_both.ensures.2 ∙ ap zeros c.clear_words-2.auto.words,
+      c.read_both.ensures.3 ∙ ap zeros c.clear_words-3.auto.words,
     )

@@ -1,5 +1,4 @@
 -- `goldens::put_edition` meets its contract, by what it calls.
--- Assumes nothing.
 use lib.ListN.{length-set}
 use native.Mathlib.Omega.{arith}
 use Rattle.goldens.proofs.put_edition.Goals as goal

@@ -1,5 +1,4 @@
 -- `goldens::put_header` meets its contract, by what it calls.
--- Assumes nothing.
 use mathlib.Core.Path.{refl}
 use lib.ListN.{length-set}
 use native.Mathlib.Numerals.{add-one, add-two}

@@ -1,5 +1,4 @@
 -- `goldens::write_plain` meets its contract, by the laws of this crate that it names.
--- Assumes nothing.
 use mathlib.Core.Path.{ap, ◌∙◌}
 use lib.ListN.{length}
 use lib.Seq.{sets}
@@ -10,25 +9,18 @@ use Rattle.goldens.proofs.write_plain.Goals as goal
 
 pub returns-then-room-total : goal.returns-then-room-total
 returns-then-room-total c =
-    let at_if1 = c in
-    let at_room_of = c in
-    let at_start = at_room_of.before.before.before in
-    let file = at_start.args.file.now in
-    let out = at_start.args.out.now in
-    let parts = at_start.args.parts in
+    let file = c.args.file.now in
+    let out = c.args.out.now in
+    let parts = c.args.parts in
     let golden = old_form (golden_in file parts) in
-    let size = plain-length file parts at_start.requires.0 0 in
-    no_room golden (length out) at_room_of.room_of.ensures.0 size c.if-room-total.true c.refused.ensures at_start.requires.1
+    let size = plain-length file parts c.requires.0 0 in
+    no_room golden (length out) c.room_of-room.ensures.0 size c.if-room-total.true c.refused.ensures c.requires.1
 
 pub returns : goal.returns
 returns c =
-    let at_put-plain = c in
-    let at_if1 = at_put-plain.before.before in
-    let at_room_of = at_if1.before.before.before in
-    let at_start = at_room_of.before.before.before in
-    let file = at_start.args.file.now in
-    let out = at_start.args.out.now in
-    let parts = at_start.args.parts in
+    let file = c.args.file.now in
+    let out = c.args.out.now in
+    let parts = c.args.parts in
     let golden = old_form (golden_in file parts) in
-    let size = plain-length file parts at_start.requires.0 0 in
-    in_room_lem golden (length out) at_room_of.room_of.ensures.0 size at_room_of.room_of.ensures.1 at_if1.if1.false (at_put-plain.put-plain.ensures ∙ ap (λ o. sets o 0 golden) at_start.requires.1)
+    let size = plain-length file parts c.requires.0 0 in
+    in_room_lem golden (length out) c.room_of-room.ensures.0 size c.room_of-room.ensures.1 c.if-room-total.false (c.put_plain.ensures ∙ ap (λ o. sets o 0 golden) c.requires.1)
