@@ -1,5 +1,5 @@
 -- A piece of one byte: where an entry of the held bytes and of it ends behind the held ones, or lacks bytes, these are ones that a call leaves, and
--- the entry says what the call comes to. Assumes nothing.
+-- the entry says what the call comes to.
 use mathlib.Core.Path.{◌≡◌, refl, sym, ap, subst, ◌∙◌}
 use mathlib.Core.Bool.{Bool, true, false, cond, not}
 use mathlib.Core.List.{List, [], ◌∷◌, ◌++◌, append-nil}

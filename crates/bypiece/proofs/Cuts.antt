@@ -1,5 +1,5 @@
 -- Code 14 while it lacks bytes: at most five bytes behind the first, of which fewer than four end a number, and a line so far from both ends of
--- its range that no step of so few bytes leaves it. Assumes nothing.
+-- its range that no step of so few bytes leaves it.
 use mathlib.Core.Path.{◌≡◌, refl, sym, ap, subst, ◌∙◌}
 use mathlib.Core.Bool.{Bool, true, false, cond, ◌&&◌}
 use mathlib.Core.List.{List, [], ◌∷◌, ◌++◌, map}

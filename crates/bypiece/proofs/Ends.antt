@@ -1,4 +1,4 @@
--- The end's steps: what its tests decide, and what the records hold after one or two fills. Assumes nothing.
+-- The end's steps: what its tests decide, and what the records hold after one or two fills.
 use mathlib.Core.Path.{◌≡◌, refl, sym, ap, subst, ◌∙◌}
 use mathlib.Core.Bool.{Bool, true, false, cond}
 use mathlib.Core.List.{List, [], ◌∷◌, ◌++◌}

@@ -1,4 +1,4 @@
--- What each call comes to by what was looked at first, and the start by its tests. Assumes nothing.
+-- What each call comes to by what was looked at first, and the start by its tests.
 use lib.IntN.{ℤ}
 use mathlib.Core.Path.{◌≡◌, refl, sym, ap, subst, ◌∙◌}
 use mathlib.Core.Bool.{false}

@@ -1,4 +1,4 @@
--- The entries of codes 0 to 12 and 15 by their bytes, one byte after the other; of codes 13 and 14 the first. Assumes nothing.
+-- The entries of codes 0 to 12 and 15 by their bytes, one byte after the other; of codes 13 and 14 the first.
 use mathlib.Core.Path.{◌≡◌, refl, ap, ◌∙◌}
 use mathlib.Core.Bool.{Bool, true, false}
 use mathlib.Core.List.{[], ◌∷◌}

@@ -1,5 +1,4 @@
 -- How each call by piece ends, whatever it is lent: an answer, or a number of the table with the records all zero. By cases of the definitions.
--- Assumes nothing.
 use mathlib.Core.Path.{◌≡◌, refl, sym, ap, subst, ◌∙◌}
 use mathlib.Core.Bool.{Bool, true, false, cond, ◌||◌}
 use mathlib.Core.List.{List, [], ◌∷◌, ◌++◌}

@@ -1,5 +1,4 @@
--- The end of a reading that stands after u gives what 01's walk over u gives: the answer, and the records. By how the row of u ends. Assumes
--- nothing.
+-- The end of a reading that stands after u gives what 01's walk over u gives: the answer, and the records. By how the row of u ends.
 use mathlib.Core.Path.{◌≡◌, refl, sym, ap, subst, ◌∙◌}
 use mathlib.Core.Bool.{Bool, true, false, cond}
 use mathlib.Core.List.{List, [], ◌∷◌, ◌++◌, append-nil, append_assoc}

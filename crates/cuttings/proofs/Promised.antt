@@ -1,5 +1,5 @@
 -- THEOREM of 02's K6: a table that comes by piece is read as the joined table is, whatever the cutting; an 18 comes in the first call after which
--- every table that goes on is refused; and the states that calls leave are those that calls take. By induction over the pieces. Assumes nothing.
+-- every table that goes on is refused; and the states that calls leave are those that calls take. By induction over the pieces.
 use mathlib.Core.Path.{◌≡◌, refl, sym, ap, subst, ◌∙◌}
 use mathlib.Core.Bool.{Bool, true, false, ◌&&◌}
 use mathlib.Core.List.{List, [], ◌∷◌, ◌++◌, append_assoc, append-nil}

@@ -1,5 +1,5 @@
 -- THEOREM of 02's K6: what the calls make of any state: one that keeps a refusal repeats it, one that has ended is of no use, numbers that are no
--- state are 21, and a call on a state leaves a state. Assumes nothing.
+-- state are 21, and a call on a state leaves a state.
 use mathlib.Core.Path.{◌≡◌, refl, sym, ap, subst, ◌∙◌}
 use mathlib.Core.Bool.{Bool, true, false}
 use mathlib.Core.List.{List, [], ◌∷◌, ◌++◌}

@@ -1,4 +1,4 @@
--- "a piece without bytes before the final call changes nothing": the answer, the state and the records stay. Assumes nothing.
+-- "a piece without bytes before the final call changes nothing": the answer, the state and the records stay.
 use mathlib.Core.Path.{◌≡◌, refl, sym, ap, subst, ◌∙◌}
 use mathlib.Core.Bool.{Bool, true, false, cond}
 use mathlib.Core.List.{List, [], ◌∷◌, ◌++◌, append-nil}

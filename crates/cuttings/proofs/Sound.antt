@@ -1,5 +1,5 @@
 -- THEOREM of 02's K6: every state that a call leaves is one that the next call takes: what it holds begins an entry that is neither complete nor
--- lost. By cases of how a row ends. Assumes nothing.
+-- lost. By cases of how a row ends.
 use mathlib.Core.Path.{◌≡◌, refl, sym, ap, subst, ◌∙◌}
 use mathlib.Core.Bool.{Bool, true, false, cond, not}
 use mathlib.Core.List.{List, [], ◌∷◌, ◌++◌, map, append-nil}

@@ -1,4 +1,4 @@
--- The ten numbers at the front of a state, spelled out, and what a call that stores some of them leaves. Assumes nothing.
+-- The ten numbers at the front of a state, spelled out, and what a call that stores some of them leaves.
 use mathlib.Core.Path.{◌≡◌, refl, sym, ap, ◌∙◌}
 use mathlib.Core.List.{List, [], ◌∷◌, ◌++◌, map}
 use Prim.Native.Nat.{ℕ, zero, suc, ◌+◌, ◌-◌, ◌%◌, ◌≤◌, ◌<◌}

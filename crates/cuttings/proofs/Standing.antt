@@ -1,5 +1,5 @@
 -- Where a reading by piece stands after bytes u: what the state keeps and what the records hold are functions of the row of u, however u was cut.
--- A piece leads from u to u ++ v, since the row of a table that goes on begins with the complete entries of its first bytes. Assumes nothing.
+-- A piece leads from u to u ++ v, since the row of a table that goes on begins with the complete entries of its first bytes.
 use mathlib.Core.Path.{◌≡◌, refl, sym, ap, subst, ◌∙◌}
 use mathlib.Core.Bool.{Bool, true, false, cond}
 use mathlib.Core.List.{List, [], ◌∷◌, ◌++◌, map, append-nil}

@@ -1,4 +1,4 @@
--- A piece leads from where a reading stands after u to where it stands after u ++ v. Assumes nothing.
+-- A piece leads from where a reading stands after u to where it stands after u ++ v.
 use mathlib.Core.Path.{◌≡◌, refl, sym, ap, subst, ◌∙◌}
 use mathlib.Core.Bool.{Bool, true, false, cond}
 use mathlib.Core.List.{List, [], ◌∷◌, ◌++◌, map, append_assoc}

@@ -1,4 +1,4 @@
--- What `quick` reads by its bytes is the entry there: its bytes are all in the table, and a number of one byte ends with it. Assumes nothing.
+-- What `quick` reads by its bytes is the entry there: its bytes are all in the table, and a number of one byte ends with it.
 use mathlib.Core.Path.{◌≡◌, refl, ◌∙◌}
 use mathlib.Core.Bool.{Bool, true, false, cond, ◌&&◌}
 use mathlib.Core.List.{List}

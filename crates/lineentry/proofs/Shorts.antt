@@ -1,4 +1,4 @@
--- What `short` reads by its bytes is the entry there: a number of one byte or two ends with the byte that has no 0x40. Assumes nothing.
+-- What `short` reads by its bytes is the entry there: a number of one byte or two ends with the byte that has no 0x40.
 use mathlib.Core.Path.{◌≡◌, refl, sym, ap, ◌∙◌}
 use mathlib.Core.Bool.{Bool, true, false, cond, ◌&&◌, ◌||◌}
 use mathlib.Core.List.{List}

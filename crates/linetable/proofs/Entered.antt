@@ -1,5 +1,5 @@
 -- THEOREM: the locations of an answer are those that the table's entries give, as many as it counts from entries, and behind them the first
--- line's. An induction over the walk's turns, clause by clause. Assumes nothing.
+-- line's. An induction over the walk's turns, clause by clause.
 use mathlib.Core.Path.{◌≡◌, refl, sym, ap, ◌∙◌, subst}
 use mathlib.Core.Bool.{Bool, true, false, cond}
 use mathlib.Core.List.{List, [], ◌++◌, append_assoc, append-nil}

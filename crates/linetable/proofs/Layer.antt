@@ -1,5 +1,4 @@
 -- The layer of locations over the core: reading the core's store back gives what the definitions say the slice of locations holds.
--- Assumes nothing.
 use mathlib.Core.Path.{◌≡◌, ◌∙◌}
 use mathlib.Core.List.{List, []}
 use Prim.Native.Nat.{ℕ, ◌-◌, ◌/◌, min}

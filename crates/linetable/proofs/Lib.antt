@@ -6,7 +6,6 @@ pub mod Readback
 pub mod Placed
 pub mod Whole
 pub mod Layer
-pub mod Relent
 pub mod Sheet
 pub mod Entered
 pub mod SixthByte

@@ -1,5 +1,4 @@
 -- The answer of a whole table, case by case in 01's order: 14, 17, then the walk.
--- Assumes nothing.
 use mathlib.Core.Path.{◌≡◌}
 use mathlib.Core.List.{List}
 use Prim.Native.Nat.{ℕ, ◌≤◌, ◌<◌}

@@ -1,5 +1,5 @@
 -- THEOREM: every instruction not counted from entries shows the first line and column 1; and there is one location an instruction.
--- The walk leaves as many locations as there are instructions, and past those from entries each is the first line's. Assumes nothing.
+-- The walk leaves as many locations as there are instructions, and past those from entries each is the first line's.
 use mathlib.Core.Path.{◌≡◌, refl, sym, ◌∙◌, ap, subst}
 use mathlib.Core.Bool.{Bool, true, false, cond}
 use mathlib.Core.List.{List, []}

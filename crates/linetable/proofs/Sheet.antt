@@ -1,5 +1,5 @@
 -- 01, 'Sheets for the proof and the rig': "Table `E9 02`, first line 10, three instructions: line 11 twice, then 10; all columns 1;
--- two from entries, not whole." By computation, with room for a fourth record, which stays zero. Assumes nothing.
+-- two from entries, not whole." By computation, with room for a fourth record, which stays zero.
 use mathlib.Core.Path.{◌≡◌, refl}
 use mathlib.Core.Bool.{false}
 use mathlib.Core.List.{[], ◌∷◌}

@@ -1,5 +1,5 @@
 -- 02, K2: "in a line table a varint's value must be under 2^32. .. 18 at the entry, met before a seventh byte." Seven tables of one entry with a
--- line step of six or seven bytes, from line 10, by computation; the third's step is 2^32 - 1, half of it backwards. Assumes nothing.
+-- line step of six or seven bytes, from line 10, by computation; the third's step is 2^32 - 1, half of it backwards.
 use mathlib.Core.Path.{◌≡◌, refl}
 use mathlib.Core.Bool.{true, false}
 use mathlib.Core.List.{List, [], ◌∷◌}

@@ -1,5 +1,5 @@
 -- The loop of `walk_entries`: what comes of the whole table is what comes of the rest, after what is already placed.
--- One law for each way on from a turn. Assumes nothing.
+-- One law for each way on from a turn.
 use mathlib.Core.Path.{◌≡◌, refl, sym, ◌∙◌, ap, subst}
 use mathlib.Core.Bool.{Bool, true, false, not, ◌&&◌, ◌||◌}
 use mathlib.Core.List.{List, [], ◌++◌, append_assoc}

@@ -1,5 +1,5 @@
 -- THEOREM: the answer says whole exactly when the table is a row of complete entries whose lengths sum to the instruction count;
--- so a table that is whole for n instructions is whole for no other count. Assumes nothing.
+-- so a table that is whole for n instructions is whole for no other count.
 use mathlib.Core.Path.{◌≡◌, refl, sym, ap, subst}
 use mathlib.Core.Bool.{Bool, true, false, not, cond}
 use mathlib.Core.List.{List, [], ◌++◌}

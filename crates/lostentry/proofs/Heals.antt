@@ -1,5 +1,5 @@
 -- THEOREM of 02's K6, the other way: an entry of which every continuation refuses is lost by the test. An end-line step that is cut
--- within five bytes is healed by a high digit. Assumes nothing.
+-- within five bytes is healed by a high digit.
 use mathlib.Core.Path.{◌≡◌, refl, sym, ap, subst, ◌∙◌}
 use mathlib.Core.Bool.{Bool, true, false, cond, not, ◌&&◌}
 use mathlib.Core.List.{List, [], ◌∷◌, ◌++◌, append-nil}

@@ -1,4 +1,4 @@
--- THEOREM of 02's K6: what the test calls lost is refused with every continuation, and nothing else is. Assumes nothing.
+-- THEOREM of 02's K6: what the test calls lost is refused with every continuation, and nothing else is.
 use mathlib.Core.Path.{◌≡◌, refl, sym, ap, subst, ◌∙◌}
 use mathlib.Core.Bool.{Bool, true, false, cond, not, ◌&&◌}
 use mathlib.Core.List.{List, [], ◌∷◌, ◌++◌, append-nil}

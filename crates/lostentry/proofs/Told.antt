@@ -1,4 +1,4 @@
--- What the test of a lost entry comes to, by what a number, a line and an entry were read as. Assumes nothing.
+-- What the test of a lost entry comes to, by what a number, a line and an entry were read as.
 use mathlib.Core.Path.{◌≡◌, refl, sym, ap, ◌∙◌}
 use mathlib.Core.Bool.{Bool, true, false, not, ◌&&◌}
 use mathlib.Core.List.{List, [], ◌∷◌}

@@ -1,4 +1,4 @@
--- The start: what its tests decide. Assumes nothing.
+-- The start: what its tests decide.
 use mathlib.Core.Path.{◌≡◌, refl, sym, ap, subst, ◌∙◌}
 use mathlib.Core.Bool.{false, cond}
 use mathlib.Core.List.{List}

@@ -1,4 +1,4 @@
--- Which way the end goes, by where the reading stands. Assumes nothing.
+-- Which way the end goes, by where the reading stands.
 use mathlib.Core.Path.{◌≡◌}
 use mathlib.Core.List.{List, []}
 use Prim.Native.Nat.{ℕ, ◌-◌}

@@ -1,4 +1,4 @@
--- What a state says that lets a piece in, and what the piece then comes to. Assumes nothing.
+-- What a state says that lets a piece in, and what the piece then comes to.
 use mathlib.Core.Path.{◌≡◌, refl, sym, ap, subst, ◌∙◌}
 use mathlib.Core.Bool.{Bool, true, false, cond}
 use mathlib.Core.List.{List, [], ◌∷◌, ◌++◌}

@@ -1,4 +1,4 @@
--- What the first entry of some bytes comes to, by what was read. Assumes nothing.
+-- What the first entry of some bytes comes to, by what was read.
 use mathlib.Core.Path.{◌≡◌, sym, ap, ◌∙◌}
 use mathlib.Core.Bool.{true, false, cond}
 use mathlib.Core.List.{List}

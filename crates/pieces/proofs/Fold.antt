@@ -1,4 +1,4 @@
--- The row of a table that goes on: it begins with the complete entries of the first bytes and goes on with the bytes behind them. Assumes nothing.
+-- The row of a table that goes on: it begins with the complete entries of the first bytes and goes on with the bytes behind them.
 use mathlib.Core.Path.{◌≡◌, refl, sym, ap, subst, ◌∙◌}
 use mathlib.Core.Bool.{Bool, true, false, cond}
 use mathlib.Core.List.{List, [], ◌∷◌, ◌++◌, map, append_assoc, append-nil}

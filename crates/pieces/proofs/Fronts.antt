@@ -1,4 +1,4 @@
--- A piece behind held bytes: of the bytes together the first fifty are enough to read the entry that was not complete. Assumes nothing.
+-- A piece behind held bytes: of the bytes together the first fifty are enough to read the entry that was not complete.
 use mathlib.Core.Path.{◌≡◌, refl, sym, ap, subst, ◌∙◌}
 use mathlib.Core.Bool.{Bool, true, false, cond, not}
 use mathlib.Core.List.{List, [], ◌∷◌, ◌++◌, map, append_assoc, append-nil}

@@ -1,4 +1,4 @@
--- What the gate before a piece and the end says, and what a call then comes to. Assumes nothing.
+-- What the gate before a piece and the end says, and what a call then comes to.
 use mathlib.Core.Path.{◌≡◌, refl, sym, ap, subst, ◌∙◌}
 use mathlib.Core.Bool.{Bool, true, false, cond}
 use mathlib.Core.List.{List}

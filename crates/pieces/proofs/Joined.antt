@@ -1,4 +1,4 @@
--- Held bytes and the first of a piece, one behind the other at the front of a store. Assumes nothing.
+-- Held bytes and the first of a piece, one behind the other at the front of a store.
 use mathlib.Core.Path.{◌≡◌, refl, sym, ap, subst, ◌∙◌}
 use mathlib.Core.Bool.{Bool, true, false}
 use mathlib.Core.List.{List, [], ◌∷◌, ◌++◌}

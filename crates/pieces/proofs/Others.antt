@@ -1,5 +1,5 @@
 -- A piece behind held bytes whose first entry is not complete, or does not fit: the held bytes and the piece's first come to what all of them
--- come to. An entry that is cut or not yet lost has all bytes there are; every other ending is settled. Assumes nothing.
+-- come to. An entry that is cut or not yet lost has all bytes there are; every other ending is settled.
 use mathlib.Core.Path.{◌≡◌, refl, sym, ap, subst, ◌∙◌}
 use mathlib.Core.Bool.{Bool, true, false, cond}
 use mathlib.Core.List.{List, [], ◌∷◌, ◌++◌, append_assoc, append-nil}

@@ -1,4 +1,4 @@
--- The loop of `place_row`: what is left still comes to the same summary and the same records. Assumes nothing.
+-- The loop of `place_row`: what is left still comes to the same summary and the same records.
 use mathlib.Core.Path.{◌≡◌, refl, sym, ap, ◌∙◌}
 use mathlib.Core.Bool.{Bool, true, false}
 use mathlib.Core.List.{List, [], ◌∷◌, ◌++◌, append_assoc}

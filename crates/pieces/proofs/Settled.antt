@@ -1,4 +1,4 @@
--- THEOREM of 02's K6: when more bytes change nothing, and when every table that goes on from these bytes is refused. Assumes nothing.
+-- THEOREM of 02's K6: when more bytes change nothing, and when every table that goes on from these bytes is refused.
 use mathlib.Core.Path.{◌≡◌, refl, sym, ap, subst, ◌∙◌}
 use mathlib.Core.Bool.{Bool, true, false, cond, not, ◌&&◌}
 use mathlib.Core.List.{List, [], ◌∷◌, ◌++◌, append-nil, append_assoc}

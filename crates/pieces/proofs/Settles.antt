@@ -1,4 +1,4 @@
--- What is left of a row, by how its walk says that it ends. Assumes nothing.
+-- What is left of a row, by how its walk says that it ends.
 use mathlib.Core.Path.{◌≡◌, refl, sym, ap, subst, ◌∙◌}
 use mathlib.Core.Bool.{Bool, true, false, cond}
 use mathlib.Core.List.{List, [], ◌∷◌, ◌++◌}

@@ -1,4 +1,4 @@
--- How many bytes an entry has, and how many are held between pieces. Assumes nothing.
+-- How many bytes an entry has, and how many are held between pieces.
 use mathlib.Core.Path.{◌≡◌, refl, sym, ap, subst, ◌∙◌}
 use mathlib.Core.Bool.{Bool, true, false, cond, not, ◌&&◌}
 use mathlib.Core.List.{List, [], ◌∷◌, ◌++◌, append-nil}

@@ -1,5 +1,5 @@
 -- THEOREM of 02's K6: "An 18 comes in the call whose bytes first show it." The test on what is kept says so exactly when every table
--- that goes on from these bytes is refused 18. Assumes nothing.
+-- that goes on from these bytes is refused 18.
 use mathlib.Core.Path.{◌≡◌, refl, sym, ap, subst, ◌∙◌}
 use mathlib.Core.Bool.{Bool, true, false, cond, not, ◌&&◌}
 use mathlib.Core.List.{List, [], ◌∷◌, ◌++◌, append-nil, append_assoc}

@@ -1,4 +1,4 @@
--- The step over held bytes: what its entry says of places and counts, and what both ways come to. Assumes nothing.
+-- The step over held bytes: what its entry says of places and counts, and what both ways come to.
 use mathlib.Core.Path.{◌≡◌, refl, sym, ap, subst, ◌∙◌}
 use mathlib.Core.Bool.{Bool, true, false, cond}
 use mathlib.Core.List.{List, [], ◌∷◌, ◌++◌}

@@ -1,4 +1,4 @@
--- What a test of held bytes comes to, by what was read. Assumes nothing.
+-- What a test of held bytes comes to, by what was read.
 use mathlib.Core.Path.{◌≡◌, sym, ap, ◌∙◌}
 use mathlib.Core.Bool.{Bool, false, not}
 use mathlib.Core.List.{List}

@@ -1,4 +1,4 @@
--- Bytes and numbers that move from one store to another, one by one; what stands at the front of a store. Assumes nothing.
+-- Bytes and numbers that move from one store to another, one by one; what stands at the front of a store.
 use mathlib.Core.Path.{◌≡◌, refl, sym, ap, subst, ◌∙◌}
 use mathlib.Core.List.{List, [], ◌∷◌, ◌++◌, map}
 use Prim.Native.Nat.{ℕ, zero, suc, ◌+◌, ◌-◌, ◌*◌, ◌%◌, ◌≤◌, ◌<◌}

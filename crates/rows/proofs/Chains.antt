@@ -1,5 +1,5 @@
 -- Complete entries one behind another: where they end, where else they stand, and what a row is by them: `rowed` and `row_is`, after which
--- nothing looks at turns. Inductions over the list of entries. Assumes nothing.
+-- nothing looks at turns. Inductions over the list of entries.
 use mathlib.Core.Path.{◌≡◌, refl, sym, ap, subst, ◌∙◌}
 use mathlib.Core.Bool.{Bool, true, false, cond}
 use mathlib.Core.List.{List, [], ◌∷◌, ◌++◌, map, append_assoc, append-nil}

@@ -1,5 +1,5 @@
 -- An entry: where its bytes end, and that a complete one is a matter of its own bytes only. A relation by clauses on the entry, with a law each
--- for a number, a line and a test, of which each form of entry is composed. Assumes nothing.
+-- for a number, a line and a test, of which each form of entry is composed.
 use mathlib.Core.Path.{◌≡◌, refl, sym, ap, subst, ◌∙◌}
 use mathlib.Core.Bool.{Bool, true, false, cond, ◌&&◌}
 use mathlib.Core.List.{List, [], ◌∷◌, ◌++◌}

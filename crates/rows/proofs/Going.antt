@@ -1,4 +1,4 @@
--- The loop of `walk_row`: the summary of the whole table is that of the rest, after what was met. Assumes nothing.
+-- The loop of `walk_row`: the summary of the whole table is that of the rest, after what was met.
 use mathlib.Core.Path.{◌≡◌, refl, sym, ap, ◌∙◌}
 use mathlib.Core.Bool.{Bool, true, false}
 use mathlib.Core.List.{List, [], ◌∷◌}

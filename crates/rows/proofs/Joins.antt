@@ -1,4 +1,4 @@
--- Whole tables one behind another are a whole table, and what is whole by its entries is linetable's `Complete`. Assumes nothing.
+-- Whole tables one behind another are a whole table, and what is whole by its entries is linetable's `Complete`.
 use mathlib.Core.Path.{◌≡◌, refl, sym, ap, subst, ◌∙◌}
 use mathlib.Core.Bool.{Bool, true, false, cond, ◌&&◌}
 use mathlib.Core.List.{List, [], ◌∷◌, ◌++◌, map, append_assoc, append-nil}

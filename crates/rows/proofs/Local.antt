@@ -1,4 +1,4 @@
--- A number in a line table: its digits, where they end, and that it is a matter of its own bytes only, wherever they stand. Assumes nothing.
+-- A number in a line table: its digits, where they end, and that it is a matter of its own bytes only, wherever they stand.
 use mathlib.Core.Path.{◌≡◌, refl, sym, ap, subst, ◌∙◌}
 use mathlib.Core.Bool.{Bool, true, false, cond, ◌&&◌}
 use mathlib.Core.List.{List, [], ◌∷◌, ◌++◌}

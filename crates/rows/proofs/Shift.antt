@@ -1,5 +1,5 @@
 -- An entry behind other bytes, which is the same entry so many bytes further on, and an entry for another number of instructions, which is the
--- same but for that. Equations, form by form. Assumes nothing.
+-- same but for that. Equations, form by form.
 use mathlib.Core.Path.{◌≡◌, refl, sym, ap, subst, ◌∙◌}
 use mathlib.Core.Bool.{Bool, true, false, cond, ◌&&◌}
 use mathlib.Core.List.{List, [], ◌∷◌, ◌++◌}

@@ -1,4 +1,4 @@
--- One turn of a row: nothing left, an entry that is cut, one that fits, one that runs past the count. Assumes nothing.
+-- One turn of a row: nothing left, an entry that is cut, one that fits, one that runs past the count.
 use mathlib.Core.Path.{◌≡◌, refl, sym, ap, subst, ◌∙◌}
 use mathlib.Core.Bool.{Bool, true, false, cond}
 use mathlib.Core.List.{List, [], ◌∷◌, ◌++◌}

@@ -1,5 +1,4 @@
 -- THEOREM: 01's walk is the reading of the row: its entries' locations, then what its ending gives. An induction over turns, clause by clause.
--- Assumes nothing.
 use mathlib.Core.Path.{◌≡◌, refl, sym, ap, subst, ◌∙◌}
 use mathlib.Core.Bool.{Bool, true, false, not, cond}
 use mathlib.Core.List.{List, [], ◌∷◌, ◌++◌, append-nil}

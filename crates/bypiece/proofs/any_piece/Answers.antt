@@ -1,4 +1,4 @@
--- `bypiece::any_piece` meets its contract: what is looked at first decides. Assumes nothing.
+-- `bypiece::any_piece` meets its contract: what is looked at first decides.
 use Rattle.pieces.proofs.Gates.{entered}
 use Rattle.bypiece.proofs.Entering.{piece-shut, piece-stuck, piece_open}
 use Rattle.bypiece.proofs.any_piece.Goals as goal

@@ -1,4 +1,4 @@
--- `bypiece::end_bare` meets its contract: the left-over instructions take the first line's location. Assumes nothing.
+-- `bypiece::end_bare` meets its contract: the left-over instructions take the first line's location.
 use native.Mathlib.Omega.{arith}
 use Rattle.bypiece.proofs.Ends.{fills-rest}
 use Rattle.bypiece.proofs.end_bare.Goals as goal

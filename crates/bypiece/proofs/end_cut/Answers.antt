@@ -1,4 +1,4 @@
--- `bypiece::end_cut` meets its contract: two fills, one behind the other. Assumes nothing.
+-- `bypiece::end_cut` meets its contract: two fills, one behind the other.
 use native.Mathlib.Omega.{arith}
 use Rattle.bypiece.proofs.Ends.{fills-both}
 use Rattle.bypiece.proofs.end_cut.Goals as goal

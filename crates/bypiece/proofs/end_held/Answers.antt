@@ -1,4 +1,4 @@
--- `bypiece::end_held` meets its contract: the held bytes stand at the front, and their entry decides. Assumes nothing.
+-- `bypiece::end_held` meets its contract: the held bytes stand at the front, and their entry decides.
 use mathlib.Core.Path.{refl, sym}
 use native.Mathlib.Omega.{arith}
 use lib.ListN.{replicate}

@@ -1,4 +1,4 @@
--- `bypiece::freshen` meets its contract: ten stores. Assumes nothing.
+-- `bypiece::freshen` meets its contract: ten stores.
 use native.Mathlib.Omega.{arith}
 use lib.ListN.{length-set}
 use Rattle.bypiece.proofs.freshen.Goals as goal

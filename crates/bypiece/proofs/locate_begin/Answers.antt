@@ -1,4 +1,4 @@
--- `bypiece::locate_begin` meets its contract: the tests decide. Assumes nothing.
+-- `bypiece::locate_begin` meets its contract: the tests decide.
 use native.Mathlib.Omega.{arith}
 use Rattle.bypiece.proofs.Entering.{start_none, start_few, start_on}
 use Rattle.bypiece.proofs.locate_begin.Goals as goal

@@ -1,4 +1,4 @@
--- `bypiece::locate_end` meets its contract: what is looked at first decides. Assumes nothing.
+-- `bypiece::locate_end` meets its contract: what is looked at first decides.
 use Rattle.pieces.proofs.Gates.{entered}
 use Rattle.bypiece.proofs.Entering.{end_none, end_shut, end_stuck, end_open_lem}
 use Rattle.bypiece.proofs.locate_end.Goals as goal

@@ -1,4 +1,4 @@
--- `bypiece::locate_piece` meets its contract: numbers that are a state let any piece in. Assumes nothing.
+-- `bypiece::locate_piece` meets its contract: numbers that are a state let any piece in.
 use Rattle.bypiece.proofs.Entering.{piece_none}
 use Rattle.bypiece.proofs.locate_piece.Goals as goal
 

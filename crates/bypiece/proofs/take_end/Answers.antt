@@ -1,4 +1,4 @@
--- `bypiece::take_end` meets its contract: the tests decide which way of the definition holds. Assumes nothing.
+-- `bypiece::take_end` meets its contract: the tests decide which way of the definition holds.
 use mathlib.Core.Path.{refl}
 use Rattle.pieces.proofs.Closes.{end_over, end_placed, end_held_by}
 use Rattle.bypiece.proofs.Entering.{leaves_same}

@@ -1,5 +1,4 @@
 -- `linetable::all_used` meets its contract: the test decides which case of `&&` holds.
--- Assumes nothing.
 use Rattle.linetable.proofs.all_used.Goals as goal
 
 pub returns-then-missing : goal.returns-then-missing

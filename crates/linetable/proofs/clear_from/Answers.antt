@@ -1,5 +1,4 @@
 -- `linetable::clear_from` meets its contract: what is left to clear still comes to the same store.
--- Assumes nothing.
 use mathlib.Core.Path.{sym, ◌∙◌}
 use Prim.Native.Nat.{◌-◌}
 use lib.ListN.{length-set}

@@ -1,5 +1,4 @@
 -- `linetable::fill` meets its contract: what is left to store still comes to the same store.
--- Assumes nothing.
 use mathlib.Core.Path.{sym, ◌∙◌}
 use native.Mathlib.Omega.{arith}
 use lib.ListN.{length-set}

@@ -1,5 +1,4 @@
 -- `linetable::fill` meets its contract: what is left to store still comes to the same store.
--- Assumes nothing.
 use mathlib.Core.Path.{◌≡◌}
 use Prim.Native.Nat.{◌≤◌, ◌+◌, ◌*◌}
 use lib.ListN.{length, replicate}

@@ -1,5 +1,4 @@
 -- `linetable::linetable_to_records` meets its contract: its own capacity is the smaller of itself and itself.
--- Assumes nothing.
 use mathlib.Core.Path.{◌≡◌, ap}
 use Prim.Native.Nat.{◌/◌, min}
 use native.Mathlib.Omega.{arith}

@@ -1,5 +1,4 @@
 -- `linetable::location_at` meets its contract: record i is there where all n are, where its last number is, and else nowhere.
--- Assumes nothing.
 use borrow.Author.Tests.{le-ltb}
 use Rattle.linetable.specs.Answer.{location_at}
 use Rattle.linetable.proofs.location_at.Goals as goal

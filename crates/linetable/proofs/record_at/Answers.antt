@@ -1,5 +1,4 @@
 -- `linetable::record_at` meets its contract: the last of the four numbers is there, so all are.
--- Assumes nothing.
 use borrow.Author.Tests.{lt-ltb}
 use Rattle.linetable.specs.Answer.{location_at}
 use Rattle.linetable.proofs.record_at.Goals as goal

@@ -1,5 +1,4 @@
 -- `linetable::records_within` meets its contract: 14, then 17 at the smaller capacity, then the walk.
--- Assumes nothing.
 use mathlib.Core.Path.{◌≡◌, ◌∙◌, ap}
 use native.Mathlib.Omega.{arith}
 use mir.Syntax.{w32}

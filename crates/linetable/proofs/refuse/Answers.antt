@@ -1,5 +1,4 @@
 -- `linetable::refuse` meets its contract: a store cleared from its front on is all zero.
--- Assumes nothing.
 use mathlib.Core.Path.{refl, ◌∙◌}
 use Rattle.linetable.proofs.Stores.{clear_all}
 use Rattle.linetable.proofs.refuse.Goals as goal

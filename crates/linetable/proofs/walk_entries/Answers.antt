@@ -1,5 +1,5 @@
 -- `linetable::walk_entries` meets its contract: the loop's invariant is that what is left still comes to the same reading,
--- and each way out of a turn is a law of proofs/Walking. Assumes nothing.
+-- and each way out of a turn is a law of proofs/Walking.
 use mathlib.Core.Path.{sym, ◌∙◌}
 use Prim.Native.Nat.{◌-◌}
 use native.Mathlib.Omega.{arith}

@@ -1,5 +1,5 @@
 -- `linetable::walk_entries` meets its contract: the loop's invariant is that what is left still comes to the same reading,
--- and each way out of a turn is a law of proofs/Walking. Assumes nothing.
+-- and each way out of a turn is a law of proofs/Walking.
 use Prim.Native.Nat.{◌-◌}
 use lib.ListN.{length}
 use Rattle.lineentry.specs.Entry.{at_line}

@@ -1,4 +1,4 @@
--- `lostentry::cut_early` meets its contract: the laws of proofs/Told. Assumes nothing.
+-- `lostentry::cut_early` meets its contract: the laws of proofs/Told.
 use Rattle.lostentry.proofs.Told.{reads_on, early_long, early_cut, early_all}
 use native.Mathlib.Omega.{arith}
 use Rattle.lostentry.proofs.cut_early.Goals as goal

@@ -1,4 +1,4 @@
--- `lostentry::end_open` meets its contract: the laws of proofs/Told. Assumes nothing.
+-- `lostentry::end_open` meets its contract: the laws of proofs/Told.
 use Rattle.lostentry.proofs.Told.{open_long, open_cut, open_outside, open_to}
 use Rattle.lostentry.proofs.end_open.Goals as goal
 

@@ -1,4 +1,4 @@
--- `lostentry::lost_entry` meets its contract: the laws of proofs/Told. Assumes nothing.
+-- `lostentry::lost_entry` meets its contract: the laws of proofs/Told.
 use Rattle.lostentry.proofs.Told.{lost-covers, lost-stop, lost_out}
 use Rattle.lostentry.proofs.lost_entry.Goals as goal
 

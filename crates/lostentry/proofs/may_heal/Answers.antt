@@ -1,4 +1,4 @@
--- `lostentry::may_heal` meets its contract: the laws of proofs/Told. Assumes nothing.
+-- `lostentry::may_heal` meets its contract: the laws of proofs/Told.
 use Rattle.lostentry.proofs.Told.{heal_none, heal_14, heal_other}
 use Rattle.lostentry.proofs.may_heal.Goals as goal
 

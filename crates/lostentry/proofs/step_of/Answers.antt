@@ -1,4 +1,4 @@
--- `lostentry::step_of` meets its contract: the test decides which case of the definition holds. Assumes nothing.
+-- `lostentry::step_of` meets its contract: the test decides which case of the definition holds.
 use borrow.Author.Tests.{eq-eqb, ne_eqb}
 use Rattle.lostentry.proofs.step_of.Goals as goal
 

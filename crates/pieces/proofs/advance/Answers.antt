@@ -1,4 +1,4 @@
--- `pieces::advance` meets its contract. Assumes nothing.
+-- `pieces::advance` meets its contract.
 use native.Mathlib.Omega.{arith}
 use lib.ListN.{length-set}
 use Rattle.pieces.proofs.advance.Goals as goal

@@ -1,4 +1,4 @@
--- `pieces::copy` meets its contract: what is left to move still comes to the same bytes. Assumes nothing.
+-- `pieces::copy` meets its contract: what is left to move still comes to the same bytes.
 use Prim.Native.Nat.{◌-◌}
 use Rattle.piecestate.proofs.Stores.{Moving}
 use Rattle.pieces.proofs.copy.Given as goal

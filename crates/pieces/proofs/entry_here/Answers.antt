@@ -1,4 +1,4 @@
--- `pieces::entry_here` meets its contract by what its callees ensure, each asked for where its test holds. Assumes nothing.
+-- `pieces::entry_here` meets its contract by what its callees ensure, each asked for where its test holds.
 use mathlib.Core.Path.{sym, ◌∙◌}
 use Rattle.lineentry.proofs.Bytes.{plain-told}
 use Rattle.lineentry.proofs.Shorts.{long_is, read-numbers}

@@ -1,4 +1,4 @@
--- `pieces::first_of` meets its contract: the laws of proofs/Looks. Assumes nothing.
+-- `pieces::first_of` meets its contract: the laws of proofs/Looks.
 use Rattle.pieces.proofs.Firsts.{first_out, first_stop, first_cut, first_past, first_whole}
 use Rattle.pieces.proofs.first_of.Goals as goal
 

@@ -1,4 +1,4 @@
--- `pieces::go_bare` meets its contract. Assumes nothing.
+-- `pieces::go_bare` meets its contract.
 use mathlib.Core.Path.{refl, ap}
 use lib.ListN.{set}
 use Rattle.pieces.proofs.go_bare.Goals as goal

@@ -1,4 +1,4 @@
--- `pieces::go_on` meets its contract. Assumes nothing.
+-- `pieces::go_on` meets its contract.
 use mathlib.Core.List.{◌∷◌}
 use lib.ListN.{length}
 use Rattle.piecestate.proofs.Stores.{twice}

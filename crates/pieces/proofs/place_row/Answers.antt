@@ -1,5 +1,5 @@
 -- `pieces::place_row` meets its contract: what is left still comes to the same summary and records, and each way out of a turn is a law of
--- proofs/Placing. Assumes nothing.
+-- proofs/Placing.
 use mathlib.Core.Path.{sym, ◌∙◌}
 use native.Mathlib.Omega.{arith}
 use Rattle.lineentry.proofs.Entries.{entry-places}

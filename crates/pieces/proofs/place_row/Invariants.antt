@@ -1,5 +1,5 @@
 -- `pieces::place_row` meets its contract: what is left still comes to the same summary and records, and each way out of a turn is a law of
--- proofs/Placing. Assumes nothing.
+-- proofs/Placing.
 use Rattle.pieces.proofs.Placing.{Placing}
 use Rattle.pieces.proofs.place_row.Given as goal
 

@@ -1,4 +1,4 @@
--- `pieces::settle` meets its contract: what the walk tells decides, and each way is a law of proofs/Settles. Assumes nothing.
+-- `pieces::settle` meets its contract: what the walk tells decides, and each way is a law of proofs/Settles.
 use Prim.Native.Nat.{◌+◌, ◌-◌}
 use mathlib.Core.List.{[]}
 use lib.ListN.{length, take, drop}

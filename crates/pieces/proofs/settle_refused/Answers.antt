@@ -1,4 +1,4 @@
--- `pieces::settle_refused` meets its contract: the test decides. Assumes nothing.
+-- `pieces::settle_refused` meets its contract: the test decides.
 use mathlib.Core.Path.{sym, ◌∙◌}
 use native.Mathlib.Omega.{arith}
 use Rattle.pieces.proofs.Settles.{refused-lost, refused_held}

@@ -1,4 +1,4 @@
--- `pieces::take_front` meets its contract: both ways are laws of proofs/Taken. Assumes nothing.
+-- `pieces::take_front` meets its contract: both ways are laws of proofs/Taken.
 use native.Mathlib.Omega.{arith}
 use Rattle.pieces.proofs.Taken.{other_walks, other-leaves, fits, from_low, from_high, whole_walks, whole-leaves}
 use Rattle.pieces.proofs.take_front.Goals as goal

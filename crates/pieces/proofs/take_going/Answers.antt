@@ -1,4 +1,4 @@
--- `pieces::take_going` meets its contract: the held bytes and the piece's first stand one behind the other. Assumes nothing.
+-- `pieces::take_going` meets its contract: the held bytes and the piece's first stand one behind the other.
 use mathlib.Core.Path.{refl, sym}
 use native.Mathlib.Omega.{arith}
 use lib.ListN.{replicate}

@@ -1,4 +1,4 @@
--- `pieces::take_piece` meets its contract: the tests decide which way of the definition holds. Assumes nothing.
+-- `pieces::take_piece` meets its contract: the tests decide which way of the definition holds.
 use mathlib.Core.Path.{refl}
 use native.Mathlib.Omega.{arith}
 use Rattle.pieces.proofs.Settles.{leaves_same}

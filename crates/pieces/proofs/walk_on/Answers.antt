@@ -1,4 +1,4 @@
--- `pieces::walk_on` meets its contract: the walk, then its end. Assumes nothing.
+-- `pieces::walk_on` meets its contract: the walk, then its end.
 use native.Mathlib.Omega.{arith}
 use Rattle.pieces.proofs.Settles.{walks}
 use Rattle.pieces.proofs.walk_on.Goals as goal

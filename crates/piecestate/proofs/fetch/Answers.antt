@@ -1,4 +1,4 @@
--- `piecestate::fetch` meets its contract: what is left to move still comes to the same bytes. Assumes nothing.
+-- `piecestate::fetch` meets its contract: what is left to move still comes to the same bytes.
 use Prim.Native.Nat.{◌-◌}
 use native.Mathlib.Omega.{arith}
 use Rattle.piecestate.specs.State.{low}

@@ -1,4 +1,4 @@
--- `piecestate::fetch` meets its contract: what is left to move still comes to the same bytes. Assumes nothing.
+-- `piecestate::fetch` meets its contract: what is left to move still comes to the same bytes.
 use Prim.Native.Nat.{◌-◌}
 use Rattle.piecestate.specs.State.{low}
 use Rattle.piecestate.proofs.Stores.{Moving}

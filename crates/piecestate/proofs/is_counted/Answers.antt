@@ -1,4 +1,4 @@
--- `piecestate::is_counted` meets its contract. Assumes nothing.
+-- `piecestate::is_counted` meets its contract.
 use borrow.Author.Tests.{lt-ltb, le-ltb}
 use Rattle.piecestate.specs.State.{counted}
 use Rattle.piecestate.proofs.is_counted.Goals as goal

@@ -1,4 +1,4 @@
--- `piecestate::is_sound` meets its contract: each test decides a case of the definition. Assumes nothing.
+-- `piecestate::is_sound` meets its contract: each test decides a case of the definition.
 use borrow.Author.Tests.{eq-eqb, ne_eqb}
 use Rattle.piecestate.specs.State.{sound_by}
 use Rattle.piecestate.proofs.is_sound.Goals as goal

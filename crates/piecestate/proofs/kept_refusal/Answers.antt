@@ -1,4 +1,4 @@
--- `piecestate::kept_refusal` meets its contract. Assumes nothing.
+-- `piecestate::kept_refusal` meets its contract.
 use borrow.Author.Tests.{eq-eqb, ne_eqb}
 use Rattle.piecestate.proofs.kept_refusal.Goals as goal
 

@@ -1,4 +1,4 @@
--- `piecestate::look` meets its contract: each test decides a case of the definition. Assumes nothing.
+-- `piecestate::look` meets its contract: each test decides a case of the definition.
 use mathlib.Core.Path.{sym, ◌∙◌}
 use borrow.Author.Tests.{lt-ltb, le-ltb, eq-eqb, ne_eqb}
 use Rattle.piecestate.specs.Answers.{gate}

@@ -1,4 +1,4 @@
--- `piecestate::open_entry` meets its contract: the laws of proofs/Looks. Assumes nothing.
+-- `piecestate::open_entry` meets its contract: the laws of proofs/Looks.
 use Rattle.piecestate.proofs.Looks.{open_covers, open_stop, open_out}
 use Rattle.piecestate.proofs.open_entry.Goals as goal
 

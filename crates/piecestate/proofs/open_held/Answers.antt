@@ -1,4 +1,4 @@
--- `piecestate::open_held` meets its contract: the held bytes stand at the front. Assumes nothing.
+-- `piecestate::open_held` meets its contract: the held bytes stand at the front.
 use native.Mathlib.Omega.{arith}
 use mathlib.Core.Path.{sym}
 use lib.ListN.{replicate}

@@ -1,4 +1,4 @@
--- `piecestate::stick` meets its contract. Assumes nothing.
+-- `piecestate::stick` meets its contract.
 use native.Mathlib.Omega.{arith}
 use mathlib.Core.Path.{refl}
 use lib.ListN.{length-set}

@@ -1,5 +1,5 @@
 -- `rows::walk_row` meets its contract: the loop's invariant is that what is left still comes to the same summary, and each way out of
--- a turn is a law of proofs/Going. Assumes nothing.
+-- a turn is a law of proofs/Going.
 use Rattle.rows.proofs.Going.{Going}
 use Rattle.rows.proofs.walk_row.Given as goal
 

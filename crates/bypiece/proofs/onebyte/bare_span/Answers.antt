@@ -1,4 +1,4 @@
--- `bypiece::onebyte::bare_span` meets its contract: it is the entry of its one byte. Assumes nothing.
+-- `bypiece::onebyte::bare_span` meets its contract: it is the entry of its one byte.
 use native.Mathlib.Omega.{arith}
 use Rattle.bypiece.proofs.Heads.{bare_ends}
 use Rattle.bypiece.proofs.onebyte.bare_span.Goals as goal

@@ -1,4 +1,4 @@
--- `bypiece::onebyte::fetch_with` meets its contract: the byte stands behind the held ones. Assumes nothing.
+-- `bypiece::onebyte::fetch_with` meets its contract: the byte stands behind the held ones.
 use Rattle.bypiece.proofs.ByByte.{fetched}
 use mathlib.Core.Path.{refl}
 use Rattle.bypiece.proofs.onebyte.fetch_with.Goals as goal

@@ -1,4 +1,4 @@
--- `bypiece::onebyte::hold_more` meets its contract: what is held from now on is what was held, and the byte. Assumes nothing.
+-- `bypiece::onebyte::hold_more` meets its contract: what is held from now on is what was held, and the byte.
 use Prim.Native.Nat.{◌+◌}
 use mathlib.Core.Path.{refl, sym}
 use native.Mathlib.Omega.{arith}

@@ -1,4 +1,4 @@
--- `bypiece::onebyte::is_cut` meets its contract: each test is a fact, and the last answers. Assumes nothing.
+-- `bypiece::onebyte::is_cut` meets its contract: each test is a fact, and the last answers.
 use native.Mathlib.Omega.{arith}
 use Rattle.bypiece.proofs.Cuts.{cut_not, cut_held}
 use Rattle.bypiece.proofs.onebyte.is_cut.Goals as goal

@@ -1,4 +1,4 @@
--- `bypiece::onebyte::is_easy` meets its contract: each test is a fact, and the last answers. Assumes nothing.
+-- `bypiece::onebyte::is_easy` meets its contract: each test is a fact, and the last answers.
 use native.Mathlib.Omega.{arith}
 use Rattle.bypiece.proofs.ByByte.{eases_no, eases}
 use Rattle.bypiece.proofs.onebyte.is_easy.Goals as goal

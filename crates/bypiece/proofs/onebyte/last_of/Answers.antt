@@ -1,4 +1,4 @@
--- `bypiece::onebyte::last_of` meets its contract: its test is the definition. Assumes nothing.
+-- `bypiece::onebyte::last_of` meets its contract: its test is the definition.
 use Rattle.bypiece.proofs.Cuts.{last_yes, last_no}
 use Rattle.bypiece.proofs.onebyte.last_of.Goals as goal
 

@@ -1,4 +1,4 @@
--- `bypiece::onebyte::line_span` meets its contract: a line is shown as it is. Assumes nothing.
+-- `bypiece::onebyte::line_span` meets its contract: a line is shown as it is.
 use Rattle.bypiece.proofs.onebyte.line_span.Goals as goal
 
 pub returns : goal.returns

@@ -1,4 +1,4 @@
--- `bypiece::onebyte::one_step` meets its contract: what the tests say and what is read make the step. Assumes nothing.
+-- `bypiece::onebyte::one_step` meets its contract: what the tests say and what is read make the step.
 use native.Mathlib.Omega.{arith}
 use Rattle.bypiece.proofs.ByByte.{step_held, step_whole}
 use Rattle.bypiece.proofs.onebyte.one_step.Goals as goal

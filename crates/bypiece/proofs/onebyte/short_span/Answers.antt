@@ -1,4 +1,4 @@
--- `bypiece::onebyte::short_span` meets its contract: it is the entry of its two bytes, whose column is below 128. Assumes nothing.
+-- `bypiece::onebyte::short_span` meets its contract: it is the entry of its two bytes, whose column is below 128.
 use Prim.Native.Nat.{◌/◌, ◌%◌}
 use native.Mathlib.Omega.{arith}
 use Rattle.lineentry.proofs.Entries.{column_lt}

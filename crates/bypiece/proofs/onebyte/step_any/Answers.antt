@@ -1,4 +1,4 @@
--- `bypiece::onebyte::step_any` meets its contract: the held bytes and the byte stand in front, and their entry is read. Assumes nothing.
+-- `bypiece::onebyte::step_any` meets its contract: the held bytes and the byte stand in front, and their entry is read.
 use mathlib.Core.Path.{refl, sym}
 use native.Mathlib.Omega.{arith}
 use lib.ListN.{replicate}

@@ -1,4 +1,4 @@
--- `bypiece::onebyte::step_first` meets its contract: the byte says which entry it begins. Assumes nothing.
+-- `bypiece::onebyte::step_first` meets its contract: the byte says which entry it begins.
 use mathlib.Core.Path.{sym, ◌∙◌}
 use native.Mathlib.Omega.{arith}
 use Rattle.bypiece.proofs.Heads.{short_cut, number_cut, line-cut}

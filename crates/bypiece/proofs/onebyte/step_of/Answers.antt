@@ -1,4 +1,4 @@
--- `bypiece::onebyte::step_of` meets its contract: each way reads the held bytes and the byte. Assumes nothing.
+-- `bypiece::onebyte::step_of` meets its contract: each way reads the held bytes and the byte.
 use mathlib.Core.Path.{refl}
 use native.Mathlib.Omega.{arith}
 use Rattle.bypiece.proofs.ByByte.{tells_first, tells-second, tells-third}

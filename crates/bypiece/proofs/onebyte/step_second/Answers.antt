@@ -1,4 +1,4 @@
--- `bypiece::onebyte::step_second` meets its contract: the first byte says whether the entry ends here. Assumes nothing.
+-- `bypiece::onebyte::step_second` meets its contract: the first byte says whether the entry ends here.
 use mathlib.Core.Path.{sym, ◌∙◌}
 use native.Mathlib.Omega.{arith}
 use Rattle.bypiece.proofs.Heads.{line-cut_2}

@@ -1,4 +1,4 @@
--- `bypiece::onebyte::step_third` meets its contract: the entry ends here. Assumes nothing.
+-- `bypiece::onebyte::step_third` meets its contract: the entry ends here.
 use mathlib.Core.Path.{sym, ◌∙◌}
 use native.Mathlib.Omega.{arith}
 use Rattle.bypiece.proofs.Heads.{line-ends}

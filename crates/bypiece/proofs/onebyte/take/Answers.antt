@@ -1,4 +1,4 @@
--- `bypiece::onebyte::take` meets its contract: its step says what it comes to, and any other piece goes its way. Assumes nothing.
+-- `bypiece::onebyte::take` meets its contract: its step says what it comes to, and any other piece goes its way.
 use Prim.Native.Nat.{◌/◌}
 use lib.ListN.{length}
 use Rattle.bypiece.proofs.ByByte.{is_held, is_whole, holds-piece, places-fits, places-piece}

@@ -1,4 +1,4 @@
--- `lineentry::quick::in_numbers` meets its contract: the numbers of an entry are the entry. Assumes nothing.
+-- `lineentry::quick::in_numbers` meets its contract: the numbers of an entry are the entry.
 use mathlib.Core.Path.{sym}
 use Rattle.lineentry.proofs.quick.in_numbers.Goals as goal
 

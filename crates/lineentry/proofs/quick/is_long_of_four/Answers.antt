@@ -1,4 +1,4 @@
--- `lineentry::quick::is_long_of_four` meets its contract, test by test. Assumes nothing.
+-- `lineentry::quick::is_long_of_four` meets its contract, test by test.
 use Rattle.lineentry.proofs.Bytes.{too_few_of_four, four_test}
 use Rattle.lineentry.proofs.quick.is_long_of_four.Goals as goal
 

@@ -1,4 +1,4 @@
--- `lineentry::quick::is_plain` meets its contract, test by test. Assumes nothing.
+-- `lineentry::quick::is_plain` meets its contract, test by test.
 use Rattle.lineentry.proofs.Bytes.{too_few, plain_test}
 use Rattle.lineentry.proofs.quick.is_plain.Goals as goal
 

@@ -1,4 +1,4 @@
--- `lineentry::quick::long_of` meets its contract by what its callees ensure. Assumes nothing.
+-- `lineentry::quick::long_of` meets its contract by what its callees ensure.
 use Rattle.lineentry.specs.Quick.{long_of}
 use Rattle.lineentry.proofs.quick.long_of.Goals as goal
 

@@ -1,4 +1,4 @@
--- `lineentry::quick::long_of_four` meets its contract: what its bytes come to is the entry there. Assumes nothing.
+-- `lineentry::quick::long_of_four` meets its contract: what its bytes come to is the entry there.
 use mathlib.Core.Path.{◌∙◌}
 use Rattle.lineentry.proofs.Bytes.{long-entry_is}
 use Rattle.lineentry.proofs.quick.long_of_four.Goals as goal

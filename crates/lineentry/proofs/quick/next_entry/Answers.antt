@@ -1,4 +1,4 @@
--- `lineentry::quick::next_entry` meets its contract by what its callees ensure, each asked for where its test holds. Assumes nothing.
+-- `lineentry::quick::next_entry` meets its contract by what its callees ensure, each asked for where its test holds.
 use mathlib.Core.Path.{sym, ◌∙◌}
 use Rattle.lineentry.proofs.Bytes.{plain-told, long-told}
 use Rattle.lineentry.proofs.Shorts.{long_is, read-numbers}

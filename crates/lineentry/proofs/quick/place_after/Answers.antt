@@ -1,4 +1,4 @@
--- `lineentry::quick::place_after` meets its contract by the test on the code. Assumes nothing.
+-- `lineentry::quick::place_after` meets its contract by the test on the code.
 use borrow.Author.Tests.{lt-ltb, le-ltb}
 use Rattle.lineentry.proofs.quick.place_after.Goals as goal
 

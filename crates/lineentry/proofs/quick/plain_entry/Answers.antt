@@ -1,4 +1,4 @@
--- `lineentry::quick::plain_entry` meets its contract: what its bytes come to is the entry there. Assumes nothing.
+-- `lineentry::quick::plain_entry` meets its contract: what its bytes come to is the entry there.
 use native.Mathlib.Omega.{arith}
 use mathlib.Core.Path.{◌∙◌}
 use Rattle.lineentry.proofs.Bytes.{plain-entry_is}

@@ -1,4 +1,4 @@
--- `lineentry::quick::plain_of` meets its contract: a column is below 128, so every sum fits. Assumes nothing.
+-- `lineentry::quick::plain_of` meets its contract: a column is below 128, so every sum fits.
 use native.Mathlib.Omega.{arith}
 use Rattle.lineentry.proofs.Bytes.{code_column_lt, plain_out, plain_in}
 use Rattle.lineentry.proofs.quick.plain_of.Goals as goal

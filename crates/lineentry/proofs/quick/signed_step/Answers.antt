@@ -1,4 +1,4 @@
--- `lineentry::quick::signed_step` meets its contract: the lowest bit is the sign. Assumes nothing.
+-- `lineentry::quick::signed_step` meets its contract: the lowest bit is the sign.
 use borrow.Author.Tests.{eq-eqb, ne_eqb}
 use Rattle.lineentry.proofs.quick.signed_step.Goals as goal
 

@@ -1,4 +1,4 @@
--- `lineentry::short::after` meets its contract: one place further, or two. Assumes nothing.
+-- `lineentry::short::after` meets its contract: one place further, or two.
 use mathlib.Core.Path.{refl}
 use native.Mathlib.Omega.{arith}
 use Rattle.lineentry.proofs.short.after.Goals as goal

@@ -1,4 +1,4 @@
--- `lineentry::short::is_long` meets its contract, test by test. Assumes nothing.
+-- `lineentry::short::is_long` meets its contract, test by test.
 use Rattle.lineentry.proofs.Shorts.{too_few-long, long_test}
 use Rattle.lineentry.proofs.short.is_long.Goals as goal
 

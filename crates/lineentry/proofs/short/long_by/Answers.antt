@@ -1,4 +1,4 @@
--- `lineentry::short::long_by` meets its contract by what its callees ensure. Assumes nothing.
+-- `lineentry::short::long_by` meets its contract by what its callees ensure.
 use Rattle.lineentry.specs.Short.{long_by}
 use Rattle.lineentry.proofs.short.long_by.Goals as goal
 

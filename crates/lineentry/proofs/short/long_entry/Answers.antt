@@ -1,4 +1,4 @@
--- `lineentry::short::long_entry` meets its contract: what its numbers come to is the entry there. Assumes nothing.
+-- `lineentry::short::long_entry` meets its contract: what its numbers come to is the entry there.
 use mathlib.Core.Path.{◌∙◌}
 use Rattle.lineentry.proofs.Shorts.{long_by_is}
 use Rattle.lineentry.proofs.short.long_entry.Goals as goal

@@ -1,4 +1,4 @@
--- `lineentry::short::short_numbers` meets its contract, number by number. Assumes nothing.
+-- `lineentry::short::short_numbers` meets its contract, number by number.
 use Rattle.lineentry.specs.Short.{numbers_at}
 use Rattle.lineentry.proofs.short.short_numbers.Goals as goal
 

@@ -1,4 +1,4 @@
--- `lineentry::short::short_of` meets its contract by what its callees ensure. Assumes nothing.
+-- `lineentry::short::short_of` meets its contract by what its callees ensure.
 use mathlib.Core.Path.{refl}
 use Rattle.lineentry.specs.Short.{short_of}
 use Rattle.lineentry.proofs.short.short_of.Goals as goal

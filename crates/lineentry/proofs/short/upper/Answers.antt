@@ -1,4 +1,4 @@
--- `lineentry::short::upper` meets its contract. Assumes nothing.
+-- `lineentry::short::upper` meets its contract.
 use mathlib.Core.Path.{refl}
 use native.Mathlib.Omega.{arith}
 use Rattle.lineentry.proofs.short.upper.Goals as goal
