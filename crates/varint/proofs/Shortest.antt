@@ -1,7 +1,7 @@
 -- The written form is the shortest: bytes that read as a number are no fewer than those that it is written as.
 -- What a reading passes bounds the size of the number, group by group, and a smaller number takes no more bytes.
 -- Assumes nothing.
-use Rattle.std.proofs.Common.{◌≡◌, ℕ, zero, suc, ◌+◌, ◌-◌, ◌*◌, ◌/◌, ◌%◌, ◌^◌, ◌<◌, ◌≤◌, Bool, true, false, cond, eqb, ltb, leb, List, [], ◌∷◌, length, get_or, drop, sym, refl, ap, ◌∙◌, arith, drop-cons, ltb-false, ltb-true, le-ltb, lt-ltb, eqb-true}
+use Rattle.std.proofs.Common.{◌≡◌, ℕ, suc, ◌+◌, ◌-◌, ◌*◌, ◌/◌, ◌%◌, ◌^◌, ◌<◌, ◌≤◌, Bool, true, false, cond, eqb, ltb, leb, List, [], ◌∷◌, length, get_or, drop, sym, refl, ap, ◌∙◌, arith, drop-cons, ltb-false, ltb-true}
 use borrow.Author.Tests.{eqb-false}
 use Rattle.refusals.specs.Numbers.{number_range}
 use Rattle.lineentry.specs.declared.Varint.{Varint}

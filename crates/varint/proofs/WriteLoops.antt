@@ -1,9 +1,9 @@
 -- What holds at each turn of the writers' two loops: the bytes still to come make the same whole, and there are as many of them as
 -- are left of the count. Assumes nothing.
-use Rattle.std.proofs.Common.{◌≡◌, ℕ, suc, ◌+◌, ◌-◌, ◌/◌, ◌%◌, ◌^◌, ◌<◌, ◌≤◌, Bool, true, false, ltb, List, [], ◌∷◌, ◌++◌, length, get_or, set, sym, refl, ap, ◌∙◌, add-zero, add-one, arith, length-append, length-set, get_or-set_other, get_or-set_same, set-set, ltb-false, ltb-true, le-leb}
+use Rattle.std.proofs.Common.{◌≡◌, ℕ, suc, ◌+◌, ◌-◌, ◌/◌, ◌%◌, ◌<◌, ◌≤◌, Bool, true, false, ltb, List, [], ◌∷◌, ◌++◌, length, get_or, set, sym, refl, ap, ◌∙◌, add-zero, add-one, arith, length-append, length-set, get_or-set_other, get_or-set_same, set-set, ltb-false, ltb-true, le-leb}
 use borrow.Author.Tests.{lt-leb}
 use lib.ListN.{length-replicate}
-use lib.Seq.{sets, length-sets, set_comm}
+use lib.Seq.{sets, set_comm}
 use Rattle.refusals.specs.Numbers.{no_room}
 use Rattle.clearing.specs.Lent.{zeros}
 use Rattle.clearing.proofs.Laws.{sets-padded}
@@ -11,7 +11,7 @@ use Rattle.varint.specs.Writing.{little_endian, big_endian, started, big_endian_
 use Rattle.varint.specs.Answers.{stored}
 use Rattle.varint.specs.declared.Written.TheVariants.{Done, Refused}
 use Rattle.varint.proofs.Groups.{size, size-last, size_more, size-some}
-use Rattle.varint.proofs.Bytes.{little_last, little_more, ahead, ahead_none, ahead_more, big_last, first_big, length_big, length-started}
+use Rattle.varint.proofs.Bytes.{little_last, little_more, ahead, ahead_none, ahead_more, big_last, first_big, length_big}
 
 -- ---- put_varint
 

@@ -1,6 +1,6 @@
 -- `varint::put_varint` meets its contract: at each turn the bytes of what is left still make the same whole.
 -- Assumes nothing.
-use Rattle.std.proofs.Common.{◌-◌, arith, length-set, rules}
+use Rattle.std.proofs.Common.{arith, length-set, rules}
 use Rattle.varint.proofs.Groups.{size-some}
 use Rattle.varint.proofs.WriteLoops.{little_start, little_turn, little_last_group, little_end}
 use Rattle.varint.proofs.put_varint.Goals as goal
