@@ -71,9 +71,9 @@ plain-put file parts st out {out₁} {out₂} p q =
 abbrev pub Answered : Type 0
 Answered = Moved × List ℕ
 
-pub refused_as : (number place len : ℕ) {k : Moved} {out : List ℕ} → k ≡ record { refusal = number; place = place; written = 0 } → out ≡ zeros len
+pub refused_as_lem : (number place len : ℕ) {k : Moved} {out : List ℕ} → k ≡ record { refusal = number; place = place; written = 0 } → out ≡ zeros len
     → ◌≡◌ {A = Answered} (k, out) (refused_as number place len)
-refused_as number place len {k} {out} q z = ap {B = Answered} (λ x. (x, out)) q ∙ ap {B = Answered} (λ (o : List ℕ). (record { refusal = number; place = place; written = 0 }, o)) z
+refused_as_lem number place len {k} {out} q z = ap {B = Answered} (λ x. (x, out)) q ∙ ap {B = Answered} (λ (o : List ℕ). (record { refusal = number; place = place; written = 0 }, o)) z
 
 module _ (bytes : List ℕ) (len : ℕ) {room : ℕ} (m : room ≡ min len nothing) where
   answers : (c : Bool) → ltb room (length bytes) ≡ c
@@ -81,10 +81,10 @@ module _ (bytes : List ℕ) (len : ℕ) {room : ℕ} (m : room ≡ min len nothi
   answers c e = ap (λ t. cond {A = Answered} t (refused_as no_room (min len nothing) len) (record { refusal = accepted; place = 0; written = length bytes }, padded len bytes))
       (sym e ∙ ap (λ i. ltb i (length bytes)) m)
 
-  pub no_room : {n : ℕ} → length bytes ≡ n → room < n → {k : Moved} {out : List ℕ} → k ≡ record { refusal = no_room; place = room; written = 0 } → out ≡ zeros len
+  pub no_room_lem : {n : ℕ} → length bytes ≡ n → room < n → {k : Moved} {out : List ℕ} → k ≡ record { refusal = no_room; place = room; written = 0 } → out ≡ zeros len
       → ◌≡◌ {A = Answered} (k, out) (in_room bytes len)
-  no_room l h q z =
-      refused_as no_room room len q z ∙ ap (λ (i : ℕ). refused_as no_room i len) m ∙ answers true (lt-ltb room (length bytes) (omega arith))
+  no_room_lem l h q z =
+      refused_as_lem no_room room len q z ∙ ap (λ (i : ℕ). refused_as no_room i len) m ∙ answers true (lt-ltb room (length bytes) (omega arith))
 
   pub in_room_lem : {n : ℕ} → length bytes ≡ n → room ≤ len → n ≤ room → {out : List ℕ} → out ≡ sets (zeros len) 0 bytes
       → ◌≡◌ {A = Answered} (record { refusal = accepted; place = 0; written = n }, out) (in_room bytes len)

@@ -4,7 +4,7 @@ use lib.ListN.{length}
 use Rattle.clearing.specs.Lent.{zeros}
 use Rattle.readalone.specs.Alone.{lent}
 use Rattle.goldenparts.specs.Spans.{taken_of, StandingIn}
-use Rattle.goldens.proofs.Moves.{refused_as, old_stopped, old_moved}
+use Rattle.goldens.proofs.Moves.{refused_as_lem, old_stopped, old_moved}
 use Rattle.goldens.proofs.to_fields.Goals as goal
 
 pub write_fields-requires : goal.write_fields-requires
@@ -18,7 +18,7 @@ pub returns-in-Refused : goal.returns-in-Refused
 returns-in-Refused c =
     let plain = c.args.plain.now in
     let out = c.args.out.now in (
-      refused_as _ _ (length out) c.refused.ensures c.clear_bytes.ensures ∙ old_stopped (lent _ _ _ _) plain (length out) _ c.old_parts-p.ensures.0 c.in-Refused.is,
+      refused_as_lem _ _ (length out) c.refused.ensures c.clear_bytes.ensures ∙ old_stopped (lent _ _ _ _) plain (length out) _ c.old_parts-p.ensures.0 c.in-Refused.is,
       c.old_parts-p.ensures.2,
       c.old_parts-p.ensures.3,
       c.old_parts-p.ensures.4,

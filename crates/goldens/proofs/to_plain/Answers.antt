@@ -4,7 +4,7 @@ use lib.ListN.{length}
 use Rattle.clearing.specs.Lent.{zeros}
 use Rattle.readalone.specs.Alone.{lent}
 use Rattle.goldenparts.specs.Spans.{taken_of, StandingIn}
-use Rattle.goldens.proofs.Moves.{refused_as, new_stopped, new_moved}
+use Rattle.goldens.proofs.Moves.{refused_as_lem, new_stopped, new_moved}
 use Rattle.goldens.proofs.to_plain.Goals as goal
 
 pub write_plain-requires : goal.write_plain-requires
@@ -18,7 +18,7 @@ pub returns-in-Refused : goal.returns-in-Refused
 returns-in-Refused c =
     let fields = c.args.fields.now in
     let out = c.args.out.now in (
-      refused_as _ _ (length out) c.refused.ensures c.clear_bytes.ensures ∙ new_stopped (lent _ _ _ _) fields (length out) _ c.new_parts-p.ensures.0 c.in-Refused.is,
+      refused_as_lem _ _ (length out) c.refused.ensures c.clear_bytes.ensures ∙ new_stopped (lent _ _ _ _) fields (length out) _ c.new_parts-p.ensures.0 c.in-Refused.is,
       c.new_parts-p.ensures.2,
       c.new_parts-p.ensures.3,
       c.new_parts-p.ensures.4,

@@ -4,7 +4,7 @@ use lib.ListN.{length}
 use lib.Seq.{sets}
 use Rattle.goldenparts.specs.Spans.{golden_in}
 use Rattle.goldens.specs.Moving.{old_form}
-use Rattle.goldens.proofs.Moves.{plain-length, no_room, in_room_lem}
+use Rattle.goldens.proofs.Moves.{plain-length, no_room_lem, in_room_lem}
 use Rattle.goldens.proofs.write_plain.Goals as goal
 
 pub returns-then-room-total : goal.returns-then-room-total
@@ -14,7 +14,7 @@ returns-then-room-total c =
     let parts = c.args.parts in
     let golden = old_form (golden_in file parts) in
     let size = plain-length file parts c.requires.0 0 in
-    no_room golden (length out) c.room_of-room.ensures.0 size c.if-room-total.true c.refused.ensures c.requires.1
+    no_room_lem golden (length out) c.room_of-room.ensures.0 size c.if-room-total.true c.refused.ensures c.requires.1
 
 pub returns : goal.returns
 returns c =
