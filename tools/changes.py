@@ -205,8 +205,9 @@ def otherwise(words, i, named, text):
         return number(word)
     if word in SWAPS:
         return [SWAPS[word]]
-    if word.startswith(".") and word[1:].strip("«»") in kinds():
-        return ["." + (f"«{name}»" if "_" in name else name) for name in siblings(word[1:].strip("«»"), text)]
+    of, _, field = word.rpartition(".")
+    if "." in word and field in kinds():
+        return [f"{of}.{name}" for name in siblings(field, text)]
     return [named[word]] if word in named else []
 
 
@@ -225,10 +226,10 @@ def argument(words, i):
 
 
 def exchanged(text, words):
-    """`cond` with its arms exchanged, `ltb`, `leb` with their arguments, and a difference the other way round."""
+    """`cond` with its arms exchanged, `ltb`, `leb` and the like with their arguments, and a difference the other way round."""
     found = []
     for i, word in enumerate(words):
-        if word.group() in ("cond", "ltb", "leb"):
+        if word.group() in ("cond", "ltb", "leb", "nat_lt", "nat_le"):
             at = i + 1
             if at < len(words) and words[at].group() == "{":
                 at = argument(words, at)
