@@ -142,10 +142,10 @@ old_back R old new e =
     ap (λ a. next (next a (both_read R)) (λ g. gives (old_form g))) fields ∙ ap (λ a. next a (λ g. gives (old_form g))) both ∙ ap gives (take-append-drop o.size old)
 
 -- ---- new to old
-only_one : (l : List ℕ) → only_one l ≡ true → l ≡ 1 ∷ []
-only_one [] e = never e
-only_one (b ∷ []) e = ap (λ x. x ∷ []) (eqb-true b 1 e)
-only_one (b ∷ c ∷ l) e = never e
+only_one-alone : (l : List ℕ) → only_one l ≡ true → l ≡ 1 ∷ []
+only_one-alone [] e = never e
+only_one-alone (b ∷ []) e = ap (λ x. x ∷ []) (eqb-true b 1 e)
+only_one-alone (b ∷ c ∷ l) e = never e
 
 module _ (R : Room) (new : List ℕ) (b : Bytes new) (g : Golden) (n : New R new g) where
   found : Three (reading new).fields g
@@ -182,7 +182,7 @@ module _ (R : Room) (new : List ℕ) (b : Bytes new) (g : Golden) (n : New R new
   new_is : new ≡ spelt (written 1 (1 ∷ []) ∷ written 2 g.code.bytes ∷ written 3 g.result.bytes ∷ [])
   unfolding spelt
   new_is =
-      let e = field-bytes found.edition 1 (1 ∷ []) found.first (only_one found.edition.contents found.one) in
+      let e = field-bytes found.edition 1 (1 ∷ []) found.first (only_one-alone found.edition.contents found.one) in
       let c = field-bytes found.code 2 g.code.bytes found.second (sym code_is) in
       let r = field-bytes found.result 3 g.result.bytes found.third (sym result-is) in
       sym (spelt-reading new b (fielded new g n.fields).clean) ∙ ap spelt found.are
