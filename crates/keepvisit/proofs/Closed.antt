@@ -1,12 +1,12 @@
 -- The visit reaches what is pending, and with a node all of its children; the root comes first. Assumes nothing.
-use mathlib.Core.Path.{◌≡◌, refl, sym, ap, ap₂, subst, ◌∙◌}
-use Prim.Native.Nat.{ℕ, zero, suc, ◌+◌, ◌≤◌, ◌<◌}
+use mathlib.Core.Path.{◌≡◌, refl, sym, ap, ap₂, ◌∙◌}
+use Prim.Native.Nat.{ℕ, zero, suc}
 use native.Mathlib.Omega.{arith}
-use mathlib.Core.Bool.{Bool, true, false, cond, not, ◌&&◌, ◌||◌}
+use mathlib.Core.Bool.{Bool, true, false, cond, ◌||◌}
 use mathlib.Core.List.{List, [], ◌∷◌, ◌++◌, append_assoc, append-nil}
 use lib.Dec.{ltb, eqb}
-use borrow.Author.Tests.{eqb-true, eq-eqb}
-use Rattle.keepvisit.specs.Visit.{Stores, Visited, bad, visited, member, fresh, chains, chain_of, children, visit, visit_from, turn}
+use borrow.Author.Tests.{eqb-true}
+use Rattle.keepvisit.specs.Visit.{Stores, bad, visited, member, fresh, chains, chain_of, children, visit, visit_from}
 use Rattle.keepvisit.proofs.Members.{member-append, member-cons_same, never}
 
 pub record Closed (t : Stores) (pending order order' : List ℕ) : Type 0 where

@@ -6,7 +6,7 @@ use mathlib.Core.Bool.{Bool, true, false, cond, not, ◌&&◌, ◌||◌}
 use mathlib.Core.List.{List, [], ◌∷◌, ◌++◌}
 use lib.Dec.{ltb, eqb}
 use borrow.Author.Tests.{ltb-true, ltb-false, eqb-true}
-use Rattle.keepvisit.specs.Visit.{Stores, Visited, bad, visited, member, fresh, chains, chain_of, children, visit, visit_from}
+use Rattle.keepvisit.specs.Visit.{Stores, bad, visited, member, fresh, chains, chain_of, children, visit, visit_from}
 use Rattle.keepvisit.proofs.Members.{fresh-append, never}
 use Rattle.keepvisit.proofs.Ranks.{chains-snoc}
 use Rattle.keepvisit.proofs.Closed.{bad_not, either, empty, member_left, member_right}

@@ -3,8 +3,8 @@ use mathlib.Core.Path.{◌≡◌, refl, sym, ap, ap₂, ◌∙◌}
 use Prim.Native.Nat.{ℕ, zero, suc, ◌+◌, ◌-◌, ◌≤◌, ◌<◌}
 use native.Mathlib.Omega.{arith}
 use native.Mathlib.Numerals.{add-one}
-use mathlib.Core.List.{List, [], ◌∷◌, ◌++◌}
-use lib.ListN.{length, get_or, set, length-set}
+use mathlib.Core.List.{List, [], ◌∷◌}
+use lib.ListN.{length, set, length-set}
 use lib.Seq.{sets}
 use Rattle.grammar.specs.State.{entry_at}
 use Rattle.keepvisit.specs.Visit.{linked, children_of}

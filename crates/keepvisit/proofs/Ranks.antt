@@ -1,17 +1,16 @@
 -- Laws of a node's new number, and of stores from one place on. Assumes nothing.
-use mathlib.Core.Path.{◌≡◌, refl, sym, ap, ap₂, ◌∙◌}
-use Prim.Native.Nat.{ℕ, zero, suc, ◌+◌, ◌*◌, ◌≤◌, ◌<◌}
+use mathlib.Core.Path.{◌≡◌, refl, sym, ap, ◌∙◌}
+use Prim.Native.Nat.{ℕ, suc, ◌+◌, ◌≤◌, ◌<◌}
 use native.Mathlib.Omega.{arith}
-use mathlib.Core.Bool.{Bool, true, false, cond, not, ◌&&◌, ◌||◌}
+use mathlib.Core.Bool.{Bool, true, false, cond, ◌||◌}
 use mathlib.Core.List.{List, [], ◌∷◌, ◌++◌, append_assoc, append-nil}
-use lib.ListN.{length, get_or, set, take, drop, length-append, length-set, length-take}
+use lib.ListN.{length, get_or, set, take, drop}
 use lib.Seq.{sets, sets-eq, take-set-le, get_or-set_other, drop_at, length-take-le}
-use lib.Dec.{ltb, eqb}
-use borrow.Author.Tests.{eqb-true, eqb-false, eq-eqb, ne_eqb}
-use Rattle.grammar.specs.State.{node_at}
+use lib.Dec.{eqb}
+use borrow.Author.Tests.{eq-eqb, ne_eqb}
 use Rattle.keepvisit.specs.Visit.{Stores, member, place_in, chains, chain_of}
 use Rattle.keepvisit.specs.Found.{rank}
-use Rattle.keepvisit.proofs.Members.{member-append, member-cons-other, never}
+use Rattle.keepvisit.proofs.Members.{member-append, never}
 
 -- Ranks.
 

@@ -1,12 +1,12 @@
 -- What is kept is what can be reached from the root, and nothing else. Assumes nothing.
-use mathlib.Core.Path.{◌≡◌, refl, sym, ap, ap₂, subst, ◌∙◌}
+use mathlib.Core.Path.{◌≡◌, refl, sym, ap, subst, ◌∙◌}
 use Prim.Native.Nat.{ℕ, zero, suc}
 use mathlib.Core.Bool.{Bool, true, false, cond, ◌||◌}
 use mathlib.Core.List.{List, [], ◌∷◌, ◌++◌}
 use lib.Dec.{ltb, eqb}
 use borrow.Author.Tests.{eq-eqb}
-use Rattle.keepvisit.specs.Visit.{Stores, Visited, bad, visited, member, fresh, chains, chain_of, children, visit, visit_from, Reaches, here, down}
-use Rattle.keepvisit.proofs.Members.{member-append, never}
+use Rattle.keepvisit.specs.Visit.{Stores, bad, visited, member, fresh, chains, chain_of, children, visit, visit_from, Reaches, here, down}
+use Rattle.keepvisit.proofs.Members.{member-append}
 use Rattle.keepvisit.proofs.Closed.{either, empty, bad_not, kept-root, kept-children}
 
 -- a member of two lists put together is one of either

@@ -3,19 +3,17 @@ use mathlib.Core.Path.{◌≡◌, refl, sym, ap, ap₂, subst, ◌∙◌}
 use Prim.Native.Nat.{ℕ, zero, suc, ◌+◌, ◌-◌, ◌*◌, ◌≤◌, ◌<◌}
 use native.Mathlib.Omega.{arith}
 use native.Mathlib.Numerals.{add-one}
-use mathlib.Core.Bool.{Bool, true, false, cond, not, ◌&&◌, ◌||◌}
-use mathlib.Core.List.{List, [], ◌∷◌, ◌++◌, append_assoc, append-nil}
-use lib.ListN.{length, get_or, set, take, drop, length-append, length-set, length-take, length-replicate, drop_of_length-le, get_or-eq_default, get_or-replicate}
+use mathlib.Core.Bool.{Bool, true, false}
+use mathlib.Core.List.{List, [], ◌∷◌, ◌++◌}
+use lib.ListN.{length, get_or, set, take, drop, length-append, length-set, drop_of_length-le, get_or-replicate}
 use lib.Seq.{sets, length-sets, take-set-le, take-suc-set, take-take, drop-drop, drop-set-lt, drop-cons, get_or-take, get_or-set_same, get_or-set_other}
-use lib.Dec.{ltb, eqb}
+use lib.Dec.{eqb}
 use borrow.Author.Tests.{lt-ltb, le-ltb, eqb-true, eqb-false}
-use Rattle.clearing.specs.Lent.{zeros}
 use Rattle.grammar.specs.State.{node_at}
 use Rattle.keepvisit.specs.declared.Seen.{Seen}
-use Rattle.keepvisit.specs.Visit.{Stores, stores, Visited, bad, visited, member, fresh, linked, children_of, children, chain_of, chains, visit, visit_from}
-use Rattle.keepvisit.specs.Found.{flag, rank, Marked, Marks, Found, Answers, Room}
-use Rattle.keepvisit.proofs.Members.{fresh-append, fresh-most, never}
-use Rattle.keepvisit.proofs.Marking.{marked_same}
+use Rattle.keepvisit.specs.Visit.{Stores, stores, bad, visited, member, fresh, linked, children_of, children, chain_of, chains, visit, visit_from}
+use Rattle.keepvisit.specs.Found.{flag, rank, Marked, Marks, Answers, Room}
+use Rattle.keepvisit.proofs.Members.{fresh-append, fresh-most}
 use Rattle.keepvisit.proofs.Pushing.{length-linked, length-children_of}
 use Rattle.keepvisit.proofs.Ranks.{rank_seen, rank_new, rank_same, rank-other, chains-snoc, take-sets, get_d_sets, drop-sets}
 

@@ -1,6 +1,6 @@
 -- No export and no promise rests on this page.
 -- What the scratch holds: marks of the entries met, the order, and each node's new number.
-use Rattle.std.specs.Prelude.{◌≡◌, ℕ, zero, suc, ◌+◌, ◌*◌, ◌≤◌, ◌<◌, Bool, true, false, cond, List, [], ◌∷◌, ◌++◌, length, get_or, take, drop}
+use Rattle.std.specs.Prelude.{◌≡◌, ℕ, suc, ◌+◌, ◌*◌, ◌≤◌, ◌<◌, Bool, true, false, cond, List, [], ◌++◌, length, get_or, take, drop}
 use Rattle.refusals.specs.Limits.{most_records}
 use Rattle.clearing.specs.Lent.{zeros}
 use Rattle.keepvisit.specs.declared.Seen.{Seen}
