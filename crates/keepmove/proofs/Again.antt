@@ -1,7 +1,7 @@
 -- A second move of what was moved: its visit meets 0, 1, 2 and so on, their entries stand in the same order, and every record stays where it
 -- is. The visit of the moved stores mirrors the first, turn by turn. Assumes nothing.
 use mathlib.Core.Path.{◌≡◌, refl, sym, ap, ap₂, subst, ◌∙◌}
-use Prim.Native.Nat.{ℕ, zero, suc, ◌+◌, ◌-◌, ◌*◌, ◌≤◌, ◌<◌}
+use Prim.Native.Nat.{ℕ, zero, suc, ◌+◌, ◌-◌, ◌≤◌, ◌<◌}
 use native.Mathlib.Omega.{arith}
 use mathlib.Core.Bool.{Bool, true, false, cond, not, ◌&&◌, ◌||◌}
 use mathlib.Core.List.{List, [], ◌∷◌, ◌++◌, append_assoc, map}
@@ -11,7 +11,7 @@ use borrow.Author.Tests.{lt-ltb, eq-eqb, ne_eqb, eqb-true, eqb-false}
 use Rattle.refusals.specs.Limits.{nothing}
 use Rattle.clearing.specs.Lent.{padded}
 use Rattle.grammar.specs.State.{node_at, node_cells, entry_cells}
-use Rattle.keepvisit.specs.Visit.{Stores, stores, Visited, bad, visited, member, fresh, chains, chain_of, children, place_in, visit, visit_from}
+use Rattle.keepvisit.specs.Visit.{Stores, stores, bad, visited, member, fresh, chains, chain_of, children, place_in, visit, visit_from}
 use Rattle.keepvisit.proofs.Members.{never, member-append, member-cons_same, fresh-most}
 use Rattle.keepvisit.proofs.Closed.{Closed, either, bad_not, member_right, visit-closed, kept-children, First, root_first}
 use Rattle.keepvisit.proofs.Distinct.{visited-once}

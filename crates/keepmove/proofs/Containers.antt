@@ -1,16 +1,16 @@
 -- The loops over the kept nodes. Assumes nothing.
-use mathlib.Core.Path.{◌≡◌, refl, sym, ap, ap₂, subst, ◌∙◌}
+use mathlib.Core.Path.{◌≡◌, refl, sym, ap, ap₂, ◌∙◌}
 use Prim.Native.Nat.{ℕ, zero, suc, ◌+◌, ◌-◌, ◌*◌, ◌≤◌, ◌<◌}
 use native.Mathlib.Omega.{arith}
 use native.Mathlib.Numerals.{add-one}
 use mathlib.Core.List.{List, [], ◌∷◌, ◌++◌}
-use lib.ListN.{length, get_or, set, take, drop, length-append, length-set, drop_of_length-le}
+use lib.ListN.{length, get_or, set, take, drop, length-set, drop_of_length-le}
 use lib.Seq.{sets, length-sets, take-set-le, take-take, length-take-le}
 use Rattle.refusals.specs.Limits.{nothing}
 use Rattle.grammar.specs.State.{node_at}
 use Rattle.keepvisit.specs.Visit.{linked, children_of}
 use Rattle.keepmove.specs.Moved.{first_of}
-use Rattle.keepmove.specs.Laid.{new_at, kids_of, all_kids, links_of, all_links, total, firsts_of}
+use Rattle.keepmove.specs.Laid.{kids_of, all_kids, links_of, all_links, total, firsts_of}
 use Rattle.keepvisit.proofs.Pushing.{length-linked, length-children_of}
 use Rattle.keepvisit.proofs.Ranks.{take-sets}
 use Rattle.keepmove.proofs.Gathering.{new_same, at_front}

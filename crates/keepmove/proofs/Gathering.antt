@@ -1,17 +1,17 @@
 -- The loops that gather the moved records' numbers in the scratch and lay them over a store. Assumes nothing.
-use mathlib.Core.Path.{◌≡◌, refl, sym, ap, ap₂, subst, ◌∙◌}
+use mathlib.Core.Path.{◌≡◌, refl, sym, ap, ap₂, ◌∙◌}
 use Prim.Native.Nat.{ℕ, zero, suc, ◌+◌, ◌-◌, ◌*◌, ◌≤◌, ◌<◌}
 use native.Mathlib.Omega.{arith}
 use native.Mathlib.Numerals.{add-one}
 use mathlib.Core.Bool.{Bool, true, false, cond}
 use mathlib.Core.List.{List, [], ◌∷◌, ◌++◌, append_assoc, append-nil}
-use lib.ListN.{length, get_or, set, take, drop, length-append, length-set, length-take, length-drop, drop_of_length-le}
-use lib.Seq.{sets, take-set-le, take-suc-set, take-take, take_all, drop-cons, get_or-take, get_or-drop, take-append-le, length-take-le}
+use lib.ListN.{length, get_or, set, take, drop, length-set, length-drop, drop_of_length-le}
+use lib.Seq.{sets, take-set-le, take-suc-set, take_all, drop-cons, get_or-take, get_or-drop, length-take-le}
 use lib.Dec.{ltb}
 use borrow.Author.Tests.{ltb-true, ltb-false, lt-ltb, le-ltb}
 use Rattle.refusals.specs.Limits.{nothing}
 use Rattle.clearing.specs.Lent.{zeros}
-use Rattle.grammar.specs.State.{entry_at, node_width}
+use Rattle.grammar.specs.State.{entry_at}
 use Rattle.keepvisit.specs.Visit.{linked, children_of}
 use Rattle.keepmove.specs.Laid.{by_rank, new_at, kids_of, links_of, column_of, stepped, zeroed_from}
 

@@ -1,19 +1,18 @@
 -- Columns laid over a store and zeros behind them are the moved records. Assumes nothing.
-use mathlib.Core.Path.{◌≡◌, refl, sym, ap, ap₂, subst, ◌∙◌}
-use Prim.Native.Nat.{ℕ, zero, suc, ◌+◌, ◌-◌, ◌*◌, ◌≤◌, ◌<◌}
+use mathlib.Core.Path.{◌≡◌, refl, sym, ap, ap₂, ◌∙◌}
+use Prim.Native.Nat.{ℕ, suc, ◌+◌, ◌-◌, ◌*◌, ◌≤◌, ◌<◌}
 use native.Mathlib.Omega.{arith}
 use native.Mathlib.Nat.{add-zero}
-use native.Mathlib.Numerals.{add-one, unary_clauses}
-use mathlib.Core.Bool.{Bool, true, false, cond, not, ◌&&◌, ◌||◌}
-use mathlib.Core.List.{List, [], ◌∷◌, ◌++◌, append_assoc, append-nil}
-use lib.ListN.{length, get_or, set, take, drop, length-append, length-set, length-take, length-drop, drop_of_length-le, length-replicate}
-use lib.Seq.{sets, length-sets, take_at, take-take, length-take-le, get_or-set_other, take-append_seam, drop-drop}
+use mathlib.Core.Bool.{Bool, true, false, cond, ◌||◌}
+use mathlib.Core.List.{List, [], ◌∷◌, ◌++◌}
+use lib.ListN.{length, get_or, set, take, drop, length-append, length-set, length-drop}
+use lib.Seq.{sets, take_at, get_or-set_other}
 use lib.Dec.{ltb, eqb}
-use borrow.Author.Tests.{ltb-true, ltb-false, lt-ltb, le-ltb, eqb-true}
+use borrow.Author.Tests.{ltb-true, ltb-false}
 use Rattle.refusals.specs.Limits.{nothing}
 use Rattle.clearing.specs.Lent.{zeros, padded}
-use Rattle.grammar.specs.State.{Node, Entry, node_at, entry_at, node_cells, entry_cells}
-use Rattle.keepvisit.specs.Visit.{Stores, stores, member, fresh, linked, children_of, children, chain_of, chains, place_in}
+use Rattle.grammar.specs.State.{Entry, node_at, node_cells, entry_cells}
+use Rattle.keepvisit.specs.Visit.{Stores, stores, member, linked, children_of, children, chain_of, chains, place_in}
 use Rattle.keepmove.specs.Moved.{first_of, moved_nodes, relinked, moved_entries, nodes_after, entries_after}
 use Rattle.keepvisit.specs.Found.{rank, Found}
 use Rattle.keepmove.specs.Laid.{by_rank, new_at, kids_of, all_kids, links_of, all_links, total, firsts_of, column_of, stepped, zeroed_from}

@@ -1,16 +1,14 @@
 -- The move's parts put together. Assumes nothing.
-use mathlib.Core.Path.{◌≡◌, refl, sym, ap, ap₂, subst, ◌∙◌}
-use Prim.Native.Nat.{ℕ, zero, suc, ◌+◌, ◌-◌, ◌*◌, ◌≤◌, ◌<◌}
+use mathlib.Core.Path.{◌≡◌, refl, sym, ap, ap₂, ◌∙◌}
+use Prim.Native.Nat.{ℕ, suc, ◌+◌, ◌-◌, ◌*◌, ◌≤◌, ◌<◌}
 use native.Mathlib.Omega.{arith}
-use mathlib.Core.List.{List, [], ◌∷◌, ◌++◌}
-use lib.ListN.{length, get_or, set, take, drop, length-set, length-drop}
+use mathlib.Core.List.{List, [], ◌∷◌}
+use lib.ListN.{length, set, take, drop}
 use lib.Seq.{sets, length-sets, take-take, take-set-le, drop-set-add, length-take-le}
 use Rattle.refusals.specs.Limits.{most_records}
 use Rattle.clearing.specs.Lent.{zeros}
 use Rattle.grammar.specs.State.{node_width}
-use Rattle.keepvisit.specs.Visit.{Stores, stores}
-use Rattle.keepmove.specs.Moved.{nodes_after, entries_after}
-use Rattle.keepvisit.specs.Found.{Found}
+use Rattle.keepmove.specs.Moved.{nodes_after}
 use Rattle.keepmove.specs.Laid.{all_kids, all_links, total, firsts_of, column_of, stepped, zeroed_from}
 use Rattle.keepmove.specs.Parts.{ColumnMoved, ThreeMoved, FirstsMoved, Movable, EntriesMoved, AllMoved}
 use Rattle.keepvisit.proofs.Ranks.{take-sets}

@@ -1,20 +1,20 @@
 -- A moved node is the node it was, and its children are the moved children: shared nodes stay shared. Assumes nothing.
 use mathlib.Core.Path.{◌≡◌, refl, sym, ap, ap₂, subst, ◌∙◌}
-use Prim.Native.Nat.{ℕ, zero, suc, ◌+◌, ◌-◌, ◌*◌, ◌≤◌, ◌<◌}
+use Prim.Native.Nat.{ℕ, zero, suc, ◌+◌, ◌-◌, ◌≤◌, ◌<◌}
 use native.Mathlib.Omega.{arith}
 use native.Mathlib.Nat.{zero-add}
-use mathlib.Core.Bool.{Bool, true, false, cond, not, ◌&&◌, ◌||◌}
-use mathlib.Core.List.{List, [], ◌∷◌, ◌++◌, append_assoc, append-nil, map}
+use mathlib.Core.Bool.{Bool, true, false, cond, ◌||◌}
+use mathlib.Core.List.{List, [], ◌∷◌, ◌++◌, append_assoc, map}
 use lib.ListN.{length, get_or, length-append, length-replicate}
 use lib.Seq.{get_or-append_seam}
-use lib.Dec.{ltb, eqb}
-use borrow.Author.Tests.{eqb-true, eq-eqb}
+use lib.Dec.{eqb}
+use borrow.Author.Tests.{eqb-true}
 use Rattle.refusals.specs.Limits.{nothing}
 use Rattle.clearing.specs.Lent.{zeros, padded}
 use Rattle.grammar.specs.State.{Node, Entry, blank, unlinked, node_at, entry_at, node_cells, entry_cells}
 use Rattle.stores.specs.Written.{Keeps}
 use Rattle.stores.proofs.Lookups.{node_kept, entry_kept}
-use Rattle.keepvisit.specs.Visit.{Stores, stores, Visited, bad, visited, member, fresh, linked, children_of, children, chain_of, chains, place_in, visit, visit_from}
+use Rattle.keepvisit.specs.Visit.{Stores, stores, member, linked, children_of, children, chain_of, place_in}
 use Rattle.keepmove.specs.Moved.{first_of, renewed, moved_nodes, relinked, moved_entries, run, nodes_after, entries_after}
 use Rattle.keepmove.specs.Laid.{total}
 use Rattle.keepvisit.proofs.Members.{never}

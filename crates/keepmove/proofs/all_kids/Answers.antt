@@ -1,6 +1,5 @@
 -- `all_kids` meets its contract by the laws cited here. Assumes nothing.
 use Rattle.keepmove.proofs.Containers.{all_kids-room, all_kids_more, all_kids-done}
-use Prim.Native.Nat.{◌-◌}
 use native.Mathlib.Omega.{arith}
 use mathlib.Core.Path.{refl}
 use borrow.Author.Rules.{rules}

@@ -1,7 +1,6 @@
 -- `all_links` meets its contract by the laws cited here. Assumes nothing.
 use Rattle.keepmove.proofs.Containers.{all_links-room, all_links_more, all_links-done}
 use native.Mathlib.Nat.{add-zero}
-use Prim.Native.Nat.{◌-◌}
 use native.Mathlib.Omega.{arith}
 use mathlib.Core.Path.{refl}
 use borrow.Author.Rules.{rules}

@@ -1,7 +1,6 @@
 -- `gather_column` meets its contract by the laws cited here. Assumes nothing.
 use Rattle.keepmove.proofs.Gathering.{column-more, column_done}
 use native.Mathlib.Nat.{add-zero}
-use Prim.Native.Nat.{◌-◌}
 use native.Mathlib.Omega.{arith}
 use mathlib.Core.Path.{refl}
 use borrow.Author.Rules.{rules}

@@ -1,7 +1,6 @@
 -- `gather_firsts` meets its contract by the laws cited here. Assumes nothing.
 use Rattle.keepmove.proofs.Containers.{firsts_room, firsts_more, firsts_done}
 use native.Mathlib.Nat.{add-zero}
-use Prim.Native.Nat.{◌-◌}
 use native.Mathlib.Omega.{arith}
 use mathlib.Core.Path.{refl}
 use borrow.Author.Rules.{rules}

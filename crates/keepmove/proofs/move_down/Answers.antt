@@ -1,7 +1,6 @@
 -- `move_down` meets its contract by the laws cited here. Assumes nothing.
 use Rattle.keepmove.proofs.Descending.{down_start, down-room, down_more, down-done}
 use mathlib.Core.Path.{ap}
-use Prim.Native.Nat.{◌-◌}
 use native.Mathlib.Omega.{arith}
 use borrow.Author.Rules.{rules}
 use Rattle.keepmove.proofs.move_down.Goals as goal

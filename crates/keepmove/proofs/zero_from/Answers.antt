@@ -1,6 +1,5 @@
 -- `zero_from` meets its contract by the laws cited here. Assumes nothing.
 use Rattle.keepmove.proofs.Gathering.{zeroing_more, zeroing_done}
-use Prim.Native.Nat.{◌-◌}
 use lib.ListN.{length-set}
 use native.Mathlib.Omega.{arith}
 use mathlib.Core.Path.{refl}
