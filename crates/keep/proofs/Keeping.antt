@@ -1,13 +1,10 @@
 -- The whole move: what the visit answered, and what each way out leaves. Assumes nothing.
 use mathlib.Core.Path.{◌≡◌, refl, sym, ap, ap₂, subst, ◌∙◌}
-use Prim.Native.Nat.{ℕ, zero, suc, ◌+◌, ◌-◌, ◌*◌, ◌/◌, ◌≤◌, ◌<◌, min}
+use Prim.Native.Nat.{ℕ, ◌-◌, ◌*◌, ◌≤◌, ◌<◌}
 use native.Mathlib.Omega.{arith}
-use mathlib.Core.Bool.{Bool, true, false, cond}
-use mathlib.Core.List.{List, [], ◌∷◌, ◌++◌}
+use mathlib.Core.List.{List}
 use lib.ListN.{length, take, length-replicate}
-use lib.Dec.{ltb}
 use borrow.Author.Tests.{lt-ltb, le-ltb}
-use Rattle.refusals.specs.Limits.{most_records}
 use Rattle.refusals.specs.Numbers.{accepted, bad_table, no_room}
 use Rattle.clearing.specs.Lent.{zeros}
 use Rattle.grammar.specs.State.{node_width, node_capacity, entry_capacity}
@@ -18,7 +15,7 @@ use Rattle.keepvisit.specs.Visit.{Stores, stores, Visited, bad, visited, visit, 
 use Rattle.keepvisit.specs.Found.{Found, Answers}
 use Rattle.keepmove.specs.Laid.{total}
 use Rattle.keepmove.specs.Parts.{Movable, AllMoved}
-use Rattle.keep.specs.Kept.{Limits, Outcome, refuses, moves, by_visit, outcome, refused_as, moved_as, held_by, within, kept_of, Keeps, lent_stores, need}
+use Rattle.keep.specs.Kept.{Limits, Outcome, refuses, by_visit, outcome, refused_as, moved_as, held_by, within, kept_of, Keeps, lent_stores, need}
 use Rattle.keepmove.proofs.Laying.{length-chains}
 
 -- What the visit answered.

@@ -3,7 +3,7 @@ use mathlib.Core.Path.{◌≡◌, refl}
 use Prim.Native.Nat.{ℕ}
 use mathlib.Core.List.{List, [], ◌∷◌}
 use Rattle.clearing.specs.Lent.{padded}
-use Rattle.keepvisit.specs.Visit.{Stores, stores, Visited, bad, visited, member, linked, children_of, chains, fresh, visit, visit_from, place_in}
+use Rattle.keepvisit.specs.Visit.{stores, bad, visited, member, linked, children_of, chains, fresh, visit, visit_from, place_in}
 use Rattle.keepmove.specs.Moved.{moved_nodes, relinked, moved_entries, nodes_after, entries_after}
 
 -- Node 2 has the children 1, 3 and 1 again; node 1 has none; node 3 has itself; node 0 is not reached. The chain of 2 is 4, 0, 2.
