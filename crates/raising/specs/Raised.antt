@@ -2,7 +2,6 @@
 -- What each loop leaves of a store that keeps the records of a reading: contracts of inner functions. The sums have 32 bits, as every number
 -- that a reading of the room that is left raises has.
 use Rattle.std.specs.Prelude.{◌≡◌, ℕ, ◌+◌, ◌%◌, ◌<◌, cond, List, map, length, ◌==◌, slice_index, slice_index_or}
-use Rattle.refusals.specs.Limits.{nothing}
 use Rattle.grammar.specs.State.{Node, Entry, blank, unlinked, node_cells, entry_cells}
 use Rattle.stores.specs.Written.{Keeps}
 use Rattle.raising.specs.Appended.{raised_link, appended_node, appended_entry, appended_slot}

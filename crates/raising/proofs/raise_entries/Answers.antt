@@ -1,5 +1,5 @@
 -- `raising::raise_entries` meets its contract: one turn and the end by the laws of Turns. Assumes nothing.
-use Rattle.std.proofs.Common.{◌-◌, rules}
+use Rattle.std.proofs.Common.{rules}
 use Rattle.raising.proofs.Turns.{entries_start, entries-turn, entries-done}
 use Rattle.raising.proofs.raise_entries.Goals as goal
 

@@ -1,5 +1,5 @@
 -- `raising::raise_nodes` meets its contract: one turn and the end by the laws of Turns. Assumes nothing.
-use Rattle.std.proofs.Common.{◌-◌, rules}
+use Rattle.std.proofs.Common.{rules}
 use Rattle.raising.proofs.Turns.{nodes_start, nodes-turn, nodes-done}
 use Rattle.raising.proofs.raise_nodes.Goals as goal
 

@@ -1,5 +1,5 @@
 -- `raising::raise_slots` meets its contract: one turn and the end by the laws of Turns. Assumes nothing.
-use Rattle.std.proofs.Common.{◌-◌, rules}
+use Rattle.std.proofs.Common.{rules}
 use Rattle.raising.proofs.Turns.{slots_start, slots-turn, slots-done}
 use Rattle.raising.proofs.raise_slots.Goals as goal
 
