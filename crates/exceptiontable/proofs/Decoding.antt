@@ -2,21 +2,21 @@
 -- Assumes nothing.
 use mathlib.Core.Path.{◌≡◌, refl, sym, ap, subst, ◌∙◌}
 use mathlib.Core.Bool.{Bool, true, false, cond}
-use mathlib.Core.List.{List, [], ◌∷◌, ◌++◌}
+use mathlib.Core.List.{List, [], ◌∷◌}
 use mathlib.Core.Option.{Option, none, some}
 use Prim.Native.Nat.{ℕ, zero, suc, ◌+◌, ◌*◌, ◌/◌, ◌≤◌, ◌<◌}
 use native.Mathlib.Nat.{add-zero, zero-add}
 use native.Mathlib.Omega.{arith}
-use borrow.Author.Tests.{ltb-true, ltb-false, lt-ltb, le-ltb}
+use borrow.Author.Tests.{ltb-false, lt-ltb, le-ltb}
 use lib.Dec.{ltb}
-use lib.ListN.{length, length-append, length-replicate}
+use lib.ListN.{length, length-replicate}
 use lib.Seq.{sets, length-sets}
 use Rattle.refusals.specs.Numbers.{no_room, input_too_long}
 use Rattle.refusals.specs.Limits.{most_bytes}
-use Rattle.clearing.specs.Lent.{zeros, padded}
+use Rattle.clearing.specs.Lent.{zeros}
 use Rattle.clearing.proofs.Laws.{sets-padded}
 use Rattle.exceptiontable.specs.Entry.{Entry, numbers, flat}
-use Rattle.exceptiontable.specs.Reading.{Run, ended, with_entry, go_on, entry_at, run_from, delivered, in_room, decoded_of}
+use Rattle.exceptiontable.specs.Reading.{Run, with_entry, go_on, entry_at, run_from, delivered, in_room, decoded_of}
 use Rattle.exceptiontable.specs.declared.Handler.TheVariants as handler
 use Rattle.exceptiontable.specs.declared.Decoded.{Decoded}
 use Rattle.exceptiontable.specs.declared.Decoded.TheVariants as decoded

@@ -2,17 +2,17 @@
 -- Assumes nothing.
 use mathlib.Core.Path.{◌≡◌, refl, sym, ap, ◌∙◌}
 use mathlib.Core.Bool.{Bool, true, false, cond, ◌&&◌}
-use mathlib.Core.List.{List, [], ◌∷◌, ◌++◌, append-nil}
+use mathlib.Core.List.{List, [], ◌∷◌, ◌++◌}
 use Prim.Native.Nat.{ℕ, zero, suc, ◌+◌, ◌*◌, ◌/◌, ◌-◌, ◌^◌, ◌≤◌, ◌<◌, min}
 use native.Mathlib.Nat.{add-zero, min-le_left}
 use native.Mathlib.Omega.{arith}
-use borrow.Author.Tests.{ltb-true, ltb-false, lt-ltb, le-ltb}
+use borrow.Author.Tests.{ltb-false, lt-ltb, le-ltb}
 use lib.Dec.{ltb}
 use lib.ListN.{length, get_or, set, length-append, length-replicate}
 use lib.Seq.{sets, length-sets}
 use Rattle.refusals.specs.Numbers.{no_room, number_range}
 use Rattle.refusals.specs.Limits.{nothing}
-use Rattle.clearing.specs.Lent.{zeros, padded}
+use Rattle.clearing.specs.Lent.{zeros}
 use Rattle.clearing.proofs.Laws.{sets-padded}
 use Rattle.varint.specs.Writing.{big_endian, big_endian_with_start}
 use Rattle.varint.proofs.Groups.{size}

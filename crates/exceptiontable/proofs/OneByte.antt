@@ -1,15 +1,12 @@
 -- A number of one byte: what it reads as, without a look at any other byte. Assumes nothing.
-use mathlib.Core.Path.{◌≡◌, refl, sym, ap, ◌∙◌}
-use mathlib.Core.Bool.{Bool, true, false, cond}
+use mathlib.Core.Path.{◌≡◌}
 use mathlib.Core.List.{List}
-use Prim.Native.Nat.{ℕ, suc, ◌+◌, ◌*◌, ◌/◌, ◌%◌, ◌^◌, ◌≤◌, ◌<◌}
+use Prim.Native.Nat.{ℕ, ◌+◌, ◌*◌, ◌/◌, ◌%◌, ◌^◌, ◌<◌}
 use native.Mathlib.Omega.{arith}
 use borrow.Author.Tests.{lt-ltb, le-leb, ne_eqb}
-use lib.Dec.{ltb, leb, eqb}
-use lib.ListN.{length, get_or, drop}
+use lib.ListN.{length, get_or}
 use lib.Seq.{drop-cons}
 use Rattle.varintread.specs.Reading.{read_groups, read_varint, read_varint_with_start}
-use Rattle.varintread.specs.declared.Found.{Found}
 use Rattle.varintread.specs.declared.Found.TheVariants as found
 use Rattle.exceptiontable.specs.Reading.{first_number, later_number}
 use Rattle.exceptiontable.specs.declared.Taken.TheVariants as taken

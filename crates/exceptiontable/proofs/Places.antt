@@ -1,9 +1,9 @@
 -- Where a number of a table is refused, and what is known of one that is there: it fits, and ends within the table.
 -- So it is of an entry. Assumes nothing.
-use mathlib.Core.Path.{◌≡◌, refl, sym, ap, ◌∙◌}
+use mathlib.Core.Path.{◌≡◌, refl}
 use mathlib.Core.Bool.{Bool, true, false, cond}
 use mathlib.Core.List.{List}
-use Prim.Native.Nat.{ℕ, ◌+◌, ◌*◌, ◌/◌, ◌%◌, ◌^◌, ◌≤◌, ◌<◌}
+use Prim.Native.Nat.{ℕ, ◌^◌, ◌≤◌, ◌<◌}
 use native.Mathlib.Omega.{arith}
 use borrow.Author.Tests.{ltb-true}
 use lib.Dec.{ltb}
@@ -12,7 +12,6 @@ use Rattle.varintread.specs.Reading.{read_groups, read_varint, read_varint_with_
 use Rattle.varintread.specs.declared.Found.{Found}
 use Rattle.varintread.specs.declared.Found.TheVariants as found
 use Rattle.varintread.proofs.Refusals.{Told, varint_told, with_start_told}
-use Rattle.exceptiontable.specs.Entry.{Entry}
 use Rattle.exceptiontable.specs.Reading.{taken_as, first_number, later_number, and_then, code_from, target_from, size_from, entry_at}
 use Rattle.exceptiontable.specs.Promised.{Fit}
 use Rattle.exceptiontable.specs.declared.Taken.{Taken}

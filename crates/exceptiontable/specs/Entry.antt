@@ -1,7 +1,7 @@
 -- An entry of an exception table, as five numbers, and stores of such entries.
 -- CPython, InternalDocs/exception_handling.md, the format of the table: start, length, target, and depth with lasti; 02, K1: "four big-endian varints an
 -- entry (start, length, target, depth x 2 plus the last-instruction bit)".
-use Rattle.std.specs.Prelude.{ℕ, zero, suc, ◌+◌, ◌*◌, ◌/◌, ◌%◌, List, [], ◌∷◌, ◌++◌, length, get_or}
+use Rattle.std.specs.Prelude.{ℕ, zero, suc, ◌+◌, List, [], ◌∷◌, ◌++◌, get_or}
 
 pub record Entry : Type 0 where
   pub start : ℕ

@@ -1,6 +1,6 @@
 -- What an exception table reads as: 02, K1, over the big-endian varints of `varint`, with K5.
 -- CPython, InternalDocs/exception_handling.md, the format of the table: an entry is four varints, and its first byte has the start bit.
-use Rattle.std.specs.Prelude.{ℕ, zero, suc, ◌+◌, ◌*◌, ◌/◌, ◌%◌, cond, List, [], ◌∷◌, ltb, length}
+use Rattle.std.specs.Prelude.{ℕ, zero, suc, ◌/◌, ◌%◌, cond, List, [], ◌∷◌, ltb, length}
 use Rattle.std.proofs.Math.Option.{Option, none, some}
 use Rattle.refusals.specs.Numbers.{data_too_short, input_too_long, no_room, no_marker}
 use Rattle.refusals.specs.Limits.{most_bytes}

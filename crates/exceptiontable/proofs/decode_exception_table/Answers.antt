@@ -1,7 +1,6 @@
 -- `exceptiontable::decode_exception_table` meets its contract: at each turn the entries still to come make the same answer and store.
 -- Assumes nothing.
 use mathlib.Core.Path.{sym, ◌∙◌}
-use Prim.Native.Nat.{◌-◌}
 use native.Mathlib.Omega.{arith}
 use Rattle.exceptiontable.proofs.Decoding.{decoded_start, decoded_long, decoded_as_lem, decoded_stop, decoded_full, placed, decoded_turn, decoded_end}
 use Rattle.exceptiontable.proofs.decode_exception_table.Goals as goal
@@ -17,40 +16,29 @@ shape_of-entries-in-Refused c = c.clear_words-in-Refused.auto.words ∙ (c.loop-
 
 pub returns-in-Refused : goal.returns-in-Refused
 returns-in-Refused c =
-    let entry = c in
-    let turn = c in
-    let first = turn.before.before in
-    decoded_as_lem _ _ _ first.if1.false first.before.before.before.clear-words.auto.0
-    (decoded_stop turn.before.loop.invariant turn.loop-test.true (sym c.in-Refused.is ∙ c.read_entry.ensures) c.clear_words-in-Refused.ensures)
+    decoded_as_lem _ _ _ c.if-table.false c.clear_words.auto.words
+    (decoded_stop c.loop-at.invariant c.loop-at-test.true (sym c.in-Refused.is ∙ c.read_entry.ensures) c.clear_words-in-Refused.ensures)
 
 pub shape_of-entries-then-entries-count : goal.shape_of-entries-then-entries-count
 shape_of-entries-then-entries-count c = c.clear_words-then-entries-count.auto.words ∙ (c.loop-at.invariant.same ∙ c.clear_words.auto.words)
 
 pub returns-then-entries-count : goal.returns-then-entries-count
 returns-then-entries-count c =
-    let entry = c in
-    let turn = c in
-    let first = turn.before.before in
-    decoded_as_lem _ _ _ first.if1.false first.before.before.before.clear-words.auto.0
-    (decoded_full turn.before.loop.invariant turn.loop-test.true (sym c.in-Whole.is ∙ c.read_entry.ensures) c.if-entries-count.true c.clear_words-then-entries-count.ensures)
+    decoded_as_lem _ _ _ c.if-table.false c.clear_words.auto.words
+    (decoded_full c.loop-at.invariant c.loop-at-test.true (sym c.in-Whole.is ∙ c.read_entry.ensures) c.if-entries-count.true c.clear_words-then-entries-count.ensures)
 
 pub loop-at-smaller : goal.loop-at-smaller
 loop-at-smaller c =
-    let entry = c in
-    let turn = c in
-    let p = placed turn.before.loop.invariant turn.loop-test.true (sym c.in-Whole.is ∙ c.read_entry.ensures) in
+    let p = placed c.loop-at.invariant c.loop-at-test.true (sym c.in-Whole.is ∙ c.read_entry.ensures) in
     omega (arith, p.0, p.1)
 
 pub loop-at-preserved : goal.loop-at-preserved
 loop-at-preserved c =
-    let entry = c in
-    let turn = c in
-    decoded_turn turn.before.loop.invariant turn.loop-test.true (sym c.in-Whole.is ∙ c.read_entry.ensures) c.if-entries-count.false c.store_entry.ensures
+    decoded_turn c.loop-at.invariant c.loop-at-test.true (sym c.in-Whole.is ∙ c.read_entry.ensures) c.if-entries-count.false c.store_entry.ensures
 
 pub shape_of-entries : goal.shape_of-entries
 shape_of-entries c = c.loop-at.invariant.same ∙ c.clear_words.auto.words
 
 pub returns : goal.returns
 returns c =
-    let first = c in
     decoded_as_lem _ _ _ c.if-table.false c.clear_words.auto.words (decoded_end c.loop-at.invariant c.loop-at-test.false)

@@ -7,33 +7,28 @@ use Rattle.exceptiontable.proofs.put_entry.Goals as goal
 
 pub put_varint_with_start-first-requires : goal.put_varint_with_start-first-requires
 put_varint_with_start-first-requires c =
-    let start = c in
     omega (arith, length-bytes (entry_in c.args.entries.now c.args.at), c.requires.3)
 
 pub put_varint_be-second-requires : goal.put_varint_be-second-requires
 put_varint_be-second-requires c =
-    let start = c in
     let first = c.put_varint_with_start-first in
-    omega (arith, length-bytes (entry_in c.args.entries.now c.args.at), c.requires.3, first.ensures.0, first.auto.0)
+    omega (arith, length-bytes (entry_in c.args.entries.now c.args.at), c.requires.3, first.ensures.0, first.auto.out)
 
 pub put_varint_be-third-requires : goal.put_varint_be-third-requires
 put_varint_be-third-requires c =
-    let start = c in
     let first = c.put_varint_with_start-first in
     let second = c.put_varint_be-second in
-    omega (arith, length-bytes (entry_in c.args.entries.now c.args.at), c.requires.3, first.ensures.0, first.auto.0, second.ensures.0, second.auto.0)
+    omega (arith, length-bytes (entry_in c.args.entries.now c.args.at), c.requires.3, first.ensures.0, first.auto.out, second.ensures.0, second.auto.out)
 
 pub put_varint_be-requires : goal.put_varint_be-requires
 put_varint_be-requires c =
-    let start = c in
     let first = c.put_varint_with_start-first in
     let second = c.put_varint_be-second in
     let third = c.put_varint_be-third in
-    omega (arith, length-bytes (entry_in c.args.entries.now c.args.at), c.requires.3, first.ensures.0, first.auto.0, second.ensures.0, second.auto.0, third.ensures.0, third.auto.0)
+    omega (arith, length-bytes (entry_in c.args.entries.now c.args.at), c.requires.3, first.ensures.0, first.auto.out, second.ensures.0, second.auto.out, third.ensures.0, third.auto.out)
 
 pub returns : goal.returns
 returns c =
-    let start = c in
     let e = entry_in c.args.entries.now c.args.at in
     let first = c.put_varint_with_start-first.ensures in
     let second = c.put_varint_be-second.ensures in
