@@ -66,6 +66,7 @@ fn not_a_number() -> f64
 }
 
 // The float that stored bits stand for. Which of the NaNs they are stays with the bits.
+#[tactic(auto, using(crate::proofs::Patterns::no_nan, crate::proofs::Patterns::a_nan))]
 pub fn float_of(bits: u64) -> f64
     ensures { result ≡ of_bits binary64 bits }
 {
