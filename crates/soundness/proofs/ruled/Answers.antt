@@ -10,15 +10,15 @@ use Rattle.soundness.proofs.ruled.Goals as goal
 
 pub returns-then-node-ne0 : goal.returns-then-node-ne0
 unfolding classes class_at
-returns-then-node-ne0 c = rw (c.in-10.is, ne_eqb _ _ c.if-node-ne0.taken)
+returns-then-node-ne0 c = rw (c.in-10.is, ne_eqb _ _ c.if-node-ne0.true)
 
 pub returns-then-node-ne0-2 : goal.returns-then-node-ne0-2
 unfolding classes class_at
-returns-then-node-ne0-2 c = rw (c.in-11.is, ne_eqb _ _ c.if-node-ne0-2.taken)
+returns-then-node-ne0-2 c = rw (c.in-11.is, ne_eqb _ _ c.if-node-ne0-2.true)
 
 pub returns-then-node-gt255 : goal.returns-then-node-gt255
 unfolding classes class_at
-returns-then-node-gt255 c = rw (c.in-11.is, eq-eqb _ _ c.if-node-ne0-2.left, lt-leb _ _ c.if-node-gt255.taken)
+returns-then-node-gt255 c = rw (c.in-11.is, eq-eqb _ _ c.if-node-ne0-2.false, lt-leb _ _ c.if-node-gt255.true)
 
 pub returns-in-9 : goal.returns-in-9
 unfolding classes class_at
@@ -26,14 +26,14 @@ returns-in-9 c = rw c.in-9.is (and-true _)
 
 pub returns-else-node-ne0 : goal.returns-else-node-ne0
 unfolding classes class_at
-returns-else-node-ne0 c = rw (c.in-10.is, eq-eqb _ _ c.if-node-ne0.left) c.well-formed.ensures
+returns-else-node-ne0 c = rw (c.in-10.is, eq-eqb _ _ c.if-node-ne0.false) c.well_formed-in-10.ensures
 
 pub returns-else-node-gt255 : goal.returns-else-node-gt255
 unfolding classes class_at
 returns-else-node-gt255 c =
     rw
-    (c.in-11.is, eq-eqb _ _ c.if-node-ne0-2.left, le-leb _ _ c.if-node-gt255.left)
-    c.well-formed2.ensures
+    (c.in-11.is, eq-eqb _ _ c.if-node-ne0-2.false, le-leb _ _ c.if-node-gt255.false)
+    c.well_formed-in-11.ensures
 
 pub returns-in-12 : goal.returns-in-12
 unfolding classes class_at

@@ -39,7 +39,7 @@ returns c =
     let s = c.args.s.now in
     let n = node_of c.args.node in
     rw (le-leb _ _ c.if-s-node.false)
-    (c.well-formed-2.ensures
+    (c.well_formed-2.ensures
     ∙ sym (text-ruled s n c.requires.1
     ∙ ap (λ b. b && cond (too_long n.letter n.size) false (well_formed (contents s n.place n.size))) (eq-eqb n.count 0 c.if-node-ne0.false)
     ∙ ap (λ b. cond b false (well_formed (contents s n.place n.size))) (sym c.too_long.ensures ∙ c.if-too_long.false)))

@@ -16,9 +16,3 @@ returns-in-122 c = rw (lt-leb _ 255 c.if-size-le255.false) (sym (ap (λ l. among
 
 pub returns-in-90 : goal.returns-in-90
 returns-in-90 c = rw (lt-leb _ 255 c.if-size-le255.false) (sym (ap (λ l. among l (0x7A ∷ 0x5A ∷ [])) c.in-90.is))
-
-pub returns-in_default : goal.returns-in_default
-returns-in_default c =
-    let l = c.args.letter in
-    rw (lt-leb _ 255 c.if-size-le255.false)
-    (sym (ap (λ b. cond b true (cond (eqb l 0x5A) true false)) (ne_eqb l 0x7A c.in_default.rest.0.1) ∙ ap (λ b. cond b true false) (ne_eqb l 0x5A c.in_default.rest.1)))
