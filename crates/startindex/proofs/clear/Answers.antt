@@ -1,6 +1,5 @@
 -- `startindex::clear` meets its contract: the laws on a store that is cleared from the front carry it. Assumes nothing.
 use mathlib.Core.Path.{refl}
-use Prim.Native.Nat.{◌-◌}
 use native.Mathlib.Omega.{arith}
 use Rattle.clearing.proofs.Laws.{cleared_more, cleared_all}
 use Rattle.startindex.proofs.clear.Goals as goal

@@ -1,7 +1,6 @@
 -- `startindex::put_block` meets its contract: what is left to store still comes to the same block, and the sum is the count so far.
 -- Assumes nothing.
 use mathlib.Core.Path.{◌∙◌}
-use Prim.Native.Nat.{◌-◌}
 use native.Mathlib.Omega.{arith}
 use lib.ListN.{length-set}
 use Rattle.startindex.proofs.Blocks.{filling_none, filling_small, filling_more, filling_all, block-stored}

@@ -1,6 +1,5 @@
 -- `startindex::put_blocks` meets its contract: what is left to store still comes to the same index, and the total is the count so far.
 -- Assumes nothing.
-use Prim.Native.Nat.{◌-◌}
 use native.Mathlib.Omega.{arith}
 use Rattle.startindex.proofs.Blocks.{laying_none, laying_before, laying_total, laying_more, laying_all}
 use Rattle.startindex.proofs.put_blocks.Goals as goal

@@ -1,5 +1,4 @@
 -- `startindex::word_of` meets its contract: what is made so far is the word of the instructions behind. Assumes nothing.
-use Prim.Native.Nat.{◌-◌}
 use Rattle.startindex.proofs.Words.{making_none, making_fits, making_more, making_all}
 use borrow.Author.Rules.{rules}
 use Rattle.startindex.proofs.word_of.Goals as goal
