@@ -1,5 +1,5 @@
 -- The answers of the two questions, case by case, from what the calls before them told. Assumes nothing.
-use Rattle.std.proofs.Common.{◌≡◌, ℕ, ◌+◌, ◌-◌, ◌*◌, ◌/◌, ◌%◌, ◌^◌, ◌<◌, ◌≤◌, List, length, get_or, sym, refl, ap, ◌∙◌, arith, le-ltb, lt-ltb}
+use Rattle.std.proofs.Common.{◌≡◌, ℕ, ◌+◌, ◌-◌, ◌*◌, ◌/◌, ◌%◌, ◌^◌, ◌<◌, ◌≤◌, List, length, get_or, ◌∙◌, arith, le-ltb, lt-ltb}
 use lib.Count.{ones}
 use Rattle.refusals.specs.Numbers.{accepted, no_room, no_such_start}
 use Rattle.startindex.specs.Index.{blocks_of, need}

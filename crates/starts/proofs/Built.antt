@@ -1,11 +1,11 @@
 -- The words of an index that was built, and the first question of it: the sum is the count over the records. Assumes nothing.
-use Rattle.std.proofs.Common.{◌≡◌, ℕ, zero, suc, ◌+◌, ◌-◌, ◌*◌, ◌/◌, ◌%◌, ◌^◌, ◌<◌, ◌≤◌, min, List, [], ◌∷◌, ◌++◌, length, get_or, sym, refl, ap, ◌∙◌, lt_of_lt_of_le, add-zero, mod-eq_of_lt, pow-suc, zero-add, arith, lit<, lit≤, get_or-append-add, pow_pos}
+use Rattle.std.proofs.Common.{◌≡◌, ℕ, zero, suc, ◌+◌, ◌-◌, ◌*◌, ◌/◌, ◌%◌, ◌^◌, ◌<◌, ◌≤◌, min, List, ◌++◌, length, get_or, sym, refl, ap, ◌∙◌, lt_of_lt_of_le, add-zero, mod-eq_of_lt, pow-suc, zero-add, arith, lit≤, get_or-append-add, pow_pos}
 use native.Mathlib.Nat.{mod-one}
 use lib.ListN.{get_or-append}
 use lib.Arith.{mod-mul}
 use lib.Count.{ones}
 use Rattle.clearing.specs.Lent.{zeros, padded}
-use Rattle.startindex.specs.Starts.{is_start, bit, starts_in}
+use Rattle.startindex.specs.Starts.{starts_in}
 use Rattle.startindex.specs.Index.{word_of, words, block, blocks, blocks_of, need, built}
 use Rattle.startindex.proofs.Counts.{starts-append, starts_le, ones_word, word_low, word_rest}
 use Rattle.startindex.proofs.Blocks.{length-block, length-blocks}

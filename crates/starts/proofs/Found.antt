@@ -1,14 +1,13 @@
 -- The second question of an index that was built: the bisection and one block find the k-th start of the records. Assumes nothing.
-use Rattle.std.proofs.Common.{◌≡◌, ℕ, zero, suc, ◌+◌, ◌-◌, ◌*◌, ◌/◌, ◌<◌, ◌≤◌, min, Bool, true, false, cond, ltb, leb, ◌⊎◌, List, get_or, sym, refl, ap, ◌∙◌, inl, inr, add-zero, zero-add, arith, ltb-false, ltb-true, le-ltb, lt-ltb, le-leb, leb-false, leb-true}
+use Rattle.std.proofs.Common.{◌≡◌, ℕ, zero, suc, ◌+◌, ◌-◌, ◌*◌, ◌/◌, ◌<◌, ◌≤◌, min, Bool, true, false, cond, ltb, leb, ◌⊎◌, List, get_or, sym, refl, ap, ◌∙◌, inl, inr, zero-add, arith, ltb-false, ltb-true, le-ltb, lt-ltb, leb-false, leb-true}
 use mathlib.Core.Option.{Option, none, some}
 use lib.Count.{ones}
-use borrow.Author.Tests.{lt-leb}
 use Rattle.startindex.specs.Starts.{starts_in, kth_start}
 use Rattle.startindex.specs.Index.{word_of, blocks_of, need}
 use Rattle.startindex.proofs.Counts.{starts-append, ones_word}
 use Rattle.starts.specs.declared.Spot.{Spot}
 use Rattle.starts.specs.declared.Spot.TheVariants.{Missing, At}
-use Rattle.starts.specs.Questions.{total_of, first_word, bisect, block_with, kth_bit, kth_of, in_count, kth_in, kth}
+use Rattle.starts.specs.Questions.{total_of, first_word, bisect, block_with, kth_bit, kth_of, in_count, kth}
 use Rattle.starts.specs.Promised.{spot, index_of}
 use Rattle.starts.proofs.Built.{total_cell, bits_cell}
 use Rattle.starts.proofs.Kth.{kth_zero, kth_empty, kth-within, kth-behind, kth-inverts, bit_found}

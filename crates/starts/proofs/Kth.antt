@@ -1,17 +1,12 @@
 -- The k-th start over the records: how it splits, that it inverts the count, and that a block of an index that was built finds it.
 -- Assumes nothing.
-use Rattle.std.proofs.Common.{◌≡◌, ℕ, zero, suc, ◌+◌, ◌-◌, ◌*◌, ◌/◌, ◌%◌, ◌<◌, ◌≤◌, min, Bool, true, false, cond, eqb, ltb, leb, List, get_or, sym, refl, ap, ◌∙◌, add-zero, zero-add, arith, ltb-false, ltb-true, le-ltb, lt-ltb, eq-eqb, ne_eqb, eqb-true, le-leb, leb-false, leb-true}
-use mathlib.Core.Option.{Option, none, some}
-use lib.Count.{ones}
-use borrow.Author.Tests.{lt-leb, eqb-false}
+use Rattle.std.proofs.Common.{◌≡◌, ℕ, zero, suc, ◌+◌, ◌-◌, ◌<◌, ◌≤◌, Bool, true, false, cond, eqb, List, sym, refl, ap, ◌∙◌, add-zero, zero-add, arith, eq-eqb, ne_eqb, eqb-true}
+use mathlib.Core.Option.{none, some}
+use borrow.Author.Tests.{eqb-false}
 use Rattle.startindex.specs.Starts.{is_start, bit, starts_in, kth_start}
-use Rattle.startindex.specs.Index.{word_of, blocks_of, need}
-use Rattle.startindex.proofs.Counts.{bit_le, starts-append, starts_le, ones_word, word_low, word_rest}
-use Rattle.starts.specs.declared.Spot.{Spot}
-use Rattle.starts.specs.declared.Spot.TheVariants.{Missing, At}
-use Rattle.starts.specs.Questions.{total_of, first_word, bisect, block_with, kth_bit, kth_of, in_count, kth}
-use Rattle.starts.specs.Promised.{spot, index_of}
-use Rattle.starts.proofs.Built.{total_cell, bits_cell}
+use Rattle.startindex.specs.Index.{word_of}
+use Rattle.startindex.proofs.Counts.{word_low, word_rest}
+use Rattle.starts.specs.Questions.{kth_bit}
 
 -- ---- over the records
 

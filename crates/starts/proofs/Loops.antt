@@ -1,9 +1,8 @@
 -- The four loops of the questions: a sum of ones, the bisection, a word's bits and a block's words. Each invariant says that what is left still
 -- comes to the same answer. Assumes nothing.
-use Rattle.std.proofs.Common.{◌≡◌, ℕ, zero, suc, ◌+◌, ◌-◌, ◌*◌, ◌/◌, ◌%◌, ◌<◌, ◌≤◌, Bool, true, false, cond, eqb, ltb, leb, List, length, get_or, sym, refl, ap, ◌∙◌, add-zero, zero-add, arith, le-ltb, lt-ltb, eq-eqb, ne_eqb, le-leb}
+use Rattle.std.proofs.Common.{◌≡◌, ℕ, zero, suc, ◌+◌, ◌-◌, ◌*◌, ◌/◌, ◌%◌, ◌<◌, ◌≤◌, cond, eqb, ltb, leb, List, get_or, sym, refl, ap, ◌∙◌, add-zero, zero-add, arith, le-ltb, lt-ltb, eq-eqb, ne_eqb, le-leb}
 use lib.Count.{ones}
 use borrow.Author.Tests.{lt-leb}
-use Rattle.starts.specs.declared.Spot.{Spot}
 use Rattle.starts.specs.declared.Spot.TheVariants.{Missing, At}
 use Rattle.starts.specs.Questions.{total_of, ones_of, bisect, block_with, kth_bit, kth_of}
 

@@ -1,6 +1,6 @@
 -- What 02's K4 promises of an index that was built holds: the sum, the search and the count over the records, put together. Assumes nothing.
-use Rattle.std.proofs.Common.{◌≡◌, ℕ, zero, suc, ◌+◌, ◌-◌, ◌<◌, true, List, sym, ap, ◌∙◌, arith}
-use mathlib.Core.Option.{Option, none, some}
+use Rattle.std.proofs.Common.{◌≡◌, ℕ, zero, suc, ◌+◌, ◌-◌, ◌<◌, true, List, arith}
+use mathlib.Core.Option.{some}
 use Rattle.startindex.specs.Starts.{is_start, starts_in, kth_start}
 use Rattle.starts.specs.Promised.{Promised}
 use Rattle.starts.proofs.Built.{before-counts}

@@ -1,5 +1,4 @@
 -- `starts::block_with` meets its contract: what is left to bisect still comes to the same block. Assumes nothing.
-use Rattle.std.proofs.Common.{◌-◌}
 use Rattle.starts.proofs.Loops.{seeking_none, seeking_up, seeking_down, seeking_all}
 use Rattle.starts.proofs.block_with.Goals as goal
 

@@ -1,5 +1,4 @@
 -- `starts::kth_bit` meets its contract: what is left to count still comes to the same bit. Assumes nothing.
-use Rattle.std.proofs.Common.{◌-◌}
 use Rattle.starts.proofs.Loops.{counting_none, counting_more, counting-found, counting_all}
 use Rattle.starts.proofs.kth_bit.Goals as goal
 

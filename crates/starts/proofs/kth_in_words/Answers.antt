@@ -1,5 +1,4 @@
 -- `starts::kth_in_words` meets its contract: what is left to search still comes to the same answer. Assumes nothing.
-use Rattle.std.proofs.Common.{◌-◌}
 use Rattle.starts.proofs.Loops.{searching_none, searching_more, searching_found, searching_all}
 use Rattle.starts.proofs.kth_in_words.Goals as goal
 

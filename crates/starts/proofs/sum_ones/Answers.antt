@@ -1,5 +1,4 @@
 -- `starts::sum_ones` meets its contract: what is left to add still comes to the same sum. Assumes nothing.
-use Rattle.std.proofs.Common.{◌-◌}
 use Rattle.starts.proofs.Loops.{summing_none, summing_more, summing_all}
 use Rattle.starts.proofs.sum_ones.Goals as goal
 
