@@ -147,7 +147,7 @@ abbrev pub looked_as : Tables → ℕ → List ℕ → Class → Looked
 looked_as t n vs refers = faulty n
 looked_as t n vs (refuses number) = faulty n
 looked_as t n vs (keeps form) = holds vs
-looked_as t n vs (contains sort) = holds vs
+looked_as t n vs (contains which) = holds vs
 looked_as t n vs codes = judged n vs (or_else (bad_part t rules vs) (bad_end t n vs))
 
 abbrev pub looked_of : Tables → ℕ → Option (List ℕ) → Looked
