@@ -1,10 +1,10 @@
 -- 02, K2: "in a line table a varint's value must be under 2^32. .. 18 at the entry, met before a seventh byte." Seven tables of one entry with a
 -- line step of six or seven bytes, from line 10, by computation; the third's step is 2^32 - 1, half of it backwards.
 use mathlib.Core.Path.{◌≡◌, refl}
-use mathlib.Core.Bool.{true, false}
+use mathlib.Core.Bool.{false}
 use mathlib.Core.List.{List, [], ◌∷◌}
 use Prim.Native.Nat.{ℕ}
-use lib.IntN.{ℤ, pos}
+use lib.IntN.{pos}
 use Rattle.refusals.specs.Numbers.{number_range}
 use Rattle.lineentry.specs.declared.Varint.TheVariants.{Value}
 use Rattle.lineentry.specs.Varint.{varint_within, varint_at, signed_at}

@@ -1,31 +1,30 @@
 -- THEOREM of 02's K6, the other way: an entry of which every continuation refuses is lost by the test. An end-line step that is cut
 -- within five bytes is healed by a high digit.
-use mathlib.Core.Path.{◌≡◌, refl, sym, ap, subst, ◌∙◌}
+use mathlib.Core.Path.{◌≡◌, refl, sym, ap, ◌∙◌}
 use mathlib.Core.Bool.{Bool, true, false, cond, not, ◌&&◌}
 use mathlib.Core.List.{List, [], ◌∷◌, ◌++◌, append-nil}
 use Prim.Native.Nat.{ℕ, zero, suc, ◌+◌, ◌-◌, ◌*◌, ◌/◌, ◌%◌, ◌≤◌, ◌<◌}
 use native.Mathlib.Omega.{arith}
-use lib.ListN.{length, drop, get_or, length-append, length-drop, get_or-append}
+use lib.ListN.{length, drop, get_or, length-append, get_or-append}
 use lib.Seq.{drop-append-le}
-use lib.Dec.{leb, ltb, eqb}
-use borrow.Author.Tests.{lt-ltb, le-ltb, ltb-true, ltb-false, eqb-true, eqb-false, eq-eqb, ne_eqb, not-true, not-false}
+use lib.Dec.{ltb, eqb}
+use borrow.Author.Tests.{lt-ltb, le-ltb, ltb-true, eqb-true}
 use Rattle.lineentry.specs.declared.Varint.{Varint}
 use Rattle.lineentry.specs.declared.Varint.TheVariants.{Value, TooLong}
 use Rattle.lineentry.specs.declared.Moved.{Moved}
 use Rattle.lineentry.specs.declared.Moved.TheVariants.{To, Outside}
 use Rattle.lineentry.specs.declared.Span.{Span}
-use Rattle.lineentry.specs.declared.Entry.{Entry}
 use Rattle.lineentry.specs.declared.Entry.TheVariants.{Covers, Stop, OutOfRange}
-use Rattle.lineentry.specs.Varint.{more, digits, number, cut, varint_at, signed_of, signed_at}
+use Rattle.lineentry.specs.Varint.{digits, number, cut, varint_at, signed_of}
 use Rattle.lineentry.specs.Line.{origin, moved, as_signed, shown}
 use Rattle.lineentry.specs.Entry.{location, long_columns, long_form, by_code, entry_at}
 use Rattle.lineentry.proofs.Entries.{refused-inside}
 use Rattle.lineentry.proofs.Varints.{varint_end}
-use Rattle.rows.proofs.Local.{never, Parsed, parsed, parses}
-use Rattle.rows.proofs.Extent.{Ran, ran, signed_at_lem, entry-code}
+use Rattle.rows.proofs.Local.{never, parsed, parses}
+use Rattle.rows.proofs.Extent.{ran, signed_at_lem, entry-code}
 use Rattle.lostentry.proofs.Grows.{digits_onto, whole_stays, outside_above, moved_to, to_lt}
-use Rattle.lostentry.proofs.Losing.{covered, stopped, columns_end, line_out, steps, ends, and_split, entry-keeps}
-use Rattle.lostentry.specs.Lost.{Lost, refuses, in_range, cut_early, end_open, may_heal, lost}
+use Rattle.lostentry.proofs.Losing.{covered, stopped, columns_end, line_out, ends, and_split}
+use Rattle.lostentry.specs.Lost.{Lost, in_range, cut_early, end_open, may_heal, lost}
 
 -- ---- digits that fill a number up to six: zeros, and 3 as the sixth
 abbrev pad : ℕ → List ℕ

@@ -1,12 +1,12 @@
 -- THEOREM of 02's K6: what the test calls lost is refused with every continuation, and nothing else is.
-use mathlib.Core.Path.{◌≡◌, refl, sym, ap, subst, ◌∙◌}
+use mathlib.Core.Path.{◌≡◌, refl, sym, ap, ◌∙◌}
 use mathlib.Core.Bool.{Bool, true, false, cond, not, ◌&&◌}
 use mathlib.Core.List.{List, [], ◌∷◌, ◌++◌, append-nil}
-use Prim.Native.Nat.{ℕ, zero, suc, ◌+◌, ◌-◌, ◌*◌, ◌/◌, ◌%◌, ◌≤◌, ◌<◌}
+use Prim.Native.Nat.{ℕ, ◌+◌, ◌-◌, ◌/◌, ◌%◌, ◌≤◌, ◌<◌}
 use native.Mathlib.Omega.{arith}
-use lib.ListN.{length, drop, get_or, length-append, get_or-append}
-use lib.Dec.{leb, ltb, eqb}
-use borrow.Author.Tests.{lt-ltb, le-ltb, ltb-true, ltb-false, eqb-true, eqb-false, eq-eqb, ne_eqb, not-true, not-false}
+use lib.ListN.{length, get_or, length-append, get_or-append}
+use lib.Dec.{ltb, eqb}
+use borrow.Author.Tests.{ltb-false, not-true}
 use Rattle.lineentry.specs.declared.Varint.{Varint}
 use Rattle.lineentry.specs.declared.Varint.TheVariants.{Value, TooLong}
 use Rattle.lineentry.specs.declared.Moved.{Moved}
@@ -14,14 +14,14 @@ use Rattle.lineentry.specs.declared.Moved.TheVariants.{To, Outside}
 use Rattle.lineentry.specs.declared.Span.{Span}
 use Rattle.lineentry.specs.declared.Entry.{Entry}
 use Rattle.lineentry.specs.declared.Entry.TheVariants.{Covers, Stop, OutOfRange}
-use Rattle.lineentry.specs.Varint.{digits, number, cut, varint_at, signed_of, signed_at}
+use Rattle.lineentry.specs.Varint.{varint_at, signed_of}
 use Rattle.lineentry.specs.Line.{origin, moved, as_signed}
 use Rattle.lineentry.specs.Entry.{with_number, with_line, at_line, covers, short_form, one_line, no_columns, long_columns, long_form, by_code, entry_at}
 use Rattle.lineentry.proofs.Entries.{refused-inside}
 use Rattle.lineentry.proofs.Varints.{varint_end}
 use Rattle.rows.proofs.Local.{never}
-use Rattle.rows.proofs.Extent.{Ran, ran, signed_at_lem, entry-code}
-use Rattle.lostentry.proofs.Grows.{long_stays, whole_stays, Grown, cut_grows, full_long, outside_above, moved_to, to_lt, out_stays}
+use Rattle.rows.proofs.Extent.{ran, signed_at_lem, entry-code}
+use Rattle.lostentry.proofs.Grows.{long_stays, whole_stays, Grown, cut_grows, full_long, moved_to, to_lt, out_stays}
 use Rattle.lostentry.specs.Lost.{Lost, refuses, in_range, cut_early, end_open, may_heal, lost}
 
 pub covered : {A : Type 0} {e : Span} → Covers e ≡ OutOfRange → A

@@ -4,23 +4,20 @@ use mathlib.Core.Path.{◌≡◌, refl, sym, ap, subst, ◌∙◌}
 use mathlib.Core.Bool.{Bool, true, false, cond}
 use mathlib.Core.List.{List, [], ◌∷◌, ◌++◌, map, append_assoc, append-nil}
 use Prim.Native.Nat.{ℕ, zero, suc, ◌+◌, ◌-◌, ◌≤◌, ◌<◌}
-use native.Mathlib.Nat.{add_assoc}
 use native.Mathlib.Omega.{arith}
 use lib.ListN.{length, replicate}
 use lib.Dec.{leb, ltb, eqb}
 use borrow.Author.Tests.{leb-true, leb-false, eqb-true, eqb-false, ltb-true, ltb-false, lt-ltb, le-ltb}
-use Rattle.lineentry.specs.declared.Location.{Location}
 use Rattle.lineentry.specs.declared.Span.{Span}
 use Rattle.lineentry.specs.declared.Entry.{Entry}
 use Rattle.lineentry.specs.declared.Entry.TheVariants.{Covers, Stop, OutOfRange}
 use Rattle.lineentry.specs.Entry.{entry_at}
 use Rattle.lineentry.proofs.Entries.{entry-places, entry_past}
-use Rattle.linetable.specs.Complete.{Complete, here, entry}
-use Rattle.rows.proofs.Local.{never, Same, narrow}
+use Rattle.rows.proofs.Local.{Same, narrow}
 use Rattle.rows.proofs.Extent.{entry_runs, entry_local}
 use Rattle.rows.proofs.Shift.{shift_entry, entry-shift}
 use Rattle.rows.proofs.Turns.{from_cut, from_on, from_past, row-none, row-entry}
-use Rattle.rows.specs.Row.{shift_span, Ending, placed_all, table_end, stop_byte, cut_short, out_of_range, past_count, Row, alone, before, no_entry, from_entry, row, Chain, Ends, Rowed, total, locations, line_after, place_after}
+use Rattle.rows.specs.Row.{shift_span, Ending, placed_all, table_end, stop_byte, cut_short, out_of_range, past_count, Row, alone, before, from_entry, row, Chain, Ends, Rowed, total, locations, line_after, place_after}
 
 -- ---- where they end
 pub chain-from : (s : List ℕ) (line p : ℕ) (es : List Span) → Chain s line p es → p ≤ place_after p es

@@ -1,15 +1,13 @@
 -- An entry: where its bytes end, and that a complete one is a matter of its own bytes only. A relation by clauses on the entry, with a law each
 -- for a number, a line and a test, of which each form of entry is composed.
-use mathlib.Core.Path.{◌≡◌, refl, sym, ap, subst, ◌∙◌}
-use mathlib.Core.Bool.{Bool, true, false, cond, ◌&&◌}
-use mathlib.Core.List.{List, [], ◌∷◌, ◌++◌}
-use Prim.Native.Nat.{ℕ, zero, suc, ◌+◌, ◌-◌, ◌*◌, ◌/◌, ◌%◌, ◌^◌, ◌≤◌, ◌<◌}
+use mathlib.Core.Path.{◌≡◌, refl, sym, subst, ◌∙◌}
+use mathlib.Core.Bool.{Bool, true, false, cond}
+use mathlib.Core.List.{List}
+use Prim.Native.Nat.{ℕ, ◌+◌, ◌-◌, ◌/◌, ◌%◌, ◌≤◌, ◌<◌}
 use native.Mathlib.Omega.{arith}
-use lib.ListN.{length, drop, get_or, length-append, length-drop, get_or-append}
-use lib.Seq.{drop-append-add, get_or-drop}
-use lib.Dec.{leb, ltb, eqb}
-use borrow.Author.Tests.{le-ltb, lt-ltb, le-leb, ltb-true, ltb-false, leb-true, leb-false}
-use Rattle.lineentry.specs.declared.Byte.{Byte}
+use lib.ListN.{length, drop, get_or, length-drop}
+use lib.Dec.{ltb, eqb}
+use borrow.Author.Tests.{lt-ltb, ltb-true, ltb-false}
 use Rattle.lineentry.specs.declared.Varint.{Varint}
 use Rattle.lineentry.specs.declared.Varint.TheVariants.{Value, TooLong}
 use Rattle.lineentry.specs.declared.Moved.{Moved}
@@ -17,12 +15,12 @@ use Rattle.lineentry.specs.declared.Moved.TheVariants.{To, Outside}
 use Rattle.lineentry.specs.declared.Span.{Span}
 use Rattle.lineentry.specs.declared.Entry.{Entry}
 use Rattle.lineentry.specs.declared.Entry.TheVariants.{Covers, Stop, OutOfRange}
-use Rattle.lineentry.specs.Varint.{byte_at, more, digits, number, cut, varint_within, varint_at, signed, signed_of, signed_at}
+use Rattle.lineentry.specs.Varint.{byte_at, varint_at, signed, signed_of, signed_at}
 use Rattle.lineentry.specs.Line.{origin, moved, as_signed}
 use Rattle.lineentry.specs.Entry.{with_number, with_line, short_form, one_line, no_columns, long_columns, long_form, by_code, entry_of, entry_at}
 use Rattle.lineentry.proofs.Entries.{covers-inside}
 use Rattle.lineentry.proofs.Varints.{varint_end}
-use Rattle.rows.proofs.Local.{never, digits_le, cut-end, Parsed, parsed, Same, narrow, varint_local}
+use Rattle.rows.proofs.Local.{never, digits_le, cut-end, parsed, Same, narrow, varint_local}
 
 -- ---- where an entry ends, its bytes beginning at p
 pub record Runs (s : List ℕ) (p : ℕ) (e : Span) : Type 0 where

@@ -1,7 +1,7 @@
 -- The loop of `walk_row`: the summary of the whole table is that of the rest, after what was met.
 use mathlib.Core.Path.{◌≡◌, refl, sym, ap, ◌∙◌}
 use mathlib.Core.Bool.{Bool, true, false}
-use mathlib.Core.List.{List, [], ◌∷◌}
+use mathlib.Core.List.{List}
 use Prim.Native.Nat.{ℕ, ◌+◌, ◌-◌, ◌≤◌, ◌<◌}
 use native.Mathlib.Omega.{arith}
 use lib.ListN.{length}
@@ -11,10 +11,9 @@ use Rattle.lineentry.specs.declared.Span.{Span}
 use Rattle.lineentry.specs.declared.Entry.TheVariants.{Covers, Stop, OutOfRange}
 use Rattle.lineentry.specs.Entry.{entry_at}
 use Rattle.lineentry.proofs.Entries.{entry-places}
-use Rattle.rows.specs.Row.{Ending, placed_all, table_end, stop_byte, cut_short, out_of_range, past_count, Row, before, from_entry, row, Ends, line_after, place_after, total}
+use Rattle.rows.specs.Row.{Ending, placed_all, table_end, stop_byte, cut_short, out_of_range, past_count, from_entry, row, Ends}
 use Rattle.rows.proofs.Turns.{row-entry, from_on}
 use Rattle.rows.proofs.Chains.{row_ends}
-use Rattle.rows.specs.declared.RowEnd.{RowEnd}
 use Rattle.rows.specs.Summary.{how_of, kept_to, row_end, summary_of, summary}
 
 pub record Going (s : List ℕ) (first count line at left entries : ℕ) : Type 0 where

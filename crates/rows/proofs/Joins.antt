@@ -1,21 +1,15 @@
 -- Whole tables one behind another are a whole table, and what is whole by its entries is linetable's `Complete`.
 use mathlib.Core.Path.{◌≡◌, refl, sym, ap, subst, ◌∙◌}
-use mathlib.Core.Bool.{Bool, true, false, cond, ◌&&◌}
-use mathlib.Core.List.{List, [], ◌∷◌, ◌++◌, map, append_assoc, append-nil}
-use Prim.Native.Nat.{ℕ, zero, suc, ◌+◌, ◌-◌, ◌≤◌, ◌<◌}
-use native.Mathlib.Nat.{add_assoc, add-zero}
+use mathlib.Core.List.{List, [], ◌∷◌, ◌++◌, map}
+use Prim.Native.Nat.{ℕ, ◌+◌, ◌≤◌}
 use native.Mathlib.Omega.{arith}
 use lib.ListN.{length, length-append, get_or-append}
-use lib.Dec.{ltb, eqb}
-use borrow.Author.Tests.{eqb-true, eq-eqb, ltb-false, le-ltb}
-use Rattle.refusals.specs.Numbers.{input_too_long}
-use Rattle.refusals.specs.Limits.{most_bytes}
 use Rattle.lineentry.specs.declared.Location.{Location}
 use Rattle.lineentry.specs.declared.Span.{Span}
 use Rattle.linetable.specs.Complete.{Complete, here, entry}
-use Rattle.rows.proofs.Local.{never, Same}
-use Rattle.rows.proofs.Chains.{chain_local, chain-shift, chain-append, place-shift, line_shifted, total-shift, locations-shift, place-append, line-append, total-append, locations-append, row_is, rowed}
-use Rattle.rows.specs.Row.{shift_span, Ending, placed_all, table_end, stop_byte, cut_short, out_of_range, past_count, Row, alone, row, Chain, Ends, Rowed, total, locations, line_after, place_after}
+use Rattle.rows.proofs.Local.{Same}
+use Rattle.rows.proofs.Chains.{chain_local, chain-shift, chain-append, place-shift, line_shifted, total-shift, locations-shift, place-append, line-append, total-append, locations-append, row_is}
+use Rattle.rows.specs.Row.{shift_span, placed_all, row, Chain, total, locations, line_after, place_after}
 use Rattle.rows.specs.Spells.{Spells}
 
 pub same_append : (s t : List ℕ) (k : ℕ) → k ≤ length s → Same s (s ++ t) 0 k

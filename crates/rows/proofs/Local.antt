@@ -1,26 +1,15 @@
 -- A number in a line table: its digits, where they end, and that it is a matter of its own bytes only, wherever they stand.
 use mathlib.Core.Path.{◌≡◌, refl, sym, ap, subst, ◌∙◌}
 use mathlib.Core.Bool.{Bool, true, false, cond, ◌&&◌}
-use mathlib.Core.List.{List, [], ◌∷◌, ◌++◌}
-use Prim.Native.Nat.{ℕ, zero, suc, ◌+◌, ◌-◌, ◌*◌, ◌/◌, ◌%◌, ◌^◌, ◌≤◌, ◌<◌}
+use mathlib.Core.List.{List, [], ◌∷◌}
+use Prim.Native.Nat.{ℕ, suc, ◌+◌, ◌≤◌, ◌<◌}
 use native.Mathlib.Omega.{arith}
-use lib.ListN.{length, drop, get_or, length-append, length-drop, get_or-append}
-use lib.Seq.{drop-append-add, get_or-drop}
-use lib.Dec.{leb, ltb, eqb}
-use borrow.Author.Tests.{le-ltb, lt-ltb, le-leb, ltb-true, ltb-false, leb-true, leb-false}
-use Rattle.lineentry.specs.declared.Byte.{Byte}
-use Rattle.lineentry.specs.declared.Varint.{Varint}
+use lib.ListN.{length, drop, get_or, length-drop}
+use lib.Seq.{get_or-drop}
+use lib.Dec.{leb, ltb}
+use borrow.Author.Tests.{lt-ltb, le-leb, ltb-true, leb-true}
 use Rattle.lineentry.specs.declared.Varint.TheVariants.{Value, TooLong}
-use Rattle.lineentry.specs.declared.Moved.{Moved}
-use Rattle.lineentry.specs.declared.Moved.TheVariants.{To, Outside}
-use Rattle.lineentry.specs.declared.Span.{Span}
-use Rattle.lineentry.specs.declared.Entry.{Entry}
-use Rattle.lineentry.specs.declared.Entry.TheVariants.{Covers, Stop, OutOfRange}
-use Rattle.lineentry.specs.Varint.{byte_at, more, digits, number, cut, varint_within, varint_at, signed, signed_of, signed_at}
-use Rattle.lineentry.specs.Line.{origin, moved, as_signed}
-use Rattle.lineentry.specs.Entry.{with_number, with_line, short_form, one_line, no_columns, long_columns, long_form, by_code, entry_of, entry_at}
-use Rattle.lineentry.proofs.Entries.{covers-inside}
-use Rattle.lineentry.proofs.Varints.{varint_end}
+use Rattle.lineentry.specs.Varint.{more, digits, number, cut, varint_within, varint_at}
 
 pub never : {A : Type 0} → true ≡ false → A
 never e = let z : ◌≡◌ {A = ℕ} 1 0 = ap (λ c. cond c 1 0) e in absurd (omega arith)

@@ -1,12 +1,12 @@
 -- An entry behind other bytes, which is the same entry so many bytes further on, and an entry for another number of instructions, which is the
 -- same but for that. Equations, form by form.
-use mathlib.Core.Path.{◌≡◌, refl, sym, ap, subst, ◌∙◌}
+use mathlib.Core.Path.{◌≡◌, refl, ap}
 use mathlib.Core.Bool.{Bool, true, false, cond, ◌&&◌}
-use mathlib.Core.List.{List, [], ◌∷◌, ◌++◌}
-use Prim.Native.Nat.{ℕ, zero, suc, ◌+◌, ◌-◌, ◌*◌, ◌/◌, ◌%◌, ◌^◌, ◌≤◌, ◌<◌}
+use mathlib.Core.List.{List, ◌++◌}
+use Prim.Native.Nat.{ℕ, ◌+◌, ◌-◌, ◌/◌, ◌%◌, ◌≤◌, ◌<◌}
 use native.Mathlib.Nat.{add_assoc}
 use native.Mathlib.Omega.{arith}
-use lib.ListN.{length, drop, get_or, length-append}
+use lib.ListN.{length, drop, length-append}
 use lib.Seq.{drop-append-add, get_or-append-add}
 use lib.Dec.{leb, ltb, eqb}
 use borrow.Author.Tests.{le-ltb, lt-ltb, ltb-true, ltb-false}
@@ -18,7 +18,7 @@ use Rattle.lineentry.specs.declared.Moved.TheVariants.{To, Outside}
 use Rattle.lineentry.specs.declared.Span.{Span}
 use Rattle.lineentry.specs.declared.Entry.{Entry}
 use Rattle.lineentry.specs.declared.Entry.TheVariants.{Covers, Stop, OutOfRange}
-use Rattle.lineentry.specs.Varint.{byte_at, digits, number, cut, varint_within, varint_at, signed, signed_of, signed_at}
+use Rattle.lineentry.specs.Varint.{byte_at, digits, number, cut, varint_within, varint_at, signed_of, signed_at}
 use Rattle.lineentry.specs.Line.{origin, moved, as_signed}
 use Rattle.lineentry.specs.Entry.{with_number, with_line, short_form, one_line, no_columns, long_columns, long_form, by_code, entry_of, entry_at}
 use Rattle.rows.proofs.Extent.{signed_at_lem}

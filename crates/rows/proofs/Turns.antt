@@ -1,18 +1,17 @@
 -- One turn of a row: nothing left, an entry that is cut, one that fits, one that runs past the count.
 use mathlib.Core.Path.{◌≡◌, refl, sym, ap, subst, ◌∙◌}
 use mathlib.Core.Bool.{Bool, true, false, cond}
-use mathlib.Core.List.{List, [], ◌∷◌, ◌++◌}
-use Prim.Native.Nat.{ℕ, zero, suc, ◌+◌, ◌-◌, ◌≤◌, ◌<◌}
+use mathlib.Core.List.{List, [], ◌∷◌}
+use Prim.Native.Nat.{ℕ, zero, suc, ◌-◌, ◌≤◌, ◌<◌}
 use native.Mathlib.Omega.{arith}
-use lib.ListN.{length}
-use lib.Dec.{leb, ltb, eqb}
-use borrow.Author.Tests.{le-leb, lt-leb, leb-true, leb-false, eq-eqb, ne_eqb, eqb-true, eqb-false}
+use lib.Dec.{leb, eqb}
+use borrow.Author.Tests.{le-leb, lt-leb, eq-eqb, ne_eqb}
 use Rattle.lineentry.specs.declared.Span.{Span}
 use Rattle.lineentry.specs.declared.Entry.{Entry}
 use Rattle.lineentry.specs.declared.Entry.TheVariants.{Covers, Stop, OutOfRange}
 use Rattle.lineentry.specs.Entry.{entry_at}
 use Rattle.lineentry.proofs.Entries.{entry-places}
-use Rattle.rows.specs.Row.{Ending, placed_all, cut_short, past_count, Row, alone, before, from_entry, rows, row}
+use Rattle.rows.specs.Row.{placed_all, cut_short, past_count, Row, alone, before, from_entry, rows, row}
 
 module _ (on : ℕ → ℕ → ℕ → Row) (s : List ℕ) (p left : ℕ) (e : Span) where
   pub from_cut : e.missing ≡ true → from_entry on s p left (Covers e) ≡ alone (cut_short e)

@@ -1,23 +1,23 @@
 -- THEOREM: 01's walk is the reading of the row: its entries' locations, then what its ending gives. An induction over turns, clause by clause.
-use mathlib.Core.Path.{◌≡◌, refl, sym, ap, subst, ◌∙◌}
-use mathlib.Core.Bool.{Bool, true, false, not, cond}
-use mathlib.Core.List.{List, [], ◌∷◌, ◌++◌, append-nil}
+use mathlib.Core.Path.{◌≡◌, refl, sym, ap, ◌∙◌}
+use mathlib.Core.Bool.{Bool, true, false, cond}
+use mathlib.Core.List.{List, [], ◌∷◌, append-nil}
 use Prim.Native.Nat.{ℕ, zero, suc, ◌+◌, ◌-◌, ◌≤◌, ◌<◌, min}
 use native.Mathlib.Omega.{arith}
 use lib.ListN.{length, replicate}
 use lib.Dec.{leb, ltb, eqb}
-use borrow.Author.Tests.{le-leb, lt-leb, leb-true, leb-false, eqb-true, eqb-false}
+use borrow.Author.Tests.{leb-true, leb-false, eqb-true, eqb-false}
 use Rattle.lineentry.specs.declared.Location.{Location}
 use Rattle.lineentry.specs.declared.Span.{Span}
 use Rattle.lineentry.specs.declared.Entry.{Entry}
 use Rattle.lineentry.specs.declared.Entry.TheVariants.{Covers, Stop, OutOfRange}
 use Rattle.lineentry.specs.Entry.{entry_at}
 use Rattle.lineentry.proofs.Entries.{entry-places, entry_past}
-use Rattle.linetable.specs.Walk.{Reading, done, refused, joined, ended, left_over, after, walk}
+use Rattle.linetable.specs.Walk.{done, joined, ended, left_over, after, walk}
 use Rattle.linetable.proofs.Walking.{joined-none, joined-twice, walk-ended, walk-entry}
 use Rattle.rows.proofs.Extent.{entry_runs}
 use Rattle.rows.proofs.Turns.{from_cut, from_on, from_past}
-use Rattle.rows.specs.Row.{Ending, placed_all, table_end, stop_byte, cut_short, out_of_range, past_count, Row, alone, before, no_entry, from_entry, rows, row, total, locations, place_after, partly, ending_reads, row_reads}
+use Rattle.rows.specs.Row.{Ending, placed_all, table_end, stop_byte, cut_short, out_of_range, past_count, Row, alone, before, from_entry, rows, row, total, locations, place_after, partly, ending_reads, row_reads}
 
 -- a row without entries
 reads-alone : (s : List ℕ) (first : Location) (p left : ℕ) (x : Ending) → row_reads s first p left (alone x) ≡ ending_reads s first p left x

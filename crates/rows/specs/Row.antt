@@ -1,7 +1,7 @@
 -- A row of entries: the complete entries that a line table has from a place on, while instructions are left, and how the row ends. The line,
 -- the place and the instructions left after it are functions of its entries. 01's walk is a reading of the row (`proofs/Walks`); 02's
 -- repair (K9) takes its beginning, and its joins (K12) and pieces (K6) are rows one behind another.
-use Rattle.std.specs.Prelude.{◌≡◌, Bool, true, false, cond, List, [], ◌∷◌, ◌++◌, map, ℕ, zero, suc, ◌+◌, ◌-◌, ◌≤◌, ◌<◌, min, length, replicate, leb, ltb, eqb}
+use Rattle.std.specs.Prelude.{◌≡◌, true, false, cond, List, [], ◌∷◌, ◌++◌, map, ℕ, zero, suc, ◌+◌, ◌-◌, ◌≤◌, ◌<◌, min, length, replicate, leb, ltb, eqb}
 use Rattle.refusals.specs.Numbers.{number_range}
 use Rattle.lineentry.specs.declared.Location.{Location}
 use Rattle.lineentry.specs.declared.Span.{Span}

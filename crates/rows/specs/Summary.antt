@@ -1,6 +1,6 @@
 -- No export and no promise rests on this page.
 -- What one walk over a table tells of its row: how it ends, where, at which line, and with how many instructions left.
-use Rattle.std.specs.Prelude.{List, [], ◌∷◌, ℕ, ◌+◌, ◌-◌, length}
+use Rattle.std.specs.Prelude.{List, ℕ, ◌+◌, ◌-◌, length}
 use Rattle.rows.specs.Row.{Ending, placed_all, table_end, stop_byte, cut_short, out_of_range, past_count, Row, row, line_after, place_after, total}
 use Rattle.rows.specs.declared.RowEnd.{RowEnd}
 

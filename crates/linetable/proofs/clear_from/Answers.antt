@@ -1,6 +1,5 @@
 -- `linetable::clear_from` meets its contract: what is left to clear still comes to the same store.
 use mathlib.Core.Path.{sym, ◌∙◌}
-use Prim.Native.Nat.{◌-◌}
 use lib.ListN.{length-set}
 use Rattle.linetable.proofs.Stores.{clear_turn, clear_done}
 use borrow.Author.Rules.{rules}

@@ -1,7 +1,7 @@
 -- `linetable::fill_locations` meets its contract: a turn stores the location before those that are stored, and when none is left all
 -- of them are stored.
-use Rattle.std.proofs.Common.{◌≡◌, ◌-◌, ℕ, ◌≤◌, length, arith, rules, refl}
-use Rattle.linetable.proofs.Readback.{filled, filled_none, filled_more, filled_done}
+use Rattle.std.proofs.Common.{length, arith}
+use Rattle.linetable.proofs.Readback.{filled_none, filled_more, filled_done}
 use Rattle.linetable.proofs.fill_locations.Goals as goal
 
 pub loop-i-init : goal.loop-i-init

@@ -1,7 +1,6 @@
 -- `linetable::walk_entries` meets its contract: the loop's invariant is that what is left still comes to the same reading,
 -- and each way out of a turn is a law of proofs/Walking.
 use mathlib.Core.Path.{sym, ◌∙◌}
-use Prim.Native.Nat.{◌-◌}
 use native.Mathlib.Omega.{arith}
 use Rattle.lineentry.proofs.Entries.{entry-places, refused-inside}
 use Rattle.linetable.proofs.Walking.{going_start, at_length, fits, ends-stop, ends-refused, ends-beyond, goes_on, ends_all}
