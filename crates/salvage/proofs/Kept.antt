@@ -1,22 +1,21 @@
 -- THEOREM of 02's K9: "Instructions under kept entries have the locations that 01's rules give those entries in the original."
 -- Assumes nothing.
 use mathlib.Core.Path.{◌≡◌, refl, sym, ap, subst, ◌∙◌}
-use mathlib.Core.Bool.{Bool, true, false, cond, not, ◌&&◌}
+use mathlib.Core.Bool.{Bool, true, false}
 use mathlib.Core.List.{List, [], ◌∷◌, ◌++◌, append-nil}
-use Prim.Native.Nat.{ℕ, zero, suc, ◌+◌, ◌-◌, ◌≤◌, ◌<◌, min}
+use Prim.Native.Nat.{ℕ, ◌+◌, ◌-◌, ◌<◌, min}
 use native.Mathlib.Omega.{arith}
 use lib.ListN.{length, replicate, take, length-append, length-replicate}
 use lib.Seq.{take_at}
-use lib.Dec.{eqb}
 use borrow.Author.Tests.{eq-eqb}
 use Rattle.lineentry.specs.declared.Location.{Location}
 use Rattle.lineentry.specs.declared.Span.{Span}
-use Rattle.linetable.specs.Walk.{Reading, done, refused, joined, ended, walk}
+use Rattle.linetable.specs.Walk.{Reading, done, refused, joined, walk}
 use Rattle.rows.proofs.Walks.{walk-row}
 use Rattle.rows.proofs.Chains.{rowed}
 use Rattle.rows.proofs.Joins.{spells_row}
 use Rattle.salvage.proofs.Salvages.{mend_shows, salvaged_spells}
-use Rattle.rows.specs.Row.{Ending, placed_all, table_end, stop_byte, cut_short, out_of_range, past_count, Row, row, Ends, Rowed, total, locations, line_after, place_after, ending_reads, row_reads}
+use Rattle.rows.specs.Row.{Ending, placed_all, table_end, stop_byte, cut_short, out_of_range, past_count, Row, row, Rowed, total, locations, line_after, place_after, ending_reads, row_reads}
 use Rattle.rows.specs.Spells.{Spells}
 use Rattle.salvage.specs.Salvage.{salvaged}
 

@@ -3,19 +3,17 @@
 use mathlib.Core.Path.{◌≡◌, refl, sym, ap, subst, ◌∙◌}
 use mathlib.Core.Bool.{true}
 use mathlib.Core.List.{List, [], ◌∷◌, ◌++◌, map}
-use Prim.Native.Nat.{ℕ, ◌+◌, ◌-◌, ◌<◌, ◌≤◌}
+use Prim.Native.Nat.{ℕ, ◌+◌, ◌-◌}
 use native.Mathlib.Omega.{arith}
 use lib.ListN.{length, replicate, take, drop}
 use lib.Seq.{take_at, drop-append_seam, length-take-le}
-use Rattle.lineentry.specs.declared.Location.{Location}
 use Rattle.lineentry.specs.declared.Span.{Span}
 use Rattle.lineentry.specs.Entry.{at_line}
 use Rattle.linetable.specs.Walk.{done, walk}
-use Rattle.rows.specs.Row.{shift_span, Ending, placed_all, table_end, stop_byte, cut_short, out_of_range, past_count, Row, row, Chain, Ends, Rowed, line_after, place_after, total, locations}
-use Rattle.rows.specs.Spells.{Spells}
+use Rattle.rows.specs.Row.{shift_span, Ending, placed_all, table_end, stop_byte, cut_short, out_of_range, past_count, Row, row, Chain, Rowed, line_after, place_after, total, locations}
 use Rattle.rows.proofs.Chains.{chain-append, chain-upto, total-shift, rowed}
 use Rattle.rows.proofs.Joins.{spells_join, join-entries}
-use Rattle.salvage.specs.Salvage.{fill, mend_row, salvaged, Account, account, salvage}
+use Rattle.salvage.specs.Salvage.{fill, mend_row, salvaged, account, salvage}
 use Rattle.salvage.specs.Promised.{for_fewer, Says, covers, shortens}
 use Rattle.salvage.proofs.Fills.{spells_fill}
 use Rattle.salvage.proofs.Salvages.{kept_spells, kept-entries, past_spells, past-entries}

@@ -1,10 +1,9 @@
 -- THEOREM of 02's K9: all that is promised of a repair (specs/Promised). From Salvages, Kept, Sizes and Listed. Assumes nothing.
-use mathlib.Core.Path.{◌≡◌, sym, ap, subst, ◌∙◌}
+use mathlib.Core.Path.{◌≡◌, sym, ap, ◌∙◌}
 use mathlib.Core.List.{List}
-use Prim.Native.Nat.{ℕ, ◌+◌, ◌-◌}
+use Prim.Native.Nat.{ℕ, ◌-◌}
 use native.Mathlib.Omega.{arith}
 use lib.ListN.{take}
-use Rattle.linetable.specs.Complete.{Complete}
 use Rattle.rows.specs.Row.{row}
 use Rattle.rows.proofs.Joins.{complete_spells}
 use Rattle.salvage.specs.Salvage.{salvage}

@@ -3,27 +3,26 @@
 use mathlib.Core.Path.{◌≡◌, refl, sym, ap, subst, ◌∙◌}
 use mathlib.Core.Bool.{Bool, true, false, cond}
 use mathlib.Core.List.{List, [], ◌∷◌, ◌++◌, append-nil}
-use Prim.Native.Nat.{ℕ, zero, suc, ◌+◌, ◌-◌, ◌*◌, ◌/◌, ◌%◌, ◌≤◌, ◌<◌}
+use Prim.Native.Nat.{ℕ, suc, ◌+◌, ◌-◌, ◌/◌, ◌%◌, ◌≤◌, ◌<◌}
 use native.Mathlib.Omega.{arith}
-use lib.ListN.{length, replicate, get_or, take, drop, length-append, length-take, length-drop, get_or-append}
+use lib.ListN.{length, replicate, get_or, take, drop, length-append, length-drop, get_or-append}
 use lib.Seq.{length-take-le, take-length, get_or-append-add, get_or-append_seam, get_or-take, get_or-drop}
-use lib.Dec.{ltb, eqb}
-use borrow.Author.Tests.{eqb-true, eqb-false, le-ltb, ltb-true, ltb-false}
+use lib.Dec.{ltb}
+use borrow.Author.Tests.{le-ltb, ltb-false}
 use Rattle.lineentry.specs.declared.Location.{Location}
 use Rattle.lineentry.specs.declared.Span.{Span}
-use Rattle.lineentry.specs.declared.Entry.{Entry}
-use Rattle.lineentry.specs.declared.Entry.TheVariants.{Covers, Stop, OutOfRange}
+use Rattle.lineentry.specs.declared.Entry.TheVariants.{Covers, Stop}
 use Rattle.lineentry.specs.Entry.{at_line, by_code, entry_at}
 use Rattle.lineentry.proofs.Entries.{covers-inside}
 use Rattle.linetable.specs.Complete.{Complete}
-use Rattle.rows.proofs.Local.{never, Same}
+use Rattle.rows.proofs.Local.{Same}
 use Rattle.rows.proofs.Extent.{Loc, code_loc, entry-code, entry_runs}
 use Rattle.rows.proofs.Shift.{resize, resize_entry, code_resize}
 use Rattle.rows.proofs.Turns.{row-none}
 use Rattle.rows.proofs.Chains.{chain_local, chain-append, chain-upto, place-append, line-append, total-append, locations-append, rowed}
 use Rattle.rows.proofs.Joins.{spells_join, spells_row, spells_complete, complete_spells}
 use Rattle.salvage.proofs.Fills.{spells_fill}
-use Rattle.rows.specs.Row.{Ending, placed_all, table_end, stop_byte, cut_short, out_of_range, past_count, Row, alone, row, Chain, Ends, Rowed, total, locations, line_after, place_after}
+use Rattle.rows.specs.Row.{Ending, placed_all, table_end, stop_byte, cut_short, out_of_range, past_count, Row, row, Chain, Ends, Rowed, total, locations, line_after, place_after}
 use Rattle.rows.specs.Spells.{Spells}
 use Rattle.salvage.specs.Salvage.{fill, head_for, mended, mend_row, salvaged}
 

@@ -3,10 +3,10 @@
 use mathlib.Core.Path.{◌≡◌, refl}
 use mathlib.Core.List.{List, [], ◌∷◌}
 use Prim.Native.Nat.{ℕ}
-use lib.IntN.{ℤ, pos}
+use lib.IntN.{pos}
 use Rattle.lineentry.specs.Varint.{varint_within, signed_at}
 use Rattle.lineentry.specs.Line.{as_signed, moved}
-use Rattle.lineentry.specs.Entry.{short_form, one_line, no_columns, long_columns, long_form, by_code, entry_of}
+use Rattle.lineentry.specs.Entry.{short_form, one_line, no_columns, by_code, entry_of}
 use Rattle.linetable.specs.Answer.{first_line_of}
 use Rattle.rows.specs.Row.{row}
 use Rattle.salvage.specs.Salvage.{salvaged, Account, salvage}

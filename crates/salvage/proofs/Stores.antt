@@ -1,13 +1,11 @@
 -- The output of a repair as it is stored: copied, covered, and one behind the other. Invariants say what is still to come. Assumes nothing.
 use mathlib.Core.Path.{◌≡◌, refl, sym, ap, ◌∙◌}
-use mathlib.Core.Bool.{Bool, true, false, cond}
 use mathlib.Core.List.{List, [], ◌∷◌, ◌++◌}
-use Prim.Native.Nat.{ℕ, zero, suc, ◌+◌, ◌-◌, ◌*◌, ◌/◌, ◌%◌, ◌≤◌, ◌<◌}
+use Prim.Native.Nat.{ℕ, suc, ◌+◌, ◌-◌, ◌/◌, ◌%◌, ◌≤◌, ◌<◌}
 use native.Mathlib.Numerals.{add-one}
 use native.Mathlib.Omega.{arith}
-use lib.ListN.{length, replicate, set, get_or, take, drop, length-set}
+use lib.ListN.{length, set, get_or, take, drop, length-set}
 use lib.Seq.{sets, drop-cons, length-take-le}
-use lib.Dec.{eqb}
 use borrow.Author.Tests.{ne_eqb}
 use Rattle.salvage.specs.Salvage.{fill, head_for}
 use Rattle.linetable.proofs.Stores.{sets-append}

@@ -1,19 +1,17 @@
 -- What the summary of a row tells of the repair: its bytes, its length, its list, and bounds for every sum; then a law for each way out.
 -- Assumes nothing.
 use mathlib.Core.Path.{◌≡◌, refl, sym, ap, subst, ◌∙◌}
-use mathlib.Core.Bool.{Bool, true, false, cond}
-use mathlib.Core.List.{List, [], ◌∷◌, ◌++◌, append-nil}
+use mathlib.Core.List.{List, ◌++◌}
 use Prim.Native.Nat.{ℕ, zero, suc, ◌+◌, ◌-◌, ◌/◌, ◌≤◌, ◌<◌, min}
 use native.Mathlib.Omega.{arith}
-use lib.ListN.{length, replicate, take, drop, length-append, length-replicate}
+use lib.ListN.{length, take, drop, length-append, length-replicate}
 use lib.Seq.{sets, sets-eq, length-take-le}
-use lib.Dec.{ltb}
 use borrow.Author.Tests.{lt-ltb, le-ltb}
 use Rattle.refusals.specs.Numbers.{input_too_long, no_room}
 use Rattle.refusals.specs.Limits.{most_bytes}
 use Rattle.clearing.specs.Lent.{zeros, padded}
 use Rattle.lineentry.specs.declared.Span.{Span}
-use Rattle.rows.specs.Row.{Ending, placed_all, table_end, stop_byte, cut_short, out_of_range, past_count, Row, row, Ends, Rowed, line_after, place_after, total}
+use Rattle.rows.specs.Row.{Ending, placed_all, table_end, stop_byte, cut_short, out_of_range, past_count, row, Rowed, line_after, place_after, total}
 use Rattle.salvage.specs.Salvage.{fill, mend_row, salvaged, salvage, Account, account}
 use Rattle.rows.proofs.Extent.{entry_runs}
 use Rattle.rows.proofs.Chains.{rowed, chain-upto, chain-many}
@@ -21,7 +19,7 @@ use Rattle.salvage.proofs.Salvages.{entry-most}
 use Rattle.salvage.proofs.Sizes.{staying, salvaged-length, length-fill}
 use Rattle.rows.specs.declared.RowEnd.{RowEnd}
 use Rattle.salvage.specs.declared.Salvaged.{Salvaged}
-use Rattle.rows.specs.Summary.{how_of, kept_to, row_end, summary_of, summary}
+use Rattle.rows.specs.Summary.{how_of, row_end, summary_of, summary}
 use Rattle.salvage.specs.Repair.{shortened, refused_with, listed, repair}
 
 pub record Past (s : List ℕ) (first count : ℕ) (e : RowEnd) : Type 0 where

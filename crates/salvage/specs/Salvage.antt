@@ -1,7 +1,7 @@
 -- 02, K9: "a repair that takes a table, first line and instruction count and makes a whole one. It keeps complete entries up to the first stop,
 -- cut or refused entry; shortens the entry that runs past the count and drops the rest; and covers the remaining instructions with code-15
 -- entries of eight, then the remainder."
-use Rattle.std.specs.Prelude.{Bool, cond, List, [], ◌∷◌, ◌++◌, ℕ, ◌+◌, ◌-◌, ◌*◌, ◌/◌, ◌%◌, length, replicate, get_or, take, drop, eqb}
+use Rattle.std.specs.Prelude.{cond, List, [], ◌∷◌, ◌++◌, ℕ, ◌+◌, ◌-◌, ◌*◌, ◌/◌, ◌%◌, length, replicate, get_or, take, drop, eqb}
 use Rattle.rows.specs.Row.{Ending, placed_all, table_end, stop_byte, cut_short, out_of_range, past_count, Row, row, place_after, total}
 
 -- "code-15 entries of eight, then the remainder"

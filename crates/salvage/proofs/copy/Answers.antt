@@ -1,5 +1,4 @@
 -- `salvage::copy` meets its contract: what is left to copy still comes to the same output. Assumes nothing.
-use Prim.Native.Nat.{◌-◌}
 use native.Mathlib.Omega.{arith}
 use Rattle.salvage.proofs.Stores.{copying_none, copying_more, copying_all}
 use borrow.Author.Rules.{rules}
