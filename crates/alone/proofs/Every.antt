@@ -1,14 +1,13 @@
 -- Tests on every member of a list, and the answer to the question where no chain fails: the children that each node inside names are inside.
 -- Assumes nothing.
 use mathlib.Core.Path.{◌≡◌, refl}
-use Prim.Native.Nat.{ℕ, zero, suc, ◌+◌, ◌-◌, ◌≤◌, ◌<◌}
+use Prim.Native.Nat.{ℕ, zero, suc, ◌+◌, ◌≤◌, ◌<◌}
 use native.Mathlib.Omega.{arith}
 use mathlib.Core.Bool.{Bool, true, false, cond, ◌&&◌}
 use mathlib.Core.Option.{Option, none, some}
 use mathlib.Core.List.{List, [], ◌∷◌}
 use lib.Dec.{leb, ltb, eqb}
 use borrow.Author.Tests.{ltb-true, leb-true, ltb-false, lt-ltb, le-leb, eqb-true, eqb-false}
-use Rattle.refusals.specs.Limits.{nothing}
 use Rattle.grammar.specs.Letters.{among}
 use Rattle.grammar.specs.Fields.{le32}
 use Rattle.grammar.specs.State.{start}
@@ -16,7 +15,6 @@ use Rattle.grammar.specs.Record.{Tables, nodes_in, node_of, chain}
 use Rattle.grammar.proofs.Tests.{both_true, never}
 use Rattle.nodespan.specs.Span.{inside, all_inside, all_used}
 use Rattle.alone.specs.Question.{all_named}
-use Rattle.alone.proofs.Kin.{of}
 use Rattle.alone.proofs.KinSteps.{among_self, among_later}
 
 -- Tests on every member of a list.

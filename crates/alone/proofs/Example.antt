@@ -16,7 +16,7 @@ use Rattle.grammar.specs.Record.{Tables, tables_of, sound, sound_at, chain}
 use Rattle.nodespan.specs.Header.{header_of, spanned}
 use Rattle.nodespan.specs.Span.{all_inside, all_used, children_at, closed_from, flagged_before, span_of}
 use Rattle.shifts.specs.Lower.{between}
-use Rattle.alone.specs.Question.{start_of, end_of, reserved_before, slots_before, all_named, names_own}
+use Rattle.alone.specs.Question.{start_of, end_of, reserved_before, all_named, names_own}
 
 -- ) 2 | i+flag 7 | [ 1 : r 0
 abbrev s : List ℕ

@@ -28,7 +28,7 @@ use Rattle.shifts.specs.Shift.{Shift, raised_link, raised_number, raised_node, r
 use Rattle.shifts.proofs.Raising.{link_raised}
 use Rattle.shifts.specs.Lower.{alone_of}
 use Rattle.alone.proofs.Leading.{fields_end, fields_size}
-use Rattle.alone.proofs.Spans.{SpanRead, own, bit-small, inner_clears, raised_is, own_bytes, line-bytes}
+use Rattle.alone.proofs.Spans.{SpanRead, bit-small, inner_clears, raised_is, own_bytes, line-bytes}
 use Rattle.refusals.specs.Numbers.{invalid_bytecode}
 use Rattle.writing.specs.Canonical.{of_bits}
 use Rattle.writing.specs.Shape as shape

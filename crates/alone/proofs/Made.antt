@@ -11,7 +11,7 @@ use lib.Seq.{get_or-set_other}
 use lib.Dec.{ltb, eqb}
 use borrow.Author.Tests.{ltb-true, ltb-false}
 use Rattle.refusals.specs.Limits.{most_bytes, nothing}
-use Rattle.grammar.specs.Reading.{entry, gives}
+use Rattle.grammar.specs.Reading.{gives}
 use Rattle.grammar.specs.Room.{Rooms, run}
 use Rattle.grammar.specs.Letters.{letter_of, codes, class_of}
 use Rattle.grammar.specs.State.{Node, Entry, State, blank, unlinked}
@@ -21,7 +21,7 @@ use Rattle.grammar.proofs.Links.{Built, no_child, children, Grows, KeptLink, was
 use Rattle.grammar.proofs.Standing.{Holds, Valued, Chained, few}
 use Rattle.nodespan.specs.Header.{lead, header_of}
 use Rattle.shifts.proofs.Onward.{Met, Onward, onward_same, onward_trans, OnValue, Spaced}
-use Rattle.shifts.proofs.Agreeing.{Either, that}
+use Rattle.shifts.proofs.Agreeing.{Either}
 use Rattle.alone.proofs.Leading.{fields_end}
 use Rattle.alone.proofs.Totals.{total}
 use Rattle.alone.proofs.Kin.{header_at, flag, Kin, Grown}

@@ -9,8 +9,7 @@ use lib.Seq.{get_or-set_same, get_or-set_other, get_or-append_seam}
 use lib.Dec.{ltb, eqb}
 use borrow.Author.Tests.{ltb-true, ltb-false, eqb-true, eqb-false}
 use Rattle.grammar.specs.State.{Node}
-use Rattle.grammar.specs.Steps.{reserve, fill, one}
-use Rattle.shifts.proofs.Agreeing.{that}
+use Rattle.grammar.specs.Steps.{reserve, fill}
 use Rattle.alone.proofs.Made.{FilledFrom}
 
 pub reserve-kept : (g : ℕ) (ss : List ℕ) → (length ss ≤ length (reserve g ss)) × ((i : ℕ) → i < length ss → get_or (reserve g ss) i 0 ≡ get_or ss i 0)

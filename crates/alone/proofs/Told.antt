@@ -17,7 +17,7 @@ use Rattle.grammar.specs.State.{Node, State, start, blank}
 use Rattle.grammar.specs.Answer.{plain}
 use Rattle.grammar.specs.Record.{Tables, nodes_in, entries_in, sound_at, node_of}
 use Rattle.nodespan.specs.Header.{lead, header_of, own_size, spanned}
-use Rattle.nodespan.specs.Span.{reserved, flagged_before, told, closed_from, span_of}
+use Rattle.nodespan.specs.Span.{reserved, flagged_before, closed_from, span_of}
 use Rattle.alone.specs.Question.{start_of, end_of, slots_before, names_own}
 use Rattle.alone.proofs.Leading.{fields_end}
 use Rattle.alone.proofs.Totals.{total, total-one, total_none}

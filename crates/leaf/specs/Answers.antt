@@ -1,7 +1,7 @@
 -- The leaf answer as the code gives it: an enum, and beside it the numbers of its case. 01's number and values for each case.
 -- 01, 'What is lent and what is kept': "A leaf question names a node and answers none, a truth value, ellipsis, stop, a 64-bit whole number,
 -- one float, two floats, "wide" .., or for every other letter "not a leaf". Floats carry the stored bits."
-use Rattle.std.specs.Prelude.{ℕ, true, false, cond}
+use Rattle.std.specs.Prelude.{ℕ, cond}
 use Rattle.std.specs.Int.{w64}
 use Rattle.std.proofs.Common.{to_z}
 use Rattle.std.specs.Float.{binary64}

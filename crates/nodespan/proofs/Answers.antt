@@ -15,11 +15,10 @@ use Rattle.grammar.specs.State.{Node, node_at, entry_at}
 use Rattle.grammar.specs.Record.{Tables, tables_of, nodes_in, entries_in, sound_at, node_of, chain, put}
 use Rattle.nodespan.specs.Span.{Span, inside, all_inside, all_used, of_chain, children_at, and_then, onward, closed_from, flagged_before, reserved, told, span_of}
 use Rattle.nodespan.specs.Header.{header_of, spanned}
-use Rattle.nodespan.specs.Walk.{Within, among, has, joined, along, told_of, visits, also, after, asks, answer_of, answered_of, bounded, spanned_by, span_at}
+use Rattle.nodespan.specs.Walk.{Within, among, joined, along, told_of, also, after, asks, answer_of, answered_of, bounded, spanned_by, span_at}
 use Rattle.nodespan.specs.declared.Bounds.{Bounds}
 use Rattle.nodespan.specs.declared.Answered.{Answered}
 use Rattle.nodespan.specs.declared.Answered.TheVariants as answered
-use Rattle.nodespan.specs.declared.Walked.{Walked}
 use Rattle.nodespan.specs.declared.Walked.TheVariants as walked
 use Rattle.nodespan.specs.declared.Asked.{Asked}
 use Rattle.nodespan.specs.declared.Asked.TheVariants as asked

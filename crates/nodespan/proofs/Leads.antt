@@ -1,7 +1,7 @@
 -- How far a header stands before its place, and how much a node itself holds, by the number of its letter's class; and where a header stands.
 -- Assumes nothing.
 use mathlib.Core.Path.{◌≡◌, refl, ap, ◌∙◌}
-use Prim.Native.Nat.{ℕ, zero, suc, ◌+◌, ◌-◌, ◌≤◌, ◌<◌}
+use Prim.Native.Nat.{ℕ, zero, suc, ◌-◌, ◌<◌}
 use native.Mathlib.Omega.{arith}
 use Rattle.grammar.specs.Letters.{class_of}
 use Rattle.grammar.specs.State.{Node}

@@ -11,7 +11,6 @@ use Rattle.nodespan.specs.declared.Walked.{Walked}
 use Rattle.nodespan.specs.declared.Walked.TheVariants as walked
 use Rattle.nodespan.specs.declared.Asked.{Asked}
 use Rattle.nodespan.specs.declared.Asked.TheVariants as asked
-use Rattle.nodespan.specs.declared.Found.{Found}
 use Rattle.nodespan.specs.declared.Answered.{Answered}
 use Rattle.nodespan.specs.declared.Answered.TheVariants as answered
 

@@ -1,6 +1,5 @@
 -- Carried by `Asking`: what is left of the question still comes to the same. Assumes nothing.
 use mathlib.Core.Path.{sym, refl, ◌∙◌}
-use Prim.Native.Nat.{◌-◌}
 use Rattle.nodespan.specs.Walk.{bounded}
 use Rattle.nodespan.proofs.Walks.{ask_start, ask_fails, ask_more, ask_end, visit-few}
 use borrow.Author.Rules.{rules}

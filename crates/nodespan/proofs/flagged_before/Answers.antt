@@ -1,6 +1,5 @@
 -- Carried by `Counting`: what is counted, and what is left to count. Assumes nothing.
 use mathlib.Core.Path.{refl}
-use Prim.Native.Nat.{◌-◌}
 use Rattle.nodespan.proofs.Walks.{count-start, count_more, count_end}
 use Rattle.nodespan.proofs.flagged_before.Goals as goal
 

@@ -1,6 +1,6 @@
 -- The length, the record, the span, and then the question. Assumes nothing.
 use mathlib.Core.Path.{sym, ◌∙◌}
-use borrow.Author.Tests.{lt-ltb, le-ltb, not-true, not-false}
+use borrow.Author.Tests.{lt-ltb, le-ltb}
 use Rattle.grammar.specs.Record.{tables_of}
 use Rattle.soundness.proofs.Soundness.{in_store}
 use Rattle.nodespan.specs.Span as definition

@@ -1,5 +1,4 @@
 -- A node outside takes no step; one inside as many as it counts. Assumes nothing.
-use borrow.Author.Tests.{not-true, not-false}
 use Rattle.nodespan.specs.Walk.{bounded}
 use Rattle.nodespan.proofs.Walks.{visit_outside, visit-short, visit-walk}
 use Rattle.nodespan.proofs.visit.Goals as goal

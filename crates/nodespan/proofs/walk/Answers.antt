@@ -1,5 +1,4 @@
 -- Carried by `Walking`: what is left of the chain still comes to the same. Assumes nothing.
-use Prim.Native.Nat.{◌-◌}
 use Rattle.nodespan.proofs.Walks.{walk_start, walk-no_entry, walk-no_node, walk_more, walk_end}
 use Rattle.nodespan.proofs.walk.Goals as goal
 
