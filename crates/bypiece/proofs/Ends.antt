@@ -1,24 +1,21 @@
 -- The end's steps: what its tests decide, and what the records hold after one or two fills.
-use mathlib.Core.Path.{◌≡◌, refl, sym, ap, subst, ◌∙◌}
-use mathlib.Core.Bool.{Bool, true, false, cond}
+use mathlib.Core.Path.{◌≡◌, sym, ap, subst, ◌∙◌}
+use mathlib.Core.Bool.{false}
 use mathlib.Core.List.{List, [], ◌∷◌, ◌++◌}
-use Prim.Native.Nat.{ℕ, ◌+◌, ◌-◌, ◌*◌, ◌≤◌, ◌<◌, min}
+use Prim.Native.Nat.{ℕ, ◌+◌, ◌-◌, ◌*◌, ◌≤◌, min}
 use native.Mathlib.Omega.{arith}
-use lib.ListN.{length, replicate, take, get_or, length-replicate}
+use lib.ListN.{length, replicate, take, length-replicate}
 use lib.Seq.{sets}
-use lib.Dec.{eqb}
-use borrow.Author.Tests.{eq-eqb, ne_eqb}
-use Rattle.refusals.specs.Numbers.{number_range}
 use Rattle.lineentry.specs.declared.Location.{Location}
 use Rattle.lineentry.specs.declared.Span.{Span}
 use Rattle.lineentry.specs.declared.Entry.{Entry}
-use Rattle.lineentry.specs.declared.Entry.TheVariants.{Covers, Stop, OutOfRange}
+use Rattle.lineentry.specs.declared.Entry.TheVariants.{Covers, Stop}
 use Rattle.lineentry.specs.Entry.{at_line, entry_at}
 use Rattle.linetable.specs.Answer.{numbers}
 use Rattle.piecestate.specs.declared.Kept.{Kept}
 use Rattle.piecestate.specs.declared.Pieced.{Pieced}
-use Rattle.piecestate.specs.State.{over, ended, kept_at, held_in, held_at}
-use Rattle.piecestate.specs.Answers.{Left, Leaves, told, stuck}
+use Rattle.piecestate.specs.State.{over, ended, held_in, held_at}
+use Rattle.piecestate.specs.Answers.{Leaves, told}
 use Rattle.piecestate.proofs.Stores.{front-sets, length_held}
 use Rattle.pieces.specs.Facts.{Entered}
 use Rattle.pieces.proofs.Enters.{goes, all_counts}

@@ -1,14 +1,13 @@
 -- The start: what its tests decide.
-use mathlib.Core.Path.{◌≡◌, refl, sym, ap, subst, ◌∙◌}
-use mathlib.Core.Bool.{false, cond}
+use mathlib.Core.Path.{◌≡◌}
+use mathlib.Core.Bool.{false}
 use mathlib.Core.List.{List}
 use Prim.Native.Nat.{ℕ, ◌/◌, ◌≤◌, ◌<◌}
 use lib.ListN.{length}
 use borrow.Author.Tests.{lt-ltb, le-ltb}
 use Rattle.refusals.specs.Numbers.{no_room}
 use Rattle.clearing.specs.Lent.{zeros}
-use Rattle.piecestate.specs.declared.Pieced.{Pieced}
-use Rattle.piecestate.specs.Answers.{Left, Leaves, left, told, stuck, no_state}
+use Rattle.piecestate.specs.Answers.{left, told, stuck, no_state}
 use Rattle.pieces.specs.Calls.{fresh, begin}
 
 module _ (first count : ℕ) (s rs : List ℕ) where

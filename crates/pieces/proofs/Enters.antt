@@ -1,19 +1,19 @@
 -- What a state says that lets a piece in, and what the piece then comes to.
-use mathlib.Core.Path.{◌≡◌, refl, sym, ap, subst, ◌∙◌}
+use mathlib.Core.Path.{◌≡◌, refl, sym, ap, subst}
 use mathlib.Core.Bool.{Bool, true, false, cond}
 use mathlib.Core.List.{List, [], ◌∷◌, ◌++◌}
-use Prim.Native.Nat.{ℕ, ◌+◌, ◌-◌, ◌*◌, ◌≤◌, ◌<◌}
+use Prim.Native.Nat.{ℕ, ◌+◌, ◌-◌, ◌≤◌, ◌<◌}
 use native.Mathlib.Omega.{arith}
 use lib.ListN.{length}
 use lib.Seq.{sets}
 use lib.Dec.{leb, ltb, eqb}
-use borrow.Author.Tests.{lt-ltb, le-ltb, ltb-true, ltb-false, leb-true, eq-eqb, ne_eqb, eqb-true, eqb-false}
+use borrow.Author.Tests.{lt-ltb, le-ltb, ltb-false, leb-true, eq-eqb, ne_eqb, eqb-true, eqb-false}
 use Rattle.refusals.specs.Numbers.{input_too_long}
 use Rattle.refusals.specs.Limits.{most_bytes}
 use Rattle.rows.proofs.Local.{never}
 use Rattle.piecestate.specs.declared.Kept.{Kept}
-use Rattle.piecestate.specs.State.{going, over, refusing, ended, kept_at, held_in, held_at, open_entry, counted, sound_going, kept_refusal, sound_by}
-use Rattle.piecestate.specs.Answers.{Left, left, told, stuck}
+use Rattle.piecestate.specs.State.{over, held_in, held_at, open_entry, counted, sound_going, kept_refusal, sound_by}
+use Rattle.piecestate.specs.Answers.{left, told, stuck}
 use Rattle.pieces.specs.Piece.{walked, piece_by}
 use Rattle.pieces.specs.Facts.{Opened, Entered}
 

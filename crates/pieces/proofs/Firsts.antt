@@ -9,7 +9,6 @@ use Rattle.lineentry.specs.declared.Span.{Span}
 use Rattle.lineentry.specs.declared.Entry.{Entry}
 use Rattle.lineentry.specs.declared.Entry.TheVariants.{Covers, Stop, OutOfRange}
 use Rattle.lineentry.specs.Entry.{entry_at}
-use Rattle.pieces.specs.declared.First.{First}
 use Rattle.pieces.specs.declared.First.TheVariants.{Whole, Other}
 use Rattle.pieces.specs.Piece.{first_of}
 

@@ -1,26 +1,16 @@
 -- The row of a table that goes on: it begins with the complete entries of the first bytes and goes on with the bytes behind them.
-use mathlib.Core.Path.{◌≡◌, refl, sym, ap, subst, ◌∙◌}
-use mathlib.Core.Bool.{Bool, true, false, cond}
-use mathlib.Core.List.{List, [], ◌∷◌, ◌++◌, map, append_assoc, append-nil}
-use Prim.Native.Nat.{ℕ, zero, suc, ◌+◌, ◌-◌, ◌≤◌, ◌<◌}
-use native.Mathlib.Nat.{add_assoc}
+use mathlib.Core.Path.{◌≡◌, sym, ap, ◌∙◌}
+use mathlib.Core.List.{List, ◌++◌, append_assoc}
+use Prim.Native.Nat.{ℕ, ◌+◌, ◌-◌, ◌≤◌}
 use native.Mathlib.Omega.{arith}
-use lib.ListN.{length, take, drop, length-append, length-drop, take-append-drop}
-use lib.Seq.{length-take-le, drop-append-add, drop-append-le, drop-drop}
-use lib.Dec.{ltb, eqb}
-use borrow.Author.Tests.{eq-eqb, ne_eqb, eqb-true, eqb-false}
-use Rattle.lineentry.proofs.Entries.{covers-inside}
-use Rattle.lineentry.specs.declared.Location.{Location}
+use lib.ListN.{length, take, drop, length-append, take-append-drop}
+use lib.Seq.{length-take-le}
 use Rattle.lineentry.specs.declared.Span.{Span}
-use Rattle.lineentry.specs.Entry.{entry_at}
-use Rattle.linetable.specs.Walk.{Reading, done, refused, joined, walk}
-use Rattle.linetable.proofs.Walking.{joined-twice}
 use Rattle.rows.proofs.Shift.{shift_entry, entry-shift}
-use Rattle.rows.proofs.Chains.{chain_local, chain-shift, chain-upto, place-shift, line_shifted, total-shift, locations-shift, place-append, line-append, total-append, locations-append, row-chain, row_is, rowed}
+use Rattle.rows.proofs.Chains.{chain_local, chain-shift, chain-upto, place-shift, line_shifted, total-shift, row-chain, row_is, rowed}
 use Rattle.rows.proofs.Joins.{same_append}
 use Rattle.rows.proofs.Local.{narrow}
-use Rattle.rows.proofs.Walks.{walk-row}
-use Rattle.rows.specs.Row.{Ending, placed_all, table_end, stop_byte, cut_short, out_of_range, past_count, Row, alone, before, row, shift_span, shift_ending, shift_row, Chain, Ends, Rowed, total, locations, line_after, place_after, ending_reads, row_reads}
+use Rattle.rows.specs.Row.{Ending, placed_all, table_end, stop_byte, cut_short, out_of_range, past_count, before, row, shift_ending, shift_row, Chain, Ends, total, line_after, place_after}
 
 -- ---- a row behind other bytes
 ends-shift : (xs s : List ℕ) (line p left : ℕ) (x : Ending) → Ends s line p left x → Ends (xs ++ s) line (length xs + p) left (shift_ending (length xs) x)

@@ -1,29 +1,25 @@
 -- A piece behind held bytes: of the bytes together the first fifty are enough to read the entry that was not complete.
-use mathlib.Core.Path.{◌≡◌, refl, sym, ap, subst, ◌∙◌}
-use mathlib.Core.Bool.{Bool, true, false, cond, not}
+use mathlib.Core.Path.{◌≡◌, refl, sym, ap, ◌∙◌}
+use mathlib.Core.Bool.{Bool, true, false}
 use mathlib.Core.List.{List, [], ◌∷◌, ◌++◌, map, append_assoc, append-nil}
-use Prim.Native.Nat.{ℕ, zero, suc, ◌+◌, ◌-◌, ◌*◌, ◌≤◌, ◌<◌}
+use Prim.Native.Nat.{ℕ, ◌+◌, ◌-◌, ◌*◌, ◌≤◌}
 use native.Mathlib.Omega.{arith}
-use lib.ListN.{length, replicate, take, drop, length-append, length-drop, take-append-drop, length-replicate}
-use lib.Seq.{sets, length-sets, length-take-le, drop-append-add, drop-append-le, drop-drop}
-use lib.Dec.{ltb, leb, eqb}
-use borrow.Author.Tests.{lt-ltb, le-ltb, ltb-true, ltb-false, not-true}
-use Rattle.refusals.specs.Numbers.{number_range}
-use Rattle.clearing.specs.Lent.{zeros}
+use lib.ListN.{length, replicate, take, drop, length-append, take-append-drop, length-replicate}
+use lib.Seq.{sets, drop-append-add, drop-append-le, drop-drop}
+use lib.Dec.{ltb}
+use borrow.Author.Tests.{ltb-true, ltb-false}
 use Rattle.lineentry.specs.declared.Location.{Location}
 use Rattle.lineentry.specs.declared.Span.{Span}
-use Rattle.lineentry.specs.declared.Entry.{Entry}
-use Rattle.lineentry.specs.declared.Entry.TheVariants.{Covers, Stop, OutOfRange}
+use Rattle.lineentry.specs.declared.Entry.TheVariants.{Covers}
 use Rattle.lineentry.specs.Entry.{entry_at}
 use Rattle.linetable.specs.Answer.{numbers}
-use Rattle.rows.specs.Row.{Ending, placed_all, table_end, stop_byte, cut_short, out_of_range, past_count, Row, alone, before, row, shift_span, shift_ending, shift_row, Chain, line_after, place_after, total, locations}
+use Rattle.rows.specs.Row.{Ending, placed_all, table_end, stop_byte, cut_short, out_of_range, past_count, Row, before, row, shift_span, shift_ending, shift_row, Chain, line_after, place_after, total, locations}
 use Rattle.rows.proofs.Chains.{chain-upto, place-shift, line_shifted, total-shift, locations-shift, place-append, line-append, total-append, locations-append}
-use Rattle.rows.proofs.Local.{never, Same}
+use Rattle.rows.proofs.Local.{never}
 use Rattle.rows.proofs.Extent.{entry_runs, entry_local}
 use Rattle.rows.proofs.Joins.{same_append}
-use Rattle.piecestate.specs.State.{open_as, open_entry, going, over, advanced, refused_state}
-use Rattle.piecestate.specs.Answers.{Left, left, told, stuck}
-use Rattle.pieces.specs.Piece.{onward, refused_as, overrun, shown_of, by_ending, after, walked}
+use Rattle.piecestate.specs.State.{open_as, open_entry}
+use Rattle.pieces.specs.Piece.{overrun, shown_of, by_ending, after, walked}
 use Rattle.pieces.proofs.Fold.{row_feed}
 use Rattle.pieces.proofs.Placing.{two_goes}
 

@@ -1,17 +1,17 @@
 -- Held bytes and the first of a piece, one behind the other at the front of a store.
 use mathlib.Core.Path.{◌≡◌, refl, sym, ap, subst, ◌∙◌}
 use mathlib.Core.Bool.{Bool, true, false}
-use mathlib.Core.List.{List, [], ◌∷◌, ◌++◌}
-use Prim.Native.Nat.{ℕ, ◌+◌, ◌-◌, ◌*◌, ◌≤◌, ◌<◌, min}
+use mathlib.Core.List.{List, [], ◌++◌}
+use Prim.Native.Nat.{ℕ, ◌+◌, min}
 use native.Mathlib.Omega.{arith}
-use lib.ListN.{length, replicate, take, drop, get_or, length-append}
+use lib.ListN.{length, take, length-append}
 use lib.Seq.{sets, length-take-le, take_all}
 use lib.Dec.{ltb}
 use borrow.Author.Tests.{ltb-true, ltb-false}
 use Rattle.linetable.proofs.Stores.{sets-append}
 use Rattle.piecestate.specs.declared.Kept.{Kept}
 use Rattle.piecestate.specs.declared.Pieced.{Pieced}
-use Rattle.piecestate.specs.State.{low, kept_at, held_in, held_at}
+use Rattle.piecestate.specs.State.{held_in, held_at}
 use Rattle.piecestate.specs.Answers.{Leaves}
 use Rattle.pieces.specs.Piece.{walked}
 use Rattle.pieces.specs.Facts.{Walking, Opened, Fronted}

@@ -2,27 +2,25 @@
 -- come to. An entry that is cut or not yet lost has all bytes there are; every other ending is settled.
 use mathlib.Core.Path.{◌≡◌, refl, sym, ap, subst, ◌∙◌}
 use mathlib.Core.Bool.{Bool, true, false, cond}
-use mathlib.Core.List.{List, [], ◌∷◌, ◌++◌, append_assoc, append-nil}
-use Prim.Native.Nat.{ℕ, ◌+◌, ◌-◌, ◌*◌, ◌≤◌, ◌<◌}
+use mathlib.Core.List.{List, [], ◌++◌, append_assoc, append-nil}
+use Prim.Native.Nat.{ℕ, ◌-◌, ◌≤◌, ◌<◌}
 use native.Mathlib.Omega.{arith}
 use lib.ListN.{length, take, drop, length-append, drop_of_length-le}
 use lib.Seq.{length-take-le}
-use lib.Dec.{ltb, eqb}
-use borrow.Author.Tests.{ltb-true, ltb-false, eqb-true, eqb-false}
+use lib.Dec.{ltb}
+use borrow.Author.Tests.{ltb-true, ltb-false}
 use Rattle.lineentry.specs.declared.Span.{Span}
 use Rattle.lineentry.specs.declared.Entry.{Entry}
 use Rattle.lineentry.specs.declared.Entry.TheVariants.{Covers, Stop, OutOfRange}
 use Rattle.lineentry.specs.Entry.{entry_at}
-use Rattle.rows.specs.Row.{Ending, placed_all, stop_byte, cut_short, out_of_range, past_count, Row, alone, row, line_after, place_after}
-use Rattle.rows.proofs.Local.{never}
+use Rattle.rows.specs.Row.{Ending, placed_all, stop_byte, cut_short, out_of_range, past_count, alone, row, line_after, place_after}
 use Rattle.rows.proofs.Chains.{row_ends}
 use Rattle.lostentry.specs.Lost.{Lost, lost}
 use Rattle.lostentry.proofs.Losing.{lost-refuses}
 use Rattle.lostentry.proofs.Heals.{refuses-lost}
-use Rattle.pieces.specs.declared.First.{First}
 use Rattle.pieces.specs.declared.First.TheVariants.{Whole, Other}
 use Rattle.pieces.specs.Piece.{by_ending, after, walked, first_of}
-use Rattle.pieces.proofs.Settled.{Settled, all, stop, past, gone, row_settled}
+use Rattle.pieces.proofs.Settled.{Settled, stop, past, gone, row_settled}
 use Rattle.pieces.proofs.Short.{Goes, incomplete, unsure, held_short}
 use Rattle.pieces.proofs.Fronts.{front_rest}
 

@@ -1,26 +1,23 @@
 -- THEOREM of 02's K6: when more bytes change nothing, and when every table that goes on from these bytes is refused.
 use mathlib.Core.Path.{◌≡◌, refl, sym, ap, subst, ◌∙◌}
-use mathlib.Core.Bool.{Bool, true, false, cond, not, ◌&&◌}
-use mathlib.Core.List.{List, [], ◌∷◌, ◌++◌, append-nil, append_assoc}
-use Prim.Native.Nat.{ℕ, zero, suc, ◌+◌, ◌-◌, ◌≤◌, ◌<◌}
+use mathlib.Core.List.{List, ◌++◌, append_assoc}
+use Prim.Native.Nat.{ℕ, ◌+◌, ◌≤◌, ◌<◌}
 use native.Mathlib.Omega.{arith}
-use lib.ListN.{length, take, drop, get_or, length-append, take-append-drop, get_or-append}
+use lib.ListN.{length, take, drop, length-append, take-append-drop, get_or-append}
 use lib.Seq.{length-take-le}
-use lib.Dec.{ltb, eqb}
 use Rattle.refusals.specs.Numbers.{number_range}
 use Rattle.lineentry.specs.declared.Location.{Location}
 use Rattle.lineentry.specs.declared.Span.{Span}
-use Rattle.lineentry.specs.declared.Entry.{Entry}
-use Rattle.lineentry.specs.declared.Entry.TheVariants.{Covers, Stop, OutOfRange}
+use Rattle.lineentry.specs.declared.Entry.TheVariants.{OutOfRange}
 use Rattle.lineentry.specs.Entry.{entry_at}
-use Rattle.linetable.specs.Walk.{Reading, done, refused, joined, walk}
-use Rattle.rows.proofs.Local.{never, Same, narrow}
+use Rattle.linetable.specs.Walk.{refused, walk}
+use Rattle.rows.proofs.Local.{narrow}
 use Rattle.rows.proofs.Extent.{entry_runs, entry_local, stop_byte_lem, stop_at}
 use Rattle.rows.proofs.Shift.{shift_entry, entry-shift}
 use Rattle.rows.proofs.Chains.{chain_local, chain-upto, row_is, rowed}
 use Rattle.rows.proofs.Joins.{same_append}
 use Rattle.rows.proofs.Walks.{walk-row}
-use Rattle.rows.specs.Row.{Ending, placed_all, table_end, stop_byte, cut_short, out_of_range, past_count, Row, row, Chain, Ends, Rowed, total, locations, line_after, place_after, row_reads}
+use Rattle.rows.specs.Row.{Ending, placed_all, table_end, stop_byte, cut_short, out_of_range, past_count, Row, row, Ends, line_after, place_after, row_reads}
 use Rattle.lostentry.specs.Lost.{Lost}
 
 -- ---- an entry is the entry of the bytes from its place on

@@ -1,20 +1,19 @@
 -- What is left of a row, by how its walk says that it ends.
 use mathlib.Core.Path.{◌≡◌, refl, sym, ap, subst, ◌∙◌}
 use mathlib.Core.Bool.{Bool, true, false, cond}
-use mathlib.Core.List.{List, [], ◌∷◌, ◌++◌}
+use mathlib.Core.List.{List, []}
 use Prim.Native.Nat.{ℕ, ◌+◌, ◌-◌, ◌*◌, ◌≤◌, ◌<◌}
 use native.Mathlib.Omega.{arith}
 use lib.ListN.{length, take, drop}
 use lib.Seq.{sets}
 use Rattle.linetable.specs.Answer.{numbers}
 use Rattle.refusals.specs.Numbers.{number_range}
-use Rattle.lineentry.specs.declared.Span.{Span}
 use Rattle.rows.specs.declared.RowEnd.{RowEnd}
 use Rattle.rows.specs.Summary.{how_of, summary}
-use Rattle.rows.specs.Row.{Ending, placed_all, table_end, stop_byte, cut_short, out_of_range, past_count, Row, row, Chain, Ends, Rowed, line_after, place_after, total}
+use Rattle.rows.specs.Row.{Ending, placed_all, table_end, stop_byte, cut_short, out_of_range, past_count, Row, row, Ends, line_after, place_after, total}
 use Rattle.rows.proofs.Chains.{rowed, chain-upto}
 use Rattle.lostentry.specs.Lost.{lost}
-use Rattle.pieces.proofs.Short.{Goes, nothing, incomplete, unsure, held_short}
+use Rattle.pieces.proofs.Short.{Goes, incomplete, unsure, held_short}
 use Rattle.piecestate.specs.declared.Pieced.{Pieced}
 use Rattle.piecestate.specs.State.{going, over, advanced}
 use Rattle.pieces.specs.Facts.{Unlost}

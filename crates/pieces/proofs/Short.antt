@@ -1,23 +1,21 @@
 -- How many bytes an entry has, and how many are held between pieces.
-use mathlib.Core.Path.{◌≡◌, refl, sym, ap, subst, ◌∙◌}
-use mathlib.Core.Bool.{Bool, true, false, cond, not, ◌&&◌}
-use mathlib.Core.List.{List, [], ◌∷◌, ◌++◌, append-nil}
-use Prim.Native.Nat.{ℕ, zero, suc, ◌+◌, ◌-◌, ◌*◌, ◌/◌, ◌%◌, ◌≤◌, ◌<◌}
+use mathlib.Core.Path.{◌≡◌, refl, sym, subst}
+use mathlib.Core.Bool.{Bool, true, false, cond, not}
+use mathlib.Core.List.{List}
+use Prim.Native.Nat.{ℕ, ◌+◌, ◌-◌, ◌/◌, ◌%◌, ◌≤◌, ◌<◌}
 use native.Mathlib.Omega.{arith}
-use lib.ListN.{length, replicate, take, drop, get_or, length-append, length-drop, length-replicate}
-use lib.Seq.{length-take-le}
+use lib.ListN.{length, drop, get_or, length-drop}
 use lib.Dec.{ltb, eqb}
-use borrow.Author.Tests.{eqb-true, eqb-false, ltb-true, ltb-false, le-ltb, lt-ltb, not-true, not-false}
+use borrow.Author.Tests.{ltb-true}
 use Rattle.lineentry.specs.declared.Byte.{Byte}
 use Rattle.lineentry.specs.declared.Varint.{Varint}
 use Rattle.lineentry.specs.declared.Varint.TheVariants.{Value, TooLong}
 use Rattle.lineentry.specs.declared.Moved.{Moved}
 use Rattle.lineentry.specs.declared.Moved.TheVariants.{To, Outside}
-use Rattle.lineentry.specs.declared.Location.{Location}
 use Rattle.lineentry.specs.declared.Span.{Span}
 use Rattle.lineentry.specs.declared.Entry.{Entry}
 use Rattle.lineentry.specs.declared.Entry.TheVariants.{Covers, Stop, OutOfRange}
-use Rattle.lineentry.specs.Varint.{byte_at, varint_at, signed_of, signed_at}
+use Rattle.lineentry.specs.Varint.{byte_at, varint_at, signed_of}
 use Rattle.lineentry.specs.Line.{origin, moved, as_signed}
 use Rattle.lineentry.specs.Entry.{with_number, with_line, short_form, one_line, no_columns, long_columns, long_form, by_code, entry_of, entry_at}
 use Rattle.lineentry.proofs.Entries.{refused-inside}
@@ -27,7 +25,7 @@ use Rattle.rows.proofs.Chains.{chain-upto, rowed}
 use Rattle.lostentry.proofs.Losing.{and_split, lost-refuses}
 use Rattle.pieces.proofs.Settled.{Settled, all, stop, past, gone}
 use Rattle.pieces.proofs.Shown.{held_out}
-use Rattle.rows.specs.Row.{Ending, placed_all, table_end, stop_byte, cut_short, out_of_range, past_count, Row, row, Chain, Ends, Rowed, total, line_after, place_after}
+use Rattle.rows.specs.Row.{Ending, placed_all, table_end, stop_byte, cut_short, out_of_range, past_count, row, Ends, total, line_after, place_after}
 use Rattle.lostentry.specs.Lost.{in_range, cut_early, end_open, may_heal, lost}
 
 -- ---- an entry has at most 25 bytes

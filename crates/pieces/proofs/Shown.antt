@@ -1,11 +1,11 @@
 -- THEOREM of 02's K6: "An 18 comes in the call whose bytes first show it." The test on what is kept says so exactly when every table
 -- that goes on from these bytes is refused 18.
 use mathlib.Core.Path.{◌≡◌, refl, sym, ap, subst, ◌∙◌}
-use mathlib.Core.Bool.{Bool, true, false, cond, not, ◌&&◌}
-use mathlib.Core.List.{List, [], ◌∷◌, ◌++◌, append-nil, append_assoc}
-use Prim.Native.Nat.{ℕ, zero, suc, ◌+◌, ◌-◌, ◌/◌, ◌%◌, ◌≤◌, ◌<◌}
+use mathlib.Core.Bool.{Bool, true, false, cond, ◌&&◌}
+use mathlib.Core.List.{List, [], ◌∷◌, ◌++◌, append-nil}
+use Prim.Native.Nat.{ℕ, ◌+◌, ◌-◌, ◌/◌, ◌%◌, ◌≤◌, ◌<◌}
 use native.Mathlib.Omega.{arith}
-use lib.ListN.{length, take, drop, get_or}
+use lib.ListN.{length, drop}
 use lib.Dec.{ltb, eqb}
 use Rattle.refusals.specs.Numbers.{number_range}
 use Rattle.lineentry.specs.declared.Varint.{Varint}
@@ -27,10 +27,10 @@ use Rattle.rows.proofs.Walks.{walk-row}
 use Rattle.pieces.proofs.Fold.{row_feed}
 use Rattle.lostentry.proofs.Grows.{to_lt}
 use Rattle.lostentry.proofs.Losing.{and_split, lost-refuses}
-use Rattle.lostentry.proofs.Heals.{Healed, not_lost_heals}
+use Rattle.lostentry.proofs.Heals.{not_lost_heals}
 use Rattle.pieces.proofs.Settled.{entry-drop, lost-walk}
-use Rattle.rows.specs.Row.{Ending, placed_all, table_end, stop_byte, cut_short, out_of_range, past_count, Row, alone, before, row, shift_row, Chain, Ends, Rowed, total, locations, line_after, place_after, ending_reads, row_reads}
-use Rattle.lostentry.specs.Lost.{Lost, lost}
+use Rattle.rows.specs.Row.{Ending, placed_all, table_end, stop_byte, cut_short, out_of_range, past_count, Row, alone, before, row, shift_row, Chain, Ends, total, locations, line_after, place_after, ending_reads}
+use Rattle.lostentry.specs.Lost.{lost}
 
 -- ---- lines stay within 32 bits
 abbrev Within : Entry → Type 0

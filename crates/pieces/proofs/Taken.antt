@@ -1,14 +1,13 @@
 -- The step over held bytes: what its entry says of places and counts, and what both ways come to.
 use mathlib.Core.Path.{◌≡◌, refl, sym, ap, subst, ◌∙◌}
 use mathlib.Core.Bool.{Bool, true, false, cond}
-use mathlib.Core.List.{List, [], ◌∷◌, ◌++◌}
+use mathlib.Core.List.{List, ◌++◌}
 use Prim.Native.Nat.{ℕ, ◌+◌, ◌-◌, ◌*◌, ◌≤◌, ◌<◌}
 use native.Mathlib.Omega.{arith}
 use lib.ListN.{length, replicate, take, drop, get_or, length-append, length-drop}
 use lib.Seq.{sets, length-take-le, take_all}
 use lib.Dec.{ltb}
 use borrow.Author.Tests.{ltb-true, ltb-false}
-use Rattle.refusals.specs.Limits.{most_bytes}
 use Rattle.lineentry.specs.declared.Span.{Span}
 use Rattle.lineentry.specs.declared.Entry.{Entry}
 use Rattle.lineentry.specs.declared.Entry.TheVariants.{Covers, Stop, OutOfRange}
@@ -19,10 +18,10 @@ use Rattle.pieces.specs.declared.First.{First}
 use Rattle.pieces.specs.declared.First.TheVariants.{Whole, Other}
 use Rattle.piecestate.specs.declared.Kept.{Kept}
 use Rattle.piecestate.specs.declared.Pieced.{Pieced}
-use Rattle.piecestate.specs.State.{kept_at, held_in, held_at, open_entry}
+use Rattle.piecestate.specs.State.{held_at, open_entry}
 use Rattle.piecestate.specs.Answers.{Leaves}
 use Rattle.pieces.specs.Piece.{walked, first_of}
-use Rattle.pieces.specs.Facts.{Walking, Opened, Fronted}
+use Rattle.pieces.specs.Facts.{Walking, Fronted}
 use Rattle.piecestate.proofs.Stores.{length_held, part_all}
 use Rattle.pieces.proofs.Fronts.{past_held, front-whole}
 use Rattle.pieces.proofs.Others.{front-other}

@@ -5,7 +5,6 @@ use Rattle.std.proofs.lemmas.List.Edits.{sets}
 use Rattle.refusals.specs.Numbers.{no_room, number_range}
 use Rattle.clearing.specs.Lent.{zeros}
 use Rattle.lineentry.specs.declared.Location.{Location}
-use Rattle.lineentry.specs.declared.Span.{Span}
 use Rattle.lineentry.specs.declared.Entry.{Entry}
 use Rattle.lineentry.specs.declared.Entry.TheVariants.{Covers, Stop, OutOfRange}
 use Rattle.lineentry.specs.Entry.{at_line, entry_at}

@@ -1,10 +1,9 @@
 -- 02, K6: what a piece comes to: "Up to the final call only complete entries count"; what the state and the records then hold.
-use Rattle.std.specs.Prelude.{Bool, true, false, cond, List, [], ◌∷◌, ◌++◌, ℕ, ◌+◌, ◌-◌, ◌*◌, length, replicate, drop, ltb, eqb}
+use Rattle.std.specs.Prelude.{false, cond, List, [], ◌∷◌, ◌++◌, ℕ, ◌+◌, ◌-◌, ◌*◌, length, replicate, drop, ltb, eqb}
 use Rattle.std.proofs.lemmas.List.Edits.{sets}
 use Rattle.refusals.specs.Numbers.{input_too_long, number_range}
 use Rattle.refusals.specs.Limits.{most_bytes}
 use Rattle.lineentry.specs.declared.Location.{Location}
-use Rattle.lineentry.specs.declared.Span.{Span}
 use Rattle.lineentry.specs.declared.Entry.{Entry}
 use Rattle.lineentry.specs.declared.Entry.TheVariants.{Covers, Stop, OutOfRange}
 use Rattle.linetable.specs.Answer.{numbers}

@@ -1,9 +1,9 @@
 -- Bytes and numbers that move from one store to another, one by one; what stands at the front of a store.
 use mathlib.Core.Path.{◌≡◌, refl, sym, ap, subst, ◌∙◌}
-use mathlib.Core.List.{List, [], ◌∷◌, ◌++◌, map}
-use Prim.Native.Nat.{ℕ, zero, suc, ◌+◌, ◌-◌, ◌*◌, ◌%◌, ◌≤◌, ◌<◌}
+use mathlib.Core.List.{List, [], ◌∷◌, map}
+use Prim.Native.Nat.{ℕ, suc, ◌+◌, ◌-◌, ◌≤◌, ◌<◌}
 use native.Mathlib.Omega.{arith}
-use lib.ListN.{length, set, get_or, take, drop, length-append, length-set, length-drop}
+use lib.ListN.{length, set, get_or, take, drop, length-set, length-drop}
 use lib.Seq.{sets, sets-eq, drop-cons, length-take-le, take-append-le, take_all}
 use Rattle.piecestate.specs.State.{low, held_in}
 

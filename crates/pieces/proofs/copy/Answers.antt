@@ -1,5 +1,4 @@
 -- `pieces::copy` meets its contract: what is left to move still comes to the same bytes.
-use Prim.Native.Nat.{◌-◌}
 use native.Mathlib.Omega.{arith}
 use Rattle.piecestate.proofs.Stores.{moving_none, moving_more, copied_all}
 use Rattle.pieces.proofs.copy.Goals as goal

@@ -1,5 +1,4 @@
 -- `piecestate::fetch` meets its contract: what is left to move still comes to the same bytes.
-use Prim.Native.Nat.{◌-◌}
 use native.Mathlib.Omega.{arith}
 use Rattle.piecestate.specs.State.{low}
 use Rattle.piecestate.proofs.Stores.{moving_none, moving_more, moving_all}

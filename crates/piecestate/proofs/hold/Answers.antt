@@ -1,5 +1,4 @@
 -- `piecestate::hold` meets its contract: what is left to move still comes to the same numbers.
-use Prim.Native.Nat.{◌-◌}
 use mathlib.Core.Path.{◌∙◌}
 use lib.ListN.{length, length-set}
 use native.Mathlib.Omega.{arith}

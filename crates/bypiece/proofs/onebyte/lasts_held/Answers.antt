@@ -1,5 +1,4 @@
 -- `bypiece::onebyte::lasts_held` meets its contract: what is left to count still comes to the same.
-use Prim.Native.Nat.{◌-◌}
 use native.Mathlib.Omega.{arith}
 use Rattle.bypiece.proofs.Cuts.{counting_none, counting_more, counting_all}
 use Rattle.bypiece.proofs.onebyte.lasts_held.Goals as goal
