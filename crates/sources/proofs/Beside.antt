@@ -19,8 +19,8 @@ use Rattle.lineentry.proofs.Entries.{entry-places}
 use Rattle.linetable.specs.Walk.{Reading, done, refused, joined, after, walk}
 use Rattle.linetable.specs.Answer.{located}
 use Rattle.sources.specs.Source.{source_of}
-use Rattle.sources.specs.Marks.{Marks, marked, denied, behind, from_entry, marks, sources, has, is_placed, share, plus, counts_of}
-use Rattle.sources.specs.Beside.{Each, Shows, Pairs, Beside, Agrees, BesideLocated}
+use Rattle.sources.specs.Marks.{Marks, marked, denied, behind, from_entry, marks, sources, has, share, counts_of}
+use Rattle.sources.specs.Beside.{Each, Shows, Pairs, Agrees, BesideLocated}
 use Rattle.sources.proofs.Counting.{counts-append, counts-replicate}
 use Rattle.sources.proofs.Going.{marks-ended}
 use Rattle.sources.proofs.Bits.{entry-shows, source-placed, source_missing}

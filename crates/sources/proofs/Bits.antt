@@ -1,12 +1,12 @@
 -- The bits of an entry's byte are the facts that it was summed from; and an entry whose lines are not above 0 shows 1.
 -- Assumes nothing.
 use mathlib.Core.Path.{◌≡◌, refl, sym, ap, subst, ◌∙◌}
-use mathlib.Core.Bool.{Bool, true, false, not, ◌&&◌, cond}
+use mathlib.Core.Bool.{Bool, true, false, ◌&&◌, cond}
 use mathlib.Core.List.{List}
-use Prim.Native.Nat.{ℕ, ◌+◌, ◌-◌, ◌*◌, ◌/◌, ◌%◌, ◌≤◌, ◌<◌, min, max}
+use Prim.Native.Nat.{ℕ, ◌+◌, ◌-◌, ◌*◌, ◌/◌, ◌%◌, ◌≤◌, min}
 use native.Mathlib.Omega.{arith}
 use lib.Dec.{ltb, eqb}
-use borrow.Author.Tests.{eq-eqb, ne_eqb, ltb-true, ltb-false, eqb-true, eqb-false}
+use borrow.Author.Tests.{eq-eqb, ne_eqb, ltb-true, ltb-false, eqb-true}
 use Rattle.lineentry.specs.declared.Varint.{Varint}
 use Rattle.lineentry.specs.declared.Varint.TheVariants.{Value, TooLong}
 use Rattle.lineentry.specs.declared.Moved.{Moved}
@@ -18,7 +18,7 @@ use Rattle.lineentry.specs.Varint.{byte_at, varint_at, signed_of, signed, signed
 use Rattle.lineentry.specs.Line.{origin, as_signed, moved, shown}
 use Rattle.lineentry.specs.Entry.{with_number, with_line, short_form, one_line, no_columns, long_columns, long_form, by_code, entry_of, entry_at}
 use Rattle.sources.specs.declared.LongForm.{LongForm}
-use Rattle.sources.specs.Source.{code_at, number_in, number_at, long_from, long_at, has_line, has_column, above, above_after, lines_above, bit, sum, source_of}
+use Rattle.sources.specs.Source.{code_at, number_in, number_at, long_from, long_at, has_line, has_column, above, lines_above, bit, sum, source_of}
 use Rattle.sources.specs.Marks.{has}
 use Rattle.sources.specs.Beside.{Shows}
 

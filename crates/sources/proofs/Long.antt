@@ -3,7 +3,7 @@
 use mathlib.Core.Path.{◌≡◌, refl, sym, ap, subst, ◌∙◌}
 use mathlib.Core.Bool.{Bool, true, false, ◌&&◌, cond}
 use mathlib.Core.List.{List}
-use Prim.Native.Nat.{ℕ, ◌+◌, ◌-◌, ◌/◌, ◌%◌, ◌≤◌, ◌<◌, max}
+use Prim.Native.Nat.{ℕ, ◌+◌, ◌%◌, max}
 use native.Mathlib.Omega.{arith}
 use lib.Dec.{ltb}
 use borrow.Author.Tests.{lt-ltb, ltb-true}
@@ -19,7 +19,7 @@ use Rattle.lineentry.specs.Varint.{byte_at, varint_at, signed_of, signed, signed
 use Rattle.lineentry.specs.Line.{origin, as_signed, moved, shown}
 use Rattle.lineentry.specs.Entry.{covers, location, with_number, with_line, long_columns, long_form, by_code, entry_of, entry_at}
 use Rattle.sources.specs.declared.LongForm.{LongForm}
-use Rattle.sources.specs.Source.{code_at, number_in, number_at, long_from, long_at, sum, source_by, long_source, LongShown, above_one}
+use Rattle.sources.specs.Source.{code_at, number_in, number_at, long_from, long_at, sum, source_by, LongShown, above_one}
 
 -- ---- what the location shows, by the reading of the entry
 abbrev Shown : LongForm → Entry → Type 0

@@ -19,7 +19,7 @@ use Rattle.salvage.specs.Salvage.{fill, salvaged, Account, salvage}
 use Rattle.salvage.specs.Promised.{for_fewer, Says, covers, shortens}
 use Rattle.salvage.proofs.Listed.{salvage-says}
 use Rattle.sources.specs.Source.{code_at, source_of}
-use Rattle.sources.specs.Marks.{marked, behind, from_entry, marks, sources, has}
+use Rattle.sources.specs.Marks.{marked, behind, from_entry, marks, has}
 use Rattle.sources.specs.Beside.{Each}
 use Rattle.sources.specs.Repaired.{RepairedBytes, Repaired}
 use Rattle.sources.proofs.Going.{marks-ended, marks-entry, sources_walks}

@@ -1,7 +1,6 @@
 -- `sources::clear_from` meets its contract: what is left to clear still comes to the same store.
 -- Assumes nothing.
 use mathlib.Core.Path.{sym, ◌∙◌}
-use Prim.Native.Nat.{◌-◌}
 use lib.ListN.{length-set}
 use Rattle.linetable.proofs.Stores.{clear_turn, clear_done}
 use borrow.Author.Rules.{rules}

@@ -1,7 +1,6 @@
 -- `sources::walk_marks` meets its contract: the loop's invariant is that what is left still comes to the same bytes, and each way out of a
 -- turn is a law of proofs/Going. Assumes nothing.
 use mathlib.Core.Path.{sym, ◌∙◌}
-use Prim.Native.Nat.{◌-◌}
 use native.Mathlib.Omega.{arith}
 use Rattle.lineentry.proofs.Entries.{entry-places, refused-inside}
 use Rattle.salvage.proofs.Salvages.{entry-most}
