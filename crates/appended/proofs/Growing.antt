@@ -166,7 +166,7 @@ module _ {t t' : Tables} (g : Grown t t') where
   class_on n ks vs letter.refers u e = e
   class_on n ks vs (letter.refuses number) u e = e
   class_on n ks vs (letter.keeps form) u e = e
-  class_on n ks vs (letter.contains sort) u e = e
+  class_on n ks vs (letter.contains _) u e = e
   class_on n ks vs letter.codes u e =
       let q = judged_none n ks vs (or_else (bad_part t rules ks) (bad_end t n ks)) e in
       let p = first-none (bad_part t rules ks) (bad_end t n ks) q in

@@ -1,17 +1,16 @@
 -- A second move, of node 0 with the counts that the first answered, gives what the first gave. Assumes nothing.
-use mathlib.Core.Path.{◌≡◌, refl, sym, ap, ap₂, subst, ◌∙◌}
+use mathlib.Core.Path.{◌≡◌, refl, ap, ap₂, ◌∙◌}
 use Prim.Native.Nat.{ℕ, zero, suc, ◌+◌, ◌-◌, ◌≤◌}
-use native.Mathlib.Omega.{arith}
-use mathlib.Core.List.{List, [], ◌∷◌}
+use mathlib.Core.List.{List, []}
 use lib.ListN.{length}
 use Rattle.clearing.specs.Lent.{zeros}
 use Rattle.refusals.specs.Numbers.{accepted}
 use Rattle.grammar.specs.State.{node_capacity, entry_capacity}
-use Rattle.keepvisit.specs.Visit.{Stores, stores, Visited, visited, chains, visit_from}
+use Rattle.keepvisit.specs.Visit.{Stores, stores, visited, chains, visit_from}
 use Rattle.keepmove.specs.Moved.{run, nodes_after, entries_after}
 use Rattle.keepmove.proofs.Again.{in_order, entries_in-order, still_nodes, still_entries}
 use Rattle.keep.specs.declared.Kept as declared
-use Rattle.keep.specs.Kept.{lent_stores, need, Outcome, moves, by_visit, outcome, moved_as, Held, held_by, kept_of}
+use Rattle.keep.specs.Kept.{lent_stores, need, moves, by_visit, outcome, moved_as, Held, held_by, kept_of}
 use Rattle.keep.proofs.Keeping.{outcome-enough}
 use Rattle.carried.specs.Promised.{moved_stores}
 use Rattle.carried.proofs.Moved.{long-nodes, long-entries, in_nodes, in_entries}

@@ -1,11 +1,10 @@
 -- The chain of grammar's record test against the visit's: where every entry of so many linked ones is below the limit, it gives their children.
 -- Assumes nothing.
-use mathlib.Core.Path.{◌≡◌, refl, sym, ap, ap₂, ◌∙◌}
+use mathlib.Core.Path.{◌≡◌, refl, ap, ◌∙◌}
 use Prim.Native.Nat.{ℕ, zero, suc, ◌<◌}
 use mathlib.Core.Bool.{Bool, true, false, cond, ◌||◌}
-use mathlib.Core.Option.{Option, none, some}
-use mathlib.Core.List.{List, [], ◌∷◌}
-use lib.Dec.{ltb, eqb}
+use mathlib.Core.Option.{none, some}
+use lib.Dec.{eqb}
 use borrow.Author.Tests.{lt-ltb, eq-eqb}
 use Rattle.grammar.specs.State.{entry_at}
 use Rattle.grammar.specs.Record.{Tables, chain, put, entries_in}

@@ -1,16 +1,16 @@
 -- Stores whose kept nodes were moved: a node's record is the same but for its first entry, and its chain gives its children by their new
 -- numbers. Then the record test, and with it the value, is the same. Assumes nothing.
 use mathlib.Core.Path.{◌≡◌, refl, sym, ap, ap₂, subst, ◌∙◌}
-use Prim.Native.Nat.{ℕ, zero, suc, ◌+◌, ◌≤◌, ◌<◌}
+use Prim.Native.Nat.{ℕ, zero, suc, ◌+◌, ◌<◌}
 use native.Mathlib.Omega.{arith}
 use mathlib.Core.Bool.{Bool, true, false, cond, ◌&&◌}
 use mathlib.Core.Option.{Option, none, some}
 use mathlib.Core.List.{List, [], ◌∷◌, map}
-use lib.ListN.{length, get_or, take, drop}
+use lib.ListN.{length, get_or}
 use lib.Dec.{ltb, leb, eqb}
 use borrow.Author.Tests.{lt-ltb, eqb-true}
 use Rattle.refusals.specs.Numbers.{accepted}
-use Rattle.grammar.specs.State.{Node, node_at}
+use Rattle.grammar.specs.State.{Node}
 use Rattle.grammar.specs.Reading.{Answer, gives, stops}
 use Rattle.grammar.specs.Letters as letter
 use Rattle.grammar.specs.Letters.{Sort, Class, class_of, is_bytes, is_tuple, is_string}
@@ -125,7 +125,7 @@ own_class_lem : (t : Tables) (n : ℕ) (ks vs : List ℕ) (c : Class) → looked
 own_class_lem t n ks vs letter.refers e = absurdly n vs e
 own_class_lem t n ks vs (letter.refuses number) e = absurdly n vs e
 own_class_lem t n ks vs (letter.keeps form) e = cc
-own_class_lem t n ks vs (letter.contains sort) e = cc
+own_class_lem t n ks vs (letter.contains _) e = cc
 own_class_lem t n ks vs letter.codes e = own_judged n ks vs (or_else (bad_part t rules ks) (bad_end t n ks)) e
 
 own_look : (t : Tables) (n : ℕ) (ks vs : List ℕ) (b : Bool) → looked_of t n (cond b (some ks) none) ≡ holds vs → ks ≡ vs
@@ -219,7 +219,7 @@ module _ {t t' : Tables} {Kept : ℕ → Type 0} {place : ℕ → ℕ} (w : Carr
   class_alike n k letter.refers h = tt
   class_alike n k (letter.refuses number) h = tt
   class_alike n k (letter.keeps form) h = refl
-  class_alike n k (letter.contains sort) h = refl
+  class_alike n k (letter.contains _) h = refl
   class_alike n k letter.codes h =
       judged-alike place n (place n) (w.kids n k) (or_else (bad_part t rules (w.kids n k)) (bad_end t n (w.kids n k)))
       (or_else (bad_part t' rules (map place (w.kids n k))) (bad_end t' (place n) (map place (w.kids n k))))

@@ -1,16 +1,16 @@
 -- A move carries its stores: the nodes visited, by their numbers in the order of first visit. Assumes nothing.
-use mathlib.Core.Path.{◌≡◌, refl, sym, ap, ap₂, subst, ◌∙◌}
-use Prim.Native.Nat.{ℕ, zero, suc, ◌+◌, ◌*◌, ◌≤◌, ◌<◌, min}
+use mathlib.Core.Path.{◌≡◌, refl, sym, ap, subst, ◌∙◌}
+use Prim.Native.Nat.{ℕ, ◌≤◌, ◌<◌, min}
 use native.Mathlib.Omega.{arith}
-use mathlib.Core.Bool.{Bool, true, false}
-use mathlib.Core.Option.{Option, none, some}
-use mathlib.Core.List.{List, [], ◌∷◌, map}
+use mathlib.Core.Bool.{true}
+use mathlib.Core.Option.{some}
+use mathlib.Core.List.{List, [], ◌∷◌}
 use lib.ListN.{length}
 use Rattle.clearing.proofs.Laws.{length-padded}
 use Rattle.grammar.specs.State.{node_at, node_cells, entry_cells, node_capacity, entry_capacity}
 use Rattle.grammar.specs.Record.{Tables, tables_of, nodes_in, entries_in}
 use Rattle.grammar.proofs.Contents.{length-entry_cells}
-use Rattle.keepvisit.specs.Visit.{Stores, stores, Visited, visited, member, linked, children_of, children, chain_of, chains, place_in, visit_from}
+use Rattle.keepvisit.specs.Visit.{Stores, visited, member, children, chains, place_in, visit_from}
 use Rattle.keepvisit.proofs.Members.{fresh-most, member-cons_same}
 use Rattle.keepvisit.proofs.Closed.{kept-children, member_right}
 use Rattle.keepvisit.proofs.Distinct.{within, chain-among, visited-once}

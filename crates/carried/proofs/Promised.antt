@@ -1,25 +1,24 @@
 -- What 02's K11 promises of an accepted move, from the laws of the visit and of the moved records. Assumes nothing.
-use mathlib.Core.Path.{◌≡◌, refl, sym, ap, ap₂, subst, ◌∙◌}
-use Prim.Native.Nat.{ℕ, zero, suc, ◌+◌, ◌-◌, ◌≤◌, ◌<◌, min}
+use mathlib.Core.Path.{◌≡◌, sym, ap, subst, ◌∙◌}
+use Prim.Native.Nat.{ℕ, min}
 use native.Mathlib.Omega.{arith}
 use mathlib.Core.Bool.{Bool, true, false, cond}
 use mathlib.Core.Option.{some}
-use mathlib.Core.List.{List, [], ◌∷◌, map}
-use lib.ListN.{length, get_or}
-use lib.Dec.{ltb, eqb}
-use borrow.Author.Tests.{eq-eqb}
+use mathlib.Core.List.{List, []}
+use lib.ListN.{length}
+use lib.Dec.{ltb}
 use Rattle.refusals.specs.Limits.{most_nesting}
 use Rattle.refusals.specs.Numbers.{no_room}
-use Rattle.grammar.specs.State.{Node, node_at, node_capacity, entry_capacity}
+use Rattle.grammar.specs.State.{Node, node_at}
 use Rattle.grammar.specs.Record.{tables_of}
 use Rattle.meaning.specs.Meaning.{value_of}
 use Rattle.meaning.proofs.AnyStores.{found_in-order_is_written}
 use Rattle.keepvisit.specs.Visit.{Stores, Visited, bad, visited, member, chains, place_in, visit_from}
-use Rattle.keepvisit.proofs.Closed.{kept-root, First, root_first}
+use Rattle.keepvisit.proofs.Closed.{kept-root, root_first}
 use Rattle.keepmove.specs.Moved.{renewed, nodes_after}
 use Rattle.keepmove.proofs.Same.{same_node, same_children, shared, place-below, place_at}
 use Rattle.keepmove.proofs.Again.{place-root, in_order, entries_in-order}
-use Rattle.keep.specs.Kept.{lent_stores, Outcome, refuses, moves, by_visit, outcome, need}
+use Rattle.keep.specs.Kept.{lent_stores, refuses, moves, by_visit, outcome, need}
 use Rattle.carried.specs.Promised as promised
 use Rattle.carried.specs.Promised.{Promised, moved_tables, moved_stores}
 use Rattle.carried.proofs.Values.{value-kept}

@@ -1,7 +1,7 @@
 -- A node whose value is found within the nesting is written by its value alone: the bytes that are written of it, or the refusal of room. So
 -- a kept node is written as it was. From meaning's theorem C of any stores. Assumes that the input is bytes.
-use mathlib.Core.Path.{◌≡◌, refl, sym, ap, ◌∙◌}
-use Prim.Native.Nat.{ℕ, ◌≤◌, ◌<◌, min}
+use mathlib.Core.Path.{◌≡◌, refl, sym, ◌∙◌}
+use Prim.Native.Nat.{ℕ, ◌≤◌, min}
 use mathlib.Core.Bool.{Bool, true, false, cond}
 use mathlib.Core.Option.{some}
 use mathlib.Core.List.{List}

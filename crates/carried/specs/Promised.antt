@@ -13,7 +13,7 @@ use Rattle.meaning.specs.Order.{InOrder}
 use Rattle.meaning.specs.Meaning.{value_of}
 use Rattle.keepvisit.specs.Visit.{Stores, stores, visited, member, children, chains, place_in, visit_from}
 use Rattle.keepmove.specs.Moved.{renewed, run, nodes_after, entries_after}
-use Rattle.keep.specs.Kept.{lent_stores, Outcome, moves, outcome, need, held_by, kept_of}
+use Rattle.keep.specs.Kept.{lent_stores, moves, outcome, need, held_by, kept_of}
 
 -- the stores after the move, with the counts that it answers
 abbrev pub moved_stores : (nodes entries : List ℕ) → (used_nodes used_entries : ℕ) → (order : List ℕ) → Stores
