@@ -8,6 +8,7 @@ ghost use Rattle.locate.specs.Part.{located_node};
 use linetable::Located;
 
 // Four numbers for each instruction, as `linetable_to_records` gives them for the node's bytes.
+#[tactic(auto, using(crate::proofs::Sound::other), unfolding(linetable::specs::Answer::records_of))]
 pub fn locate_node(
     input: &[u8],
     nodes: &[u32],

@@ -9,8 +9,7 @@ use Rattle.grammar.specs.State.{Node}
 use Rattle.linetable.specs.Answer.{first_line_of, records_of}
 use Rattle.fields.proofs.Laws.{part}
 use Rattle.soundness.proofs.Soundness.{in_store}
-use Rattle.locate.proofs.Sound.{sound-span, too_long, unsound, other, table}
-use borrow.Author.Tests.{not-true, not-false}
+use Rattle.locate.proofs.Sound.{sound-span, too_long, unsound, table}
 use Rattle.locate.proofs.locate_node.Goals as goal
 
 pub returns-then-input : goal.returns-then-input
@@ -34,16 +33,6 @@ pub node_at-found-requires : goal.node_at-found-requires
 node_at-found-requires c =
     let a = c.args in
     in_store a.input.now a.nodes.now a.used a.node (sym c.sound_at.ensures ∙ c.if-not-sound_at.false)
-
-pub returns-then-found-ne-BYTES_LETTER : goal.returns-then-found-ne-BYTES_LETTER
-unfolding records_of
-returns-then-found-ne-BYTES_LETTER c =
-    let a = c.args in
-    let capacity = length a.records.now / 4 in
-    let good = sym c.sound_at.ensures ∙ c.if-not-sound_at.false in
-    let same = ap (λ (m : Node). m.letter) c.node_at-found.ensures in
-    rw (other a.input.now a.nodes.now a.used a.node (first_line_of a.first_line) a.count capacity c.if-input.false good (λ e. c.if-found-ne-BYTES_LETTER.true (same ∙ e)))
-    c.refuse-then-found-ne-BYTES_LETTER.ensures
 
 pub slice_bounds-linetable_to_records-end : goal.slice_bounds-linetable_to_records-end
 slice_bounds-linetable_to_records-end c =
