@@ -22,14 +22,12 @@ returns-then-not-sound_at c =
 
 pub node_at-requires : goal.node_at-requires
 node_at-requires c =
-    let tested = c in
     let args = c.args in
     let ok = sym c.sound_at.ensures ∙ c.if-not-sound_at.false in
     in_store args.input.now args.nodes.now args.used args.node ok
 
 pub leaf_as-requires : goal.leaf_as-requires
 leaf_as-requires c =
-    let tested = c in
     let args = c.args in
     let ok = sym c.sound_at.ensures ∙ c.if-not-sound_at.false in
     (ap (sound args.input.now) c.node_at.ensures ∙ sound-node args.input.now args.nodes.now args.used args.node ok, search rules)
@@ -37,7 +35,6 @@ leaf_as-requires c =
 pub returns : goal.returns
 unfolding definition.leaf_of
 returns c =
-    let tested = c in
     let input = c.args.input.now in
     rw (le-ltb _ _ c.if-input.false, ← c.sound_at.ensures, c.if-not-sound_at.false)
     (ap answered.Told c.leaf_as.ensures
