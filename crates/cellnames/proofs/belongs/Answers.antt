@@ -10,13 +10,13 @@ pub returns-then-not-has : goal.returns-then-not-has
 returns-then-not-has c =
     let a = c.args in
     let t = lent a.s.now a.nodes.now a.entries.now a.used in
-    member_not t (locals_in t a.locals) a.bit a.kind a.node c.has.ensures (not-true _ c.if-not-has.true)
+    member_not t (locals_in t a.locals) a.bit a.kind a.node c.has.ensures c.if-not-has.true
 
 pub returns-then-bit-ne-CELL : goal.returns-then-bit-ne-CELL
 returns-then-bit-ne-CELL c =
     let a = c.args in
     let t = lent a.s.now a.nodes.now a.entries.now a.used in
-    member-plain t (locals_in t a.locals) a.bit a.kind a.node c.has.ensures (not-false _ c.if-not-has.false) (λ e. omega arith)
+    member-plain t (locals_in t a.locals) a.bit a.kind a.node c.has.ensures c.if-not-has.false (λ e. omega arith)
 
 pub is_local-requires : goal.is_local-requires
 is_local-requires c = (c.requires.0, c.requires.1)
@@ -25,4 +25,4 @@ pub returns : goal.returns
 returns c =
     let a = c.args in
     let t = lent a.s.now a.nodes.now a.entries.now a.used in
-    member_cell t (locals_in t a.locals) a.bit a.kind a.node c.has.ensures (not-false _ c.if-not-has.false) (omega arith) c.is_local.ensures
+    member_cell t (locals_in t a.locals) a.bit a.kind a.node c.has.ensures c.if-not-has.false (omega arith) c.is_local.ensures

@@ -4,7 +4,7 @@ use borrow.Author.Tests.{not-true, not-false}
 use Rattle.cellnames.proofs.local_is.Goals as goal
 
 pub returns-then-not-has : goal.returns-then-not-has
-returns-then-not-has c = first_not _ c.has.ensures (not-true _ c.if-not-has.true)
+returns-then-not-has c = first_not _ c.has.ensures c.if-not-has.true
 
 pub returns : goal.returns
-returns c = first_so _ c.has.ensures (not-false _ c.if-not-has.false) c.same_name.ensures
+returns c = first_so _ c.has.ensures c.if-not-has.false c.same_name.ensures

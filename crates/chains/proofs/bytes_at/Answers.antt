@@ -20,18 +20,18 @@ returns-then-not-is_bytes c =
     let a = c.args in
     let s = sound_at a.s.now a.nodes.now a.used a.node in
     and-false s
-    ∙ ap (λ b. s && b) (sym (not-true _ c.if-not-is_bytes.true) ∙ c.is_bytes.ensures ∙ ap (λ (n : Node). is_bytes n.letter) c.node_at-n.ensures)
+    ∙ ap (λ b. s && b) (sym c.if-not-is_bytes.true ∙ c.is_bytes.ensures ∙ ap (λ (n : Node). is_bytes n.letter) c.node_at-n.ensures)
 
 pub returns-then-s-n : goal.returns-then-s-n
 returns-then-s-n c =
     let a = c.args in
     let n = node_of c.node_at-n.result in
-    bytes-told a.s.now a.nodes.now a.used a.node (omega (arith, c.nodes_in.ensures)) c.node_at-n.ensures (sym c.is_bytes.ensures ∙ not-false _ c.if-not-is_bytes.false)
+    bytes-told a.s.now a.nodes.now a.used a.node (omega (arith, c.nodes_in.ensures)) c.node_at-n.ensures (sym c.is_bytes.ensures ∙ c.if-not-is_bytes.false)
     (sym (ap (λ b. b && eqb n.count 0) (lt-leb _ _ c.if-s-n.true)))
 
 pub returns : goal.returns
 returns c =
     let a = c.args in
     let n = node_of c.node_at-n.result in
-    bytes-told a.s.now a.nodes.now a.used a.node (omega (arith, c.nodes_in.ensures)) c.node_at-n.ensures (sym c.is_bytes.ensures ∙ not-false _ c.if-not-is_bytes.false)
+    bytes-told a.s.now a.nodes.now a.used a.node (omega (arith, c.nodes_in.ensures)) c.node_at-n.ensures (sym c.is_bytes.ensures ∙ c.if-not-is_bytes.false)
     (sym (ap (λ b. b && eqb n.count 0) (le-leb _ _ c.if-s-n.false)))

@@ -7,6 +7,3 @@ use Rattle.chains.proofs.is_bytes.Goals as goal
 
 pub returns-in-115 : goal.returns-in-115
 returns-in-115 c = sym (ap is_bytes c.in-115.is)
-
-pub returns-in_default : goal.returns-in_default
-returns-in_default c = not_among Unit c.args.letter (0x73 ∷ []) c.in_default.rest

@@ -22,6 +22,3 @@ returns-in-122 c = sym (ap is_string c.in-122.is)
 
 pub returns-in-90 : goal.returns-in-90
 returns-in-90 c = sym (ap is_string c.in-90.is)
-
-pub returns-in_default : goal.returns-in_default
-returns-in_default c = not_among Unit c.args.letter (0x75 ∷ 0x74 ∷ 0x61 ∷ 0x41 ∷ 0x7A ∷ 0x5A ∷ []) c.in_default.rest

@@ -10,6 +10,3 @@ returns-in-40 c = sym (ap is_tuple c.in-40.is)
 
 pub returns-in-41 : goal.returns-in-41
 returns-in-41 c = sym (ap is_tuple c.in-41.is)
-
-pub returns-in_default : goal.returns-in_default
-returns-in_default c = not_among Unit c.args.letter (0x28 ∷ 0x29 ∷ []) c.in_default.rest

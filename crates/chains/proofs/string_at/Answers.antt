@@ -17,10 +17,10 @@ returns-then-not-is_string c =
     let a = c.args in
     let s = sound_at a.s.now a.nodes.now a.used a.node in
     and-false s
-    ∙ ap (λ b. s && b) (sym (not-true _ c.if-not-is_string.true) ∙ c.is_string.ensures ∙ ap (λ (n : Node). is_string n.letter) c.node_at-n.ensures)
+    ∙ ap (λ b. s && b) (sym c.if-not-is_string.true ∙ c.is_string.ensures ∙ ap (λ (n : Node). is_string n.letter) c.node_at-n.ensures)
 
 pub text_sound-requires : goal.text_sound-requires
-text_sound-requires c = (c.requires, sym c.is_string.ensures ∙ not-false _ c.if-not-is_string.false)
+text_sound-requires c = (c.requires, sym c.is_string.ensures ∙ c.if-not-is_string.false)
 
 pub returns : goal.returns
 unfolding sound_at
@@ -29,4 +29,4 @@ returns c =
     rw (← c.nodes_in.ensures, lt-ltb _ _ c.if-nodes_in-node.false)
     (c.text_sound.ensures ∙ ap (sound a.s.now) c.node_at-n.ensures ∙ and-true _
     ∙ ap (λ b. sound a.s.now (node_at a.nodes.now a.node) && b)
-    (sym (not-false _ c.if-not-is_string.false) ∙ c.is_string.ensures ∙ ap (λ (n : Node). is_string n.letter) c.node_at-n.ensures))
+    (sym c.if-not-is_string.false ∙ c.is_string.ensures ∙ ap (λ (n : Node). is_string n.letter) c.node_at-n.ensures))

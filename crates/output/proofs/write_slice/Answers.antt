@@ -16,5 +16,4 @@ shape_of-out c = c.store_slice.auto.out ∙ simp length-set
 
 pub returns : goal.returns
 returns c =
-    let at_args = c in
     slice-placed c.args.out.now c.args.at c.args.letter c.args.s.now c.args.from c.args.size c.requires.1 (omega arith) c.store_slice.ensures

@@ -19,6 +19,4 @@ shape_of-out c = c.store_slice.auto.out ∙ c.store_u32.auto.out ∙ simp length
 
 pub returns : goal.returns
 returns c =
-    let at_store_u32 = c in
-    let at_args = c in
-    vec_placed at_args.args.out.now at_args.args.at at_args.args.letter at_args.args.s.now at_args.args.from at_args.args.size at_args.requires.1 (omega arith) c.store_u32.ensures c.store_slice.ensures
+    vec_placed c.args.out.now c.args.at c.args.letter c.args.s.now c.args.from c.args.size c.requires.1 (omega arith) c.store_u32.ensures c.store_slice.ensures

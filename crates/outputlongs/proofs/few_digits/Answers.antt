@@ -14,6 +14,4 @@ returns-then-count-eq2 c = digits_2 c.args.s.now c.args.count c.args.at (omega a
 
 pub returns : goal.returns
 returns c =
-    let at_le16 = c in
-    let at_args = c in
-    digits_3 at_args.args.s.now at_args.args.count at_args.args.at (omega arith) (λ e. omega arith) (λ e. omega arith) (λ e. omega arith) c.le16-low.ensures.0 c.le16-middle.ensures.0 c.le16.ensures.0
+    digits_3 c.args.s.now c.args.count c.args.at (omega arith) (λ e. omega arith) (λ e. omega arith) (λ e. omega arith) c.le16-low.ensures.0 c.le16-middle.ensures.0 c.le16.ensures.0

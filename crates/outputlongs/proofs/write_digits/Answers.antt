@@ -19,8 +19,4 @@ shape_of-out c = c.store_digits.auto.out ∙ c.store_u32.auto.out ∙ simp lengt
 
 pub returns : goal.returns
 returns c =
-    let at_store_u32 = c in
-    let at_signed-count = c in
-    let at_digits_in = at_signed-count.before.before.before in
-    let at_args = at_digits_in.before.before in
-    digits-placed at_args.args.out.now at_args.args.at at_args.args.negative at_args.args.magnitude at_digits_in.digits_in.result at_digits_in.digits_in.ensures.0 (omega arith) at_signed-count.signed-count.ensures c.store_u32.ensures c.store_digits.ensures
+    digits-placed c.args.out.now c.args.at c.args.negative c.args.magnitude c.digits_in-count.result c.digits_in-count.ensures.0 (omega arith) c.signed_count.ensures c.store_u32.ensures c.store_digits.ensures

@@ -11,24 +11,15 @@ use Rattle.outputlongs.proofs.write_int64.Goals as goal
 
 pub returns-then-bits-lt2147483648 : goal.returns-then-bits-lt2147483648
 returns-then-bits-lt2147483648 c =
-    let at_le64 = c in
-    let at_shared-slice-known = c in
-    let at_args = at_shared-slice-known.before.before in
-    puts_as c.write_slice.ensures (int64_low at_args.args.s.now (λ i. omega (arith, at_shared-slice-known.shared-slice-known.given i)) at_args.args.place at_args.requires.1 (omega (arith, c.le64-bits.ensures)))
+    puts_as c.write_slice.ensures (int64_low c.args.s.now (λ i. omega (arith, c.type_inv.s i)) c.args.place c.requires.1 (omega (arith, c.le64-bits.ensures)))
 
 pub returns-then-bits-ge18446744071562067968 : goal.returns-then-bits-ge18446744071562067968
 returns-then-bits-ge18446744071562067968 c =
-    let at_le64 = c in
-    let at_shared-slice-known = c in
-    let at_args = at_shared-slice-known.before.before in
-    puts_as c.write_slice-then-bits-ge18446744071562067968.ensures (int64_high at_args.args.s.now (λ i. omega (arith, at_shared-slice-known.shared-slice-known.given i)) at_args.args.place at_args.requires.1 (omega (arith, c.le64-bits.ensures)))
+    puts_as c.write_slice-then-bits-ge18446744071562067968.ensures (int64_high c.args.s.now (λ i. omega (arith, c.type_inv.s i)) c.args.place c.requires.1 (omega (arith, c.le64-bits.ensures)))
 
 pub returns-then-bits-lt9223372036854775808 : goal.returns-then-bits-lt9223372036854775808
 returns-then-bits-lt9223372036854775808 c =
-    let at_le64 = c in
-    let at_shared-slice-known = c in
-    let at_args = at_shared-slice-known.before.before in
-    puts_as c.write_digits.ensures (int64_positive at_args.args.s.now (λ i. omega (arith, at_shared-slice-known.shared-slice-known.given i)) at_args.args.place at_args.requires.1 (omega (arith, c.le64-bits.ensures)) (omega (arith, c.le64-bits.ensures)) ∙ ap (λ m. long_bytes (record { negative = false; magnitude = m })) (sym c.le64-bits.ensures))
+    puts_as c.write_digits.ensures (int64_positive c.args.s.now (λ i. omega (arith, c.type_inv.s i)) c.args.place c.requires.1 (omega (arith, c.le64-bits.ensures)) (omega (arith, c.le64-bits.ensures)) ∙ ap (λ m. long_bytes (record { negative = false; magnitude = m })) (sym c.le64-bits.ensures))
 
 pub returns : goal.returns
 returns c =

@@ -10,32 +10,24 @@ use mathlib.Core.Path.{ap, sym, ◌∙◌}
 use Rattle.writecheck.proofs.look.Goals as goal
 
 pub returns-then-not-whole : goal.returns-then-not-whole
-returns-then-not-whole c = look_broken (lent c.args.s.now c.args.nodes.now c.args.entries.now c.args.used) c.args.node (sym (not-true _ c.if-not-whole.true) ∙ c.whole.ensures)
+returns-then-not-whole c = look_broken (lent c.args.s.now c.args.nodes.now c.args.entries.now c.args.used) c.args.node (sym c.if-not-whole.true ∙ c.whole.ensures)
 
 pub returns-then-n-ne-CODE_LETTER : goal.returns-then-n-ne-CODE_LETTER
 returns-then-n-ne-CODE_LETTER c =
     let a = c.args in
     let t = lent a.s.now a.nodes.now a.entries.now a.used in
-    let w = (some_is (Record.whole t a.node) (sym (not-false _ c.if-not-whole.false) ∙ c.whole.ensures)) in let l = (ap (λ (m : Node). m.letter) c.node_of-n.ensures) in look-plain t a.node w.0 w.1 (λ e. omega arith)
+    let w = (some_is (Record.whole t a.node) (sym c.if-not-whole.false ∙ c.whole.ensures)) in let l = (ap (λ (m : Node). m.letter) c.node_of-n.ensures) in look-plain t a.node w.0 w.1 (λ e. omega arith)
 
 pub returns-then-not-parts_fit : goal.returns-then-not-parts_fit
 returns-then-not-parts_fit c =
-    let at_node_of = c in
-    let at_if1 = c in
-    let at_whole = at_if1.before in
-    let at_args = at_whole.before.before.before.before in
-    let a = at_args.args in
+    let a = c.args in
     let t = lent a.s.now a.nodes.now a.entries.now a.used in
     let node_of_lem = c.node_of-n.ensures in
-    let w = (some_is (Record.whole t a.node) (sym (not-false _ at_if1.if1.false) ∙ at_whole.whole.ensures)) in let l = (ap (λ (m : Node). m.letter) node_of_lem) in look-parts t a.node w.0 w.1 (omega arith) c.node_of-n.result.first (ap (λ (m : Node). m.first) node_of_lem) c.parts_fit.ensures (not-true _ c.if-not-parts_fit.true)
+    let w = (some_is (Record.whole t a.node) (sym c.if-not-whole.false ∙ c.whole.ensures)) in let l = (ap (λ (m : Node). m.letter) node_of_lem) in look-parts t a.node w.0 w.1 (omega arith) c.node_of-n.result.first (ap (λ (m : Node). m.first) node_of_lem) c.parts_fit.ensures c.if-not-parts_fit.true
 
 pub returns : goal.returns
 returns c =
-    let at_node_of = c in
-    let at_if1 = c in
-    let at_whole = at_if1.before in
-    let at_args = at_whole.before.before.before.before in
-    let a = at_args.args in
+    let a = c.args in
     let t = lent a.s.now a.nodes.now a.entries.now a.used in
     let node_of_lem = c.node_of-n.ensures in
-    let w = (some_is (Record.whole t a.node) (sym (not-false _ at_if1.if1.false) ∙ at_whole.whole.ensures)) in let l = (ap (λ (m : Node). m.letter) node_of_lem) in look-ends t a.node w.0 w.1 (omega arith) c.node_of-n.result.first (ap (λ (m : Node). m.first) node_of_lem) c.parts_fit.ensures (not-false _ c.if-not-parts_fit.false) c.ends_fit.ensures
+    let w = (some_is (Record.whole t a.node) (sym c.if-not-whole.false ∙ c.whole.ensures)) in let l = (ap (λ (m : Node). m.letter) node_of_lem) in look-ends t a.node w.0 w.1 (omega arith) c.node_of-n.result.first (ap (λ (m : Node). m.first) node_of_lem) c.parts_fit.ensures c.if-not-parts_fit.false c.ends_fit.ensures

@@ -19,25 +19,16 @@ returns-then-room-e c =
 
 pub returns-then-not-string_at : goal.returns-then-not-string_at
 returns-then-not-string_at c =
-    let at_loop_test = c in
-    let at_loop = c in
-    let at_at_most = at_loop.before in
-    let at_entries_in = at_at_most.before in
-    let at_args = at_entries_in.before.before.before.before in
-    let a = at_args.args in
+    let a = c.args in
     let t = lent a.s.now a.nodes.now a.entries.now a.used in
-    let entries_in_lem = at_entries_in.entries_in_lem.ensures.0 in
-    named_are t a.count a.first entries_in_lem at_at_most.at_most.ensures (walk-stop _ _ _ _ at_loop.loop.invariant c.loop-i-test.true (spelt_as t at_loop.loop.e entries_in_lem (omega arith) c.child_of.result c.child_of.ensures c.string_at.ensures ∙ not-true _ c.if-not-string_at.true))
+    let entries_in_lem = c.entries_in-room.ensures.0 in
+    named_are t a.count a.first entries_in_lem c.at_most-steps.ensures (walk-stop _ _ _ _ c.loop-i.invariant c.loop-i-test.true (spelt_as t c.loop-i.e entries_in_lem (omega arith) c.child_of.result c.child_of.ensures c.string_at.ensures ∙ c.if-not-string_at.true))
 
 pub loop-i-preserved : goal.loop-i-preserved
 loop-i-preserved c =
-    let at_loop_test = c in
-    let at_loop = c in
-    let at_entries_in = at_loop.before.before in
-    let at_args = at_entries_in.before.before.before.before in
-    let a = at_args.args in
+    let a = c.args in
     let t = lent a.s.now a.nodes.now a.entries.now a.used in
-    walk_more _ _ _ _ at_loop.loop.invariant c.loop-i-test.true (spelt_as t at_loop.loop.e at_entries_in.entries_in_lem.ensures.0 (omega arith) c.child_of.result c.child_of.ensures c.string_at.ensures ∙ not-false _ c.if-not-string_at.false) c.next_of-e.ensures
+    walk_more _ _ _ _ c.loop-i.invariant c.loop-i-test.true (spelt_as t c.loop-i.e c.entries_in-room.ensures.0 (omega arith) c.child_of.result c.child_of.ensures c.string_at.ensures ∙ c.if-not-string_at.false) c.next_of-e.ensures
 
 pub returns : goal.returns
 returns c =

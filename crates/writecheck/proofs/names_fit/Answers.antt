@@ -8,11 +8,10 @@ use Rattle.writecheck.proofs.names_fit.Goals as goal
 
 pub returns-then-not-is_tuple : goal.returns-then-not-is_tuple
 returns-then-not-is_tuple c =
-    let at_args = c in
-    no_tuple (lent c.args.s.now c.args.nodes.now c.args.entries.now c.args.used) c.args.node (ap (λ (m : Node). m.letter) c.node_of-n.ensures) c.is_tuple.ensures (not-true _ c.if-not-is_tuple.true)
+    no_tuple (lent c.args.s.now c.args.nodes.now c.args.entries.now c.args.used) c.args.node (ap (λ (m : Node). m.letter) c.node_of-n.ensures) c.is_tuple.ensures c.if-not-is_tuple.true
 
 pub returns : goal.returns
 returns c =
     let a = c.args in
     let t = lent a.s.now a.nodes.now a.entries.now a.used in
-    a_tuple t a.node (ap (λ (m : Node). m.letter) c.node_of-n.ensures) c.is_tuple.ensures (not-false _ c.if-not-is_tuple.false) (ap (λ (m : Node). m.first) c.node_of-n.ensures) (ap (λ (m : Node). m.count) c.node_of-n.ensures) c.named.ensures
+    a_tuple t a.node (ap (λ (m : Node). m.letter) c.node_of-n.ensures) c.is_tuple.ensures c.if-not-is_tuple.false (ap (λ (m : Node). m.first) c.node_of-n.ensures) (ap (λ (m : Node). m.count) c.node_of-n.ensures) c.named.ensures

@@ -4,7 +4,7 @@ use Rattle.writecheck.specs.Looking.{lent}
 use Rattle.grammar.specs.Steps.{rules, whatever}
 use lib.ListN.{get_or}
 use mathlib.Core.Path.{ap, ◌∙◌}
-use borrow.Author.Rules.{rules}
+use native.Mathlib.Omega.{arith}
 use Rattle.writecheck.proofs.part_fits.Goals as goal
 
 pub returns-in-1 : goal.returns-in-1
@@ -53,6 +53,4 @@ pub returns-in_default : goal.returns-in_default
 returns-in_default c =
     let a = c.args in
     let t = lent a.s.now a.nodes.now a.entries.now a.used in
-    let others = c.in_default.rest in
-    c.bytes_at.ensures ∙ bytes-part t a.node
-    ∙ by_rule t a.node (rule_else a.part c.pre.1 others.0.0.0.0.0.1 others.0.0.0.0.1 others.0.0.0.1 others.0.0.1 others.0.1 others.1)
+    c.bytes_at.ensures ∙ bytes-part t a.node ∙ by_rule t a.node (rule_else a.part c.requires.1 (λ e. omega arith) (λ e. omega arith) (λ e. omega arith) (λ e. omega arith) (λ e. omega arith) (λ e. omega arith))

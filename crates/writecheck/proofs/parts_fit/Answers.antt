@@ -13,16 +13,13 @@ pub returns-then-not-part_fits : goal.returns-then-not-part_fits
 returns-then-not-part_fits c =
     let a = c.args in
     let t = lent a.s.now a.nodes.now a.entries.now a.used in
-    fitting_not t a.first c.loop-part.part c.loop-part.e c.child_of.result c.loop-part.invariant c.loop-part-test.true c.child_of.ensures c.part_fits.ensures (not-true _ c.if-not-part_fits.true)
+    fitting_not t a.first c.loop-part.part c.loop-part.e c.child_of.result c.loop-part.invariant c.loop-part-test.true c.child_of.ensures c.part_fits.ensures c.if-not-part_fits.true
 
 pub loop-part-preserved : goal.loop-part-preserved
 loop-part-preserved c =
-    let at_loop_test = c in
-    let at_loop = c in
-    let at_args = at_loop.before.before.before.before in
-    let a = at_args.args in
+    let a = c.args in
     let t = lent a.s.now a.nodes.now a.entries.now a.used in
-    fitting_more t a.first at_loop.loop.part at_loop.loop.e c.next_of-e.result c.child_of.result at_loop.loop.invariant c.loop-part-test.true c.child_of.ensures c.part_fits.ensures (not-false _ c.if-not-part_fits.false) c.next_of-e.ensures
+    fitting_more t a.first c.loop-part.part c.loop-part.e c.next_of-e.result c.child_of.result c.loop-part.invariant c.loop-part-test.true c.child_of.ensures c.part_fits.ensures c.if-not-part_fits.false c.next_of-e.ensures
 
 pub returns : goal.returns
 returns c = fitting_all (lent c.args.s.now c.args.nodes.now c.args.entries.now c.args.used) c.args.first c.loop-part.part c.loop-part.e c.loop-part.invariant (omega arith)

@@ -12,10 +12,10 @@ pub returns-then-not-whole : goal.returns-then-not-whole
 returns-then-not-whole c =
     let a = c.args in
     let t = lent a.s.now a.nodes.now a.entries.now a.used in
-    part_broken t as_names a.node (none_is (Record.whole t a.node) (sym (not-true _ c.if-not-whole.true) ∙ c.whole.ensures))
+    part_broken t as_names a.node (none_is (Record.whole t a.node) (sym c.if-not-whole.true ∙ c.whole.ensures))
 
 pub returns : goal.returns
 returns c =
     let a = c.args in
     let t = lent a.s.now a.nodes.now a.entries.now a.used in
-    names_part_lem t a.node c.names_fit.ensures (sym (not-false _ c.if-not-whole.false) ∙ c.whole.ensures)
+    names_part_lem t a.node c.names_fit.ensures (sym c.if-not-whole.false ∙ c.whole.ensures)

@@ -22,7 +22,6 @@ bounds-s-kinds c = omega (arith, c.requires.1.kinds)
 
 pub belongs-member-requires : goal.belongs-member-requires
 belongs-member-requires c =
-    let at_args = c in
     let a = c.args in
     let t = lent a.s.now a.nodes.now a.entries.now a.used in
     let f = string_part t a.allowance in
@@ -43,36 +42,21 @@ shape_of-out-in-Refused c = c.write_member.ensures.same ∙ c.loop-i.invariant.s
 
 pub returns-in-Refused : goal.returns-in-Refused
 returns-in-Refused c =
-    let at_write_member = c in
-    let at_belongs = c in
-    let at_child_of = at_belongs.before in
-    let at_loop_test = at_child_of.before.before in
-    let at_loop = at_loop_test.before in
-    let at_args = at_loop.before.before.before.before.before.before in
-    let a = at_args.args in
+    let a = c.args in
     let t = lent a.s.now a.nodes.now a.entries.now a.used in
     let f = string_part t a.allowance in
-    member-refused t a.locals a.bit f a.counted a.out.now a.at at_loop.loop.invariant (member_next t a.locals a.bit f a.counted a.out.now a.at _ at_args.requires.1 at_loop.loop.invariant at_loop_test.loop-test.true at_child_of.child_of_lem.ensures) at_belongs.belongs.ensures c.write_member.ensures c.in-Refused.is
+    member-refused t a.locals a.bit f a.counted a.out.now a.at c.loop.invariant (member_next t a.locals a.bit f a.counted a.out.now a.at _ c.requires.1 c.loop.invariant c.loop-test.true c.child_of_lem.ensures) c.belongs.ensures c.write_member.ensures c.in-Refused.is
 
 pub overflow_add-n : goal.overflow_add-n
 overflow_add-n c =
-    let at_loop_test = c in
-    let at_loop = c in
-    let at_pre = at_loop.before.before.before.before.before.before in
-    omega (arith, at_loop.loop.invariant.most, c.loop-i-test.true, c.one_if-n.ensures.1, at_pre.requires.3)
+    omega (arith, c.loop.invariant.most, c.loop-i-test.true, c.one_if-n.ensures.1, c.requires.3)
 
 pub loop-i-preserved : goal.loop-i-preserved
 loop-i-preserved c =
-    let at_write_member = c in
-    let at_belongs = c in
-    let at_child_of = at_belongs.before in
-    let at_loop_test = at_child_of.before.before in
-    let at_loop = at_loop_test.before in
-    let at_args = at_loop.before.before.before.before.before.before in
-    let a = at_args.args in
+    let a = c.args in
     let t = lent a.s.now a.nodes.now a.entries.now a.used in
     let f = string_part t a.allowance in
-    member_more t a.locals a.bit f a.counted a.out.now a.at at_loop.loop.invariant (member_next t a.locals a.bit f a.counted a.out.now a.at _ at_args.requires.1 at_loop.loop.invariant at_loop_test.loop-test.true at_child_of.child_of_lem.ensures) at_belongs.belongs.ensures c.write_member.ensures c.in-Done.is c.one_if-n.ensures at_loop_test.loop-test.true c.next_of-e.ensures
+    member_more t a.locals a.bit f a.counted a.out.now a.at c.loop.invariant (member_next t a.locals a.bit f a.counted a.out.now a.at _ c.requires.1 c.loop.invariant c.loop-test.true c.child_of_lem.ensures) c.belongs.ensures c.write_member.ensures c.in-Done.is c.one_if-n.ensures c.loop-test.true c.next_of-e.ensures
 
 pub shape_of-out : goal.shape_of-out
 shape_of-out c = c.loop-i.invariant.same

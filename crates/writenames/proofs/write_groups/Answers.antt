@@ -15,40 +15,34 @@ write_group-requires c = (c.requires.0, c.requires.1, omega arith, omega (arith,
 
 pub write_group-requires-in-Done : goal.write_group-requires-in-Done
 write_group-requires-in-Done c =
-    let at_write_group = c in
-    let at_args = c in
-    let a = at_args.args in
+    let a = c.args in
     let t = lent a.s.now a.nodes.now a.entries.now a.used in
     let f = string_part t a.allowance in
     let local = group_in t a.locals local_bit in
     let k = c.write_group.ensures in
     let is = c.in-Done.is in (
-      groups_open f local k at_args.requires.0 is,
-      at_args.requires.1,
+      groups_open f local k c.requires.0 is,
+      c.requires.1,
       omega arith,
-      omega (arith, groups-count f local k at_args.requires.0 is, group_most t a.locals local_bit at_args.requires.1, at_args.requires.1.kinds, at_args.requires.2),
+      omega (arith, groups-count f local k c.requires.0 is, group_most t a.locals local_bit c.requires.1, c.requires.1.kinds, c.requires.2),
     )
 
 pub write_group-requires-in-Done-write_group : goal.write_group-requires-in-Done-write_group
 write_group-requires-in-Done-write_group c =
-    let at_write_group2 = c in
-    let at_a = c in
-    let at_write_group = at_a.before.before.before.before in
-    let at_args = at_write_group.before.before.before.before.before.before in
-    let a = at_args.args in
+    let a = c.args in
     let t = lent a.s.now a.nodes.now a.entries.now a.used in
     let f = string_part t a.allowance in
     let local = group_in t a.locals local_bit in
     let cell = group_in t a.locals cell_bit in
-    let k = at_write_group.write-group.ensures in
-    let is = at_a.a.given.1 in
-    let h = groups_open f local k at_args.requires.0 is in
+    let k = c.write-group.ensures in
+    let is = c.a.given.1 in
+    let h = groups_open f local k c.requires.0 is in
     let k₂ = c.write_group-in-Done.ensures in
     let is₂ = c.in-Done-write_group.is in (
       groups_open f cell k₂ h is₂,
-      at_args.requires.1,
+      c.requires.1,
       omega arith,
-      omega (arith, groups-count f local k at_args.requires.0 is, groups-count f cell k₂ h is₂, group_most t a.locals local_bit at_args.requires.1, group_most t a.locals cell_bit at_args.requires.1, at_args.requires.1.kinds, at_args.requires.2),
+      omega (arith, groups-count f local k c.requires.0 is, groups-count f cell k₂ h is₂, group_most t a.locals local_bit c.requires.1, group_most t a.locals cell_bit c.requires.1, c.requires.1.kinds, c.requires.2),
     )
 
 pub shape_of-out-in-Refused : goal.shape_of-out-in-Refused
@@ -86,17 +80,12 @@ shape_of-out-in-Done-write_group c = c.write_group-in-Done-write_group.ensures.p
 
 pub returns-in-Done-write_group : goal.returns-in-Done-write_group
 returns-in-Done-write_group c =
-    let at_b = c in
-    let at_write_group2 = c in
-    let at_a = at_write_group2.before.before.before in
-    let at_write_group = at_a.before.before.before.before in
-    let at_args = at_write_group.before.before.before.before.before.before in
-    let a = at_args.args in
+    let a = c.args in
     let t = lent a.s.now a.nodes.now a.entries.now a.used in
     let f = string_part t a.allowance in
     let local = group_in t a.locals local_bit in
     let cell = group_in t a.locals cell_bit in
     let free = group_in t a.locals free_bit in
-    let h = at_args.requires.0 in
+    let h = c.requires.0 in
     groups_all t a.locals f
-    (groups-then f (local ++ cell) (groups-then f local at_write_group.write-group.ensures h at_a.a.given.1 cell at_write_group2.write-group2.ensures) h c.in-Done-write_group.is free c.write_group-in-Done-write_group.ensures)
+    (groups-then f (local ++ cell) (groups-then f local c.write-group.ensures h c.a.given.1 cell c.write-group2.ensures) h c.in-Done-write_group.is free c.write_group-in-Done-write_group.ensures)

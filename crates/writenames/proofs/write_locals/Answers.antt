@@ -24,74 +24,46 @@ returns-then-allowance-eq0 c =
 
 pub write_groups-requires : goal.write_groups-requires
 write_groups-requires c =
-    let at_write_len = c in
-    let at_node_of2 = c in
-    let at_node_of = at_node_of2.before in
-    let at_args = at_node_of.before.before.before.before.before.before in
-    let a = at_args.args in
+    let a = c.args in
     let t = lent a.s.now a.nodes.now a.entries.now a.used in (
-      puts_open at_args.requires.0 c.write_len.ensures c.in-Done.is,
-      listed t a.kinds a.node at_args.requires.1 (ap (λ (m : Node). m.count) at_node_of.node_of_lem.ensures) (ap (λ (m : Node). m.first) at_node_of.node_of_lem.ensures) (ap (λ (m : Node). m.place) at_node_of2.node-of2.ensures),
-      at_args.requires.2,
+      puts_open c.requires.0 c.write_len.ensures c.in-Done.is,
+      listed t a.kinds a.node c.requires.1 (ap (λ (m : Node). m.count) c.node_of_lem.ensures) (ap (λ (m : Node). m.first) c.node_of_lem.ensures) (ap (λ (m : Node). m.place) c.node-of2.ensures),
+      c.requires.2,
     )
 
 pub overflow_add-at : goal.overflow_add-at
 overflow_add-at c =
-    let at_pre = c in
     omega (arith, c.requires.0.inside, c.requires.0.counts)
 
 pub store_u32-requires : goal.store_u32-requires
 store_u32-requires c =
-    let at_write_groups = c in
-    let at_a = c in
-    let at_write_len = at_a.before.before.before.before in
-    let at_node_of2 = at_write_len.before.before in
-    let at_node_of = at_node_of2.before in
-    let at_args = at_node_of.before.before.before.before.before.before in
-    let a = at_args.args in
+    let a = c.args in
     let t = lent a.s.now a.nodes.now a.entries.now a.used in
-    omega (arith, locals-room t a.allowance a.kinds a.node (omega arith) at_args.requires.1 (ap (λ (m : Node). m.count) at_node_of.node_of_lem.ensures) (ap (λ (m : Node). m.first) at_node_of.node_of_lem.ensures) (ap (λ (m : Node). m.place) at_node_of2.node-of2.ensures) at_write_len.write-len.ensures at_a.a.given.1 at_args.requires.0.inside c.write_groups.ensures)
+    omega (arith, locals-room t a.allowance a.kinds a.node (omega arith) c.requires.1 (ap (λ (m : Node). m.count) c.node_of_lem.ensures) (ap (λ (m : Node). m.first) c.node_of_lem.ensures) (ap (λ (m : Node). m.place) c.node-of2.ensures) c.write-len.ensures c.a.given.1 c.requires.0.inside c.write_groups.ensures)
 
 pub shape_of-out-in-Refused : goal.shape_of-out-in-Refused
 shape_of-out-in-Refused c = c.write_len.ensures.same
 
 pub returns-in-Refused : goal.returns-in-Refused
 returns-in-Refused c =
-    let at_write_len = c in
-    let at_node_of2 = c in
-    let at_node_of = at_node_of2.before in
-    let at_args = at_node_of.before.before.before.before.before.before in
-    let a = at_args.args in
+    let a = c.args in
     let t = lent a.s.now a.nodes.now a.entries.now a.used in
-    locals-refused t a.allowance a.kinds a.node (omega arith) at_args.requires.1 (ap (λ (m : Node). m.count) at_node_of.node_of_lem.ensures) (ap (λ (m : Node). m.first) at_node_of.node_of_lem.ensures) (ap (λ (m : Node). m.place) at_node_of2.node-of2.ensures) c.write_len.ensures c.in-Refused.is
+    locals-refused t a.allowance a.kinds a.node (omega arith) c.requires.1 (ap (λ (m : Node). m.count) c.node_of_lem.ensures) (ap (λ (m : Node). m.first) c.node_of_lem.ensures) (ap (λ (m : Node). m.place) c.node-of2.ensures) c.write_len.ensures c.in-Refused.is
 
 pub shape_of-out-in-Refused-write_groups : goal.shape_of-out-in-Refused-write_groups
 shape_of-out-in-Refused-write_groups c = c.write_groups.ensures.puts.same ∙ c.write_len.ensures.same
 
 pub returns-in-Refused-write_groups : goal.returns-in-Refused-write_groups
 returns-in-Refused-write_groups c =
-    let at_write_groups = c in
-    let at_a = c in
-    let at_write_len = at_a.before.before.before.before in
-    let at_node_of2 = at_write_len.before.before in
-    let at_node_of = at_node_of2.before in
-    let at_args = at_node_of.before.before.before.before.before.before in
-    let a = at_args.args in
+    let a = c.args in
     let t = lent a.s.now a.nodes.now a.entries.now a.used in
-    locals-stopped t a.allowance a.kinds a.node (omega arith) at_args.requires.1 (ap (λ (m : Node). m.count) at_node_of.node_of_lem.ensures) (ap (λ (m : Node). m.first) at_node_of.node_of_lem.ensures) (ap (λ (m : Node). m.place) at_node_of2.node-of2.ensures) at_write_len.write-len.ensures at_a.a.given.1 at_args.requires.0.inside c.write_groups.ensures c.in-Refused-write_groups.is
+    locals-stopped t a.allowance a.kinds a.node (omega arith) c.requires.1 (ap (λ (m : Node). m.count) c.node_of_lem.ensures) (ap (λ (m : Node). m.first) c.node_of_lem.ensures) (ap (λ (m : Node). m.place) c.node-of2.ensures) c.write-len.ensures c.a.given.1 c.requires.0.inside c.write_groups.ensures c.in-Refused-write_groups.is
 
 pub shape_of-out-in-Done-write_groups : goal.shape_of-out-in-Done-write_groups
 shape_of-out-in-Done-write_groups c = c.store_u32.auto.out ∙ c.write_groups.ensures.puts.same ∙ c.write_len.ensures.same
 
 pub returns-in-Done-write_groups : goal.returns-in-Done-write_groups
 returns-in-Done-write_groups c =
-    let at_b = c in
-    let at_write_groups = c in
-    let at_a = at_write_groups.before.before.before in
-    let at_write_len = at_a.before.before.before.before in
-    let at_node_of2 = at_write_len.before.before in
-    let at_node_of = at_node_of2.before in
-    let at_args = at_node_of.before.before.before.before.before.before in
-    let a = at_args.args in
+    let a = c.args in
     let t = lent a.s.now a.nodes.now a.entries.now a.used in
-    locals-done t a.allowance a.kinds a.node (omega arith) at_args.requires.1 (ap (λ (m : Node). m.count) at_node_of.node_of_lem.ensures) (ap (λ (m : Node). m.first) at_node_of.node_of_lem.ensures) (ap (λ (m : Node). m.place) at_node_of2.node-of2.ensures) at_write_len.write-len.ensures at_a.a.given.1 at_args.requires.0.inside at_write_groups.write-groups.ensures c.in-Done-write_groups.is c.store_u32.ensures
+    locals-done t a.allowance a.kinds a.node (omega arith) c.requires.1 (ap (λ (m : Node). m.count) c.node_of_lem.ensures) (ap (λ (m : Node). m.first) c.node_of_lem.ensures) (ap (λ (m : Node). m.place) c.node-of2.ensures) c.write-len.ensures c.a.given.1 c.requires.0.inside c.write-groups.ensures c.in-Done-write_groups.is c.store_u32.ensures

@@ -22,13 +22,10 @@ returns-then-allowance-eq0 c =
 
 pub write_names-requires : goal.write_names-requires
 write_names-requires c =
-    let at_write_len = c in
-    let at_node_of = c in
-    let at_args = at_node_of.before.before.before.before.before.before in
-    let a = at_args.args in
+    let a = c.args in
     let t = lent a.s.now a.nodes.now a.entries.now a.used in
-    let asked = at_args.requires in
-    let node_of_lem = at_node_of.node_of_lem.ensures in
+    let asked = c.requires in
+    let node_of_lem = c.node_of_lem.ensures in
     (opens (written_in (tuple_way t a.allowance a.node (omega arith) (tuple_at t a.node asked.1 (ap (λ (m : Node). m.count) node_of_lem) (ap (λ (m : Node). m.first) node_of_lem)) asked.0.inside) c.write_len.ensures c.in-Done.is) asked.0.counts, (tuple_at t a.node asked.1 (ap (λ (m : Node). m.count) node_of_lem) (ap (λ (m : Node). m.first) node_of_lem)).chained, (tuple_at t a.node asked.1 (ap (λ (m : Node). m.count) node_of_lem) (ap (λ (m : Node). m.first) node_of_lem)).texts)
 
 pub shape_of-out-in-Refused : goal.shape_of-out-in-Refused
@@ -36,14 +33,11 @@ shape_of-out-in-Refused c = c.write_len.auto.out
 
 pub returns-in-Refused : goal.returns-in-Refused
 returns-in-Refused c =
-    let at_write_len = c in
-    let at_node_of = c in
-    let at_args = at_node_of.before.before.before.before.before.before in
-    let a = at_args.args in
+    let a = c.args in
     let t = lent a.s.now a.nodes.now a.entries.now a.used in
-    let asked = at_args.requires in
-    let node_of_lem = at_node_of.node_of_lem.ensures in
-    refused_in (each (string_part t (a.allowance - 1)) (kids_from t at_node_of.node_of_lem.result.count at_node_of.node_of_lem.result.first)) (tuple_way t a.allowance a.node (omega arith) (tuple_at t a.node asked.1 (ap (λ (m : Node). m.count) node_of_lem) (ap (λ (m : Node). m.first) node_of_lem)) asked.0.inside) c.write_len.ensures c.in-Refused.is
+    let asked = c.requires in
+    let node_of_lem = c.node_of_lem.ensures in
+    refused_in (each (string_part t (a.allowance - 1)) (kids_from t c.node_of_lem.result.count c.node_of_lem.result.first)) (tuple_way t a.allowance a.node (omega arith) (tuple_at t a.node asked.1 (ap (λ (m : Node). m.count) node_of_lem) (ap (λ (m : Node). m.first) node_of_lem)) asked.0.inside) c.write_len.ensures c.in-Refused.is
 
 pub shape_of-out-in-Done : goal.shape_of-out-in-Done
 shape_of-out-in-Done c = c.write_names.auto.nodes.1.1.0 ∙ c.write_len.auto.out

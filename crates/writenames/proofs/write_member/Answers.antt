@@ -9,7 +9,7 @@ pub returns-then-not-member : goal.returns-then-not-member
 returns-then-not-member c =
     let a = c.args in
     let t = lent a.s.now a.nodes.now a.entries.now a.used in
-    member_out a.member (string_part t a.allowance a.node) (not-true _ c.if-not-member.true) c.requires.0.inside
+    member_out a.member (string_part t a.allowance a.node) c.if-not-member.true c.requires.0.inside
 
 pub returns : goal.returns
-returns c = member_in c.args.member (not-false _ c.if-not-member.false) c.write_string.ensures
+returns c = member_in c.args.member c.if-not-member.false c.write_string.ensures

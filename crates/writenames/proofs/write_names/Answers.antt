@@ -27,14 +27,9 @@ returns-in-Refused c = row-refused (row-turn c.loop-i.invariant c.loop-i-test.tr
 
 pub loop-i-preserved : goal.loop-i-preserved
 loop-i-preserved c =
-    let at_write_string = c in
-    let at_child_of = c in
-    let at_loop_test = at_child_of.before in
-    let at_loop = at_loop_test.before in
-    let at_args = at_loop.before.before.before.before.before in
-    let a = at_args.args in
+    let a = c.args in
     let t = lent a.s.now a.nodes.now a.entries.now a.used in
-    row_more {w₀ = each (string_part t a.allowance) (kids_from t a.count a.first)} (row-turn at_loop.loop.invariant at_loop_test.loop-test.true at_child_of.child_of_lem.ensures) (texts_later t at_child_of.child_of_lem.result) at_loop_test.loop-test.true c.next_of-e.ensures
+    row_more {w₀ = each (string_part t a.allowance) (kids_from t a.count a.first)} (row-turn c.loop.invariant c.loop-test.true c.child_of_lem.ensures) (texts_later t c.child_of_lem.result) c.loop-test.true c.next_of-e.ensures
     c.write_string.ensures c.in-Done.is
 
 pub shape_of-out : goal.shape_of-out

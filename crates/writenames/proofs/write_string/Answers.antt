@@ -12,7 +12,6 @@ use Rattle.writenames.proofs.write_string.Goals as goal
 
 pub returns-then-allowance-eq0 : goal.returns-then-allowance-eq0
 returns-then-allowance-eq0 c =
-    let at_args = c in
     no_level c.args.allowance c.args.node (emit (code_string (contents_of (lent c.args.s.now c.args.nodes.now c.args.entries.now c.args.used) c.args.node)) ended) (omega arith)
 
 pub write_marshal_str-requires : goal.write_marshal_str-requires

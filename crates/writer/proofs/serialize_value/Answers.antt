@@ -27,41 +27,25 @@ write_value-requires c = (record { inside = omega arith; counts = omega (arith, 
 
 pub slice_bounds-clear_bytes-count : goal.slice_bounds-clear_bytes-count
 slice_bounds-clear_bytes-count c =
-    let at_write_value = c in
-    let at_counted = c in
-    let at_args = at_counted.before.before.before.before.before.before.before in
-    search (fits-behind at_counted.counted.result at_args.args.out.now (omega (arith, at_counted.counted.ensures.1)) c.write_value.ensures c.in-Done.is, rules)
+    search (fits-behind c.counted.result c.args.out.now (omega (arith, c.counted.ensures.1)) c.write_value.ensures c.in-Done.is, rules)
 
 pub slice_bounds-clear_bytes-start : goal.slice_bounds-clear_bytes-start
 slice_bounds-clear_bytes-start c =
-    let at_write_value = c in
-    let at_counted = c in
-    let at_args = at_counted.before.before.before.before.before.before.before in
-    search (fits-behind at_counted.counted.result at_args.args.out.now (omega (arith, at_counted.counted.ensures.1)) c.write_value.ensures c.in-Done.is, rules)
+    search (fits-behind c.counted.result c.args.out.now (omega (arith, c.counted.ensures.1)) c.write_value.ensures c.in-Done.is, rules)
 
 pub returns-in-Done : goal.returns-in-Done
 returns-in-Done c =
-    let at_a = c in
-    let at_write_value = c in
-    let at_counted = at_write_value.before.before in
-    let at_at_most = at_counted.before in
-    let at_args = at_at_most.before.before.before.before.before.before in
-    let b = at_args.args in
+    let b = c.args in
     let t = tables_of b.input.now b.nodes.now b.entries.now b.used_nodes b.used_entries_lem in
-    let o = at_write_value.write-value.new.1.1.1.0 ++ drop at_counted.counted.result b.out.now in
-    let fits = fits-behind at_counted.counted.result b.out.now (omega (arith, at_counted.counted.ensures.1)) at_write_value.write-value.ensures c.in-Done.is in
-    let long = length_front b.out.now at_write_value.write-value.new.1.1.1.0 at_counted.counted.result at_write_value.write-value.auto.1.1.1.0 in
-    finish_done t b.root b.nesting (length b.out.now) (omega arith) b.out.now at_at_most.at_most.ensures at_counted.counted.ensures.0 (omega (arith, at_counted.counted.ensures.1)) at_write_value.write-value.ensures c.in-Done.is
+    let o = c.write-value.new.1.1.1.0 ++ drop c.counted.result b.out.now in
+    let fits = fits-behind c.counted.result b.out.now (omega (arith, c.counted.ensures.1)) c.write-value.ensures c.in-Done.is in
+    let long = length_front b.out.now c.write-value.new.1.1.1.0 c.counted.result c.write-value.auto.1.1.1.0 in
+    finish_done t b.root b.nesting (length b.out.now) (omega arith) b.out.now c.at_most.ensures c.counted.ensures.0 (omega (arith, c.counted.ensures.1)) c.write-value.ensures c.in-Done.is
     (behind-cleared c.in-Done.a (length b.out.now) o fits long c.clear_bytes-in-Done.ensures)
 
 pub returns-in-Refused : goal.returns-in-Refused
 returns-in-Refused c =
-    let at_number = c in
-    let at_write_value = c in
-    let at_counted = at_write_value.before.before in
-    let at_at_most = at_counted.before in
-    let at_args = at_at_most.before.before.before.before.before.before in
-    let b = at_args.args in
+    let b = c.args in
     let t = tables_of b.input.now b.nodes.now b.entries.now b.used_nodes b.used_entries_lem in
-    finish_refused t b.root b.nesting (length b.out.now) (omega arith) b.out.now at_at_most.at_most.ensures at_counted.counted.ensures.0 (omega (arith, at_counted.counted.ensures.1)) at_write_value.write-value.ensures c.in-Refused.is
-    (c.clear_bytes-in-Refused.ensures ∙ ap zeros (length_front b.out.now at_write_value.write-value.new.1.1.1.0 at_counted.counted.result at_write_value.write-value.auto.1.1.1.0))
+    finish_refused t b.root b.nesting (length b.out.now) (omega arith) b.out.now c.at_most.ensures c.counted.ensures.0 (omega (arith, c.counted.ensures.1)) c.write-value.ensures c.in-Refused.is
+    (c.clear_bytes-in-Refused.ensures ∙ ap zeros (length_front b.out.now c.write-value.new.1.1.1.0 c.counted.result c.write-value.auto.1.1.1.0))

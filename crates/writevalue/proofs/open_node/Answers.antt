@@ -18,26 +18,20 @@ pub returns-then-not-look : goal.returns-then-not-look
 returns-then-not-look c =
     let a = c.args in
     let t = lent a.s.now a.nodes.now a.entries.now a.used in
-    open_bad t a.allowance a.node (c.too_deep.ensures.tells t refl refl) c.if-too_deep.false (looks_bad t a.node c.look.result c.look.ensures (not-true _ c.if-not-look.true)) c.requires.0.inside
+    open_bad t a.allowance a.node (c.too_deep.ensures.tells t refl refl) c.if-too_deep.false (looks_bad t a.node c.look.result c.look.ensures c.if-not-look.true) c.requires.0.inside
 
 pub write_front-requires : goal.write_front-requires
 write_front-requires c =
     let a = c.args in
     let t = lent a.s.now a.nodes.now a.entries.now a.used in
     let asked = c.requires in
-    (asked.0, asked.1, subst (λ (m : Node). sound a.s.now m ≡ true) (sym c.node_of-n.ensures) (held_node t a.node (looks_held t a.node c.look.result c.look.ensures (not-false _ c.if-not-look.false))), c.class_of.ensures)
+    (asked.0, asked.1, subst (λ (m : Node). sound a.s.now m ≡ true) (sym c.node_of-n.ensures) (held_node t a.node (looks_held t a.node c.look.result c.look.ensures c.if-not-look.false)), c.class_of.ensures)
 
 pub shape_of-out : goal.shape_of-out
 shape_of-out c = c.write_front.auto.out.0
 
 pub returns : goal.returns
 returns c =
-    let at_node_of = c in
-    let at_if2 = c in
-    let at_look = at_if2.before in
-    let at_if1 = at_look.before in
-    let at_too_deep = at_if1.before in
-    let at_args = at_too_deep.before.before.before.before.before in
-    let a = at_args.args in
+    let a = c.args in
     let t = lent a.s.now a.nodes.now a.entries.now a.used in
-    open_front t a.allowance a.node (at_too_deep.too-deep.ensures.tells t refl refl) at_if1.if1.false (looks_held t a.node at_look.look.result at_look.look.ensures (not-false _ at_if2.if2.false)) c.node_of-n.ensures c.write_front.auto.out.0 c.write_front.ensures
+    open_front t a.allowance a.node (c.too-deep.ensures.tells t refl refl) c.if1.false (looks_held t a.node c.look.result c.look.ensures c.if2.false) c.node_of-n.ensures c.write_front.auto.out.0 c.write_front.ensures

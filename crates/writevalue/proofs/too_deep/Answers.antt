@@ -16,5 +16,4 @@ returns-then-nodes_in-node c = levels-past c.args.nodes.now c.args.used c.args.a
 
 pub returns : goal.returns
 returns c =
-    let at_args = c in
     levels-code c.args.nodes.now c.args.used c.args.allowance c.args.node (omega arith) c.nodes_in.ensures (omega arith) (ap (λ (m : Node). m.letter) c.node_of-n.ensures)

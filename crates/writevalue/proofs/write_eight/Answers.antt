@@ -13,11 +13,8 @@ use Rattle.writevalue.proofs.write_eight.Goals as goal
 
 pub returns-then-letter-eq-FLOAT_LETTER : goal.returns-then-letter-eq-FLOAT_LETTER
 returns-then-letter-eq-FLOAT_LETTER c =
-    let at_shared-slice-known = c in
-    let at_args = at_shared-slice-known.before in
-    puts_equal c.write_slice.ensures (ap (λ b. emit b ended) (float-eight at_args.args.s.now (λ i. omega (arith, at_shared-slice-known.shared-slice-known.given i)) (record { letter = 0; place = at_args.args.place; size = 0; first = 0; count = 0; end = 0; input = 0 }) at_args.args.letter (omega arith) at_args.requires.1))
+    puts_equal c.write_slice.ensures (ap (λ b. emit b ended) (float-eight c.args.s.now (λ i. omega (arith, c.type_inv.s i)) (record { letter = 0; place = c.args.place; size = 0; first = 0; count = 0; end = 0; input = 0 }) c.args.letter (omega arith) c.requires.1))
 
 pub returns : goal.returns
 returns c =
-    let at_args = c in
     puts_equal c.write_int64.ensures (ap (λ t. emit (cond t (0x67 ∷ bytes64 (le64 c.args.s.now c.args.place)) (integer_bytes (of_bits 9223372036854775808 (le64 c.args.s.now c.args.place)))) ended) (ne_eqb c.args.letter 0x67 (λ e. omega arith)))

@@ -45,34 +45,24 @@ write_vec-requires-in-11 c = (c.requires.0, sound-within c.args.s.now (node_of c
 
 pub write_slice-requires-in_default : goal.write_slice-requires-in_default
 write_slice-requires-in_default c =
-    let at_pre = c in
     (c.requires.0, code_numbers_lem c.args.s.now (node_of c.args.n) c.requires.2 (code_else c.args.s.now (node_of c.args.n) c.requires.2 c.args.class (avoids c.args.class 12 c.in_default.rest) c.requires.3))
 
 pub returns-in-0 : goal.returns-in-0
 unfolding class_at classes
 returns-in-0 c =
-    let at_match = c in
-    let at_shared-slice-known = c in
-    let at_args = at_shared-slice-known.before in
-    front-whole (λ f g kids. as_single at_args.args.s.now (λ i. omega (arith, at_shared-slice-known.shared-slice-known.given i)) (node_of at_args.args.n) f g kids (sym at_args.requires.3 ∙ ap class_at c.in-0.is)) c.write_u8.ensures c.whole.ensures
+    front-whole (λ f g kids. as_single c.args.s.now (λ i. omega (arith, c.type_inv.s i)) (node_of c.args.n) f g kids (sym c.requires.3 ∙ ap class_at c.in-0.is)) c.write_u8.ensures c.whole.ensures
 
 pub returns-in-1 : goal.returns-in-1
 unfolding class_at classes
 returns-in-1 c =
-    let at_match = c in
-    let at_shared-slice-known = c in
-    let at_args = at_shared-slice-known.before in
-    let a = at_args.args in
-    let asked = at_args.requires in
-    front-whole (λ f g kids. as_four a.s.now (λ i. omega (arith, at_shared-slice-known.shared-slice-known.given i)) (node_of a.n) f g kids (sym asked.3 ∙ ap class_at c.in-1.is) (fixed_held a.s.now (node_of a.n) asked.2 4 (sym asked.3 ∙ ap class_at c.in-1.is))) c.write_slice.ensures c.whole-in-1.ensures
+    let a = c.args in
+    let asked = c.requires in
+    front-whole (λ f g kids. as_four a.s.now (λ i. omega (arith, c.type_inv.s i)) (node_of a.n) f g kids (sym asked.3 ∙ ap class_at c.in-1.is) (fixed_held a.s.now (node_of a.n) asked.2 4 (sym asked.3 ∙ ap class_at c.in-1.is))) c.write_slice.ensures c.whole-in-1.ensures
 
 pub returns-in-2 : goal.returns-in-2
 unfolding class_at classes
 returns-in-2 c =
-    let at_match = c in
-    let at_shared-slice-known = c in
-    let at_args = at_shared-slice-known.before in
-    front-whole (λ f g kids. as_eight at_args.args.s.now (λ i. omega (arith, at_shared-slice-known.shared-slice-known.given i)) (node_of at_args.args.n) f g kids (sym at_args.requires.3 ∙ ap class_at c.in-2.is)) c.write_eight.ensures c.whole-in-2.ensures
+    front-whole (λ f g kids. as_eight c.args.s.now (λ i. omega (arith, c.type_inv.s i)) (node_of c.args.n) f g kids (sym c.requires.3 ∙ ap class_at c.in-2.is)) c.write_eight.ensures c.whole-in-2.ensures
 
 pub returns-in-3 : goal.returns-in-3
 unfolding class_at classes
@@ -85,10 +75,7 @@ returns-in-3 c =
 pub returns-in-4 : goal.returns-in-4
 unfolding class_at classes
 returns-in-4 c =
-    let at_match = c in
-    let at_shared-slice-known = c in
-    let at_args = at_shared-slice-known.before in
-    front-whole (λ f g kids. as_long at_args.args.s.now (λ i. omega (arith, at_shared-slice-known.shared-slice-known.given i)) (node_of at_args.args.n) f g kids (sym at_args.requires.3 ∙ ap class_at c.in-4.is)) c.write_pylong.ensures c.whole-in-4.ensures
+    front-whole (λ f g kids. as_long c.args.s.now (λ i. omega (arith, c.type_inv.s i)) (node_of c.args.n) f g kids (sym c.requires.3 ∙ ap class_at c.in-4.is)) c.write_pylong.ensures c.whole-in-4.ensures
 
 pub returns-in-5 : goal.returns-in-5
 unfolding class_at classes
@@ -121,32 +108,20 @@ returns-in-8 c =
 pub returns-in-9 : goal.returns-in-9
 unfolding class_at classes
 returns-in-9 c =
-    let at_match = c in
-    let at_shared-slice-known = c in
-    let at_args = at_shared-slice-known.before in
-    front-whole (λ f g kids. as_bytes at_args.args.s.now (λ i. omega (arith, at_shared-slice-known.shared-slice-known.given i)) (node_of at_args.args.n) f g kids (sym at_args.requires.3 ∙ ap class_at c.in-9.is)) c.write_vec.ensures c.whole-in-9.ensures
+    front-whole (λ f g kids. as_bytes c.args.s.now (λ i. omega (arith, c.type_inv.s i)) (node_of c.args.n) f g kids (sym c.requires.3 ∙ ap class_at c.in-9.is)) c.write_vec.ensures c.whole-in-9.ensures
 
 pub returns-in-10 : goal.returns-in-10
 unfolding class_at classes
 returns-in-10 c =
-    let at_match = c in
-    let at_shared-slice-known = c in
-    let at_args = at_shared-slice-known.before in
-    front-whole (λ f g kids. as_text at_args.args.s.now (λ i. omega (arith, at_shared-slice-known.shared-slice-known.given i)) (node_of at_args.args.n) f g kids (sym at_args.requires.3 ∙ ap class_at c.in-10.is)) c.write_vec-in-10.ensures c.whole-in-10.ensures
+    front-whole (λ f g kids. as_text c.args.s.now (λ i. omega (arith, c.type_inv.s i)) (node_of c.args.n) f g kids (sym c.requires.3 ∙ ap class_at c.in-10.is)) c.write_vec-in-10.ensures c.whole-in-10.ensures
 
 pub returns-in-11 : goal.returns-in-11
 unfolding class_at classes
 returns-in-11 c =
-    let at_match = c in
-    let at_shared-slice-known = c in
-    let at_args = at_shared-slice-known.before in
-    front-whole (λ f g kids. as_short at_args.args.s.now (λ i. omega (arith, at_shared-slice-known.shared-slice-known.given i)) (node_of at_args.args.n) f g kids (sym at_args.requires.3 ∙ ap class_at c.in-11.is)) c.write_vec-in-11.ensures c.whole-in-11.ensures
+    front-whole (λ f g kids. as_short c.args.s.now (λ i. omega (arith, c.type_inv.s i)) (node_of c.args.n) f g kids (sym c.requires.3 ∙ ap class_at c.in-11.is)) c.write_vec-in-11.ensures c.whole-in-11.ensures
 
 pub returns-in_default : goal.returns-in_default
 returns-in_default c =
-    let at_match = c in
-    let at_shared-slice-known = c in
-    let at_args = at_shared-slice-known.before in
-    let a = at_args.args in
-    let asked = at_args.requires in
-    front-parts asked.0.inside (code_else a.s.now (node_of a.n) asked.2 a.class (avoids a.class 12 c.in_default.rest) asked.3) (λ f g kids. as_code a.s.now (λ i. omega (arith, at_shared-slice-known.shared-slice-known.given i)) (node_of a.n) f g kids (code_else a.s.now (node_of a.n) asked.2 a.class (avoids a.class 12 c.in_default.rest) asked.3) (code_numbers_lem a.s.now (node_of a.n) asked.2 (code_else a.s.now (node_of a.n) asked.2 a.class (avoids a.class 12 c.in_default.rest) asked.3))) c.write_slice-in_default.ensures c.with_parts.ensures
+    let a = c.args in
+    let asked = c.requires in
+    front-parts asked.0.inside (code_else a.s.now (node_of a.n) asked.2 a.class (avoids a.class 12 c.in_default.rest) asked.3) (λ f g kids. as_code a.s.now (λ i. omega (arith, c.type_inv.s i)) (node_of a.n) f g kids (code_else a.s.now (node_of a.n) asked.2 a.class (avoids a.class 12 c.in_default.rest) asked.3) (code_numbers_lem a.s.now (node_of a.n) asked.2 (code_else a.s.now (node_of a.n) asked.2 a.class (avoids a.class 12 c.in_default.rest) asked.3))) c.write_slice-in_default.ensures c.with_parts.ensures
