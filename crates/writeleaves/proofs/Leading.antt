@@ -38,9 +38,9 @@ onward_on {o₀} {o} {o'} {at} {p} {p'} {w₀} {w} {w'} k j =
 
 module _ (t : Tables) (a count : ℕ) where
   -- a row of which some are done
-  pub row_from : {first done at : ℕ} {o₀ : List ℕ} → done ≤ count → is_some (chain t (count - done) first) ≡ true → at ≤ length o₀
+  pub row_starts : {first done at : ℕ} {o₀ : List ℕ} → done ≤ count → is_some (chain t (count - done) first) ≡ true → at ≤ length o₀
       → Rowing t (writing a t) (λ vs. Unit) count o₀ at (row_from t a count first done) o₀ done first at
-  row_from {first} {done} w h l =
+  row_starts {first} {done} w h l =
       record { within = w; rest = kids_from t (count - done) first; chained = some_of (chain t (count - done) first) h; fine = tt; way = start l }
 
   -- what is left of it

@@ -34,7 +34,7 @@ use Rattle.writeleaves.specs.declared.Led.{Led}
 use Rattle.writeleaves.specs.declared.Led.TheVariants as led
 use Rattle.writeleaves.specs.Leaves.{Leafed, four_at, sized_at, LeafIs, LeafAt, Leaves, text_if, led_of, LeadAs, Leads}
 use Rattle.underway.specs.Rows.{out_of_levels}
-use Rattle.underway.proofs.Forms.{as_four, as_bytes, as_text, as_short}
+use Rattle.underway.proofs.Forms.{as_four, as_bytes as bytes_as, as_text, as_short}
 use Rattle.underway.proofs.Under.{puts_equal}
 use Rattle.underway.proofs.Levels.{parts_by, writing-holds}
 
@@ -90,7 +90,7 @@ module _ (s : List ℕ) (n : Node) (none_there : n.count ≡ 0) (within : n.plac
 
   pub leaf_bytes : ((i : ℕ) → get_or s i 0 < 256) → class_of n.letter ≡ contains letter.bytes → LeafIs s n (leaf.Sized 0x73 n.place n.size)
   leaf_bytes small is =
-      leaf_sized s n is (λ f g kids. as_bytes s small n f g kids is) (sounds_so is (ap (λ b. b && true) count_so))
+      leaf_sized s n is (λ f g kids. bytes_as s small n f g kids is) (sounds_so is (ap (λ b. b && true) count_so))
 
 -- a string, whichever its letter is
 pub leaf_string : (s : List ℕ) (n : Node) → ((i : ℕ) → get_or s i 0 < 256) → is_string n.letter ≡ true → (b : Bool) → b ≡ sound s n
@@ -145,7 +145,7 @@ module _ (t : Tables) (small : (i : ℕ) → get_or t.input i 0 < 256) (v : ℕ)
       (unless_none (is_bytes (node_of t v).letter) v (sym (ap (suited t as_bytes v) w.1) ∙ fits))
 
   bytes_leaf : LeafIs t.input (node_of t v) (leaf.Sized 0x73 (node_of t v).place (node_of t v).size)
-  bytes_leaf = leaf_sized t.input (node_of t v) bytes_class (λ f g kids. as_bytes t.input small (node_of t v) f g kids bytes_class) bytes-sound.1
+  bytes_leaf = leaf_sized t.input (node_of t v) bytes_class (λ f g kids. bytes_as t.input small (node_of t v) f g kids bytes_class) bytes-sound.1
 
   pub bytes_in_lem : (node_of t v).place + (node_of t v).size ≤ length t.input
   bytes_in_lem = bytes_leaf.1

@@ -1,6 +1,6 @@
 -- Carried by `Rowing`: the children that are left are still to come, and none that was done is done again. Assumes nothing.
 use Rattle.underway.proofs.Under.{opens, row-turn, row_more, row-refused, row-entry}
-use Rattle.writeleaves.proofs.Leading.{row_from, led_on, led_refused, led_left, rows_on, rows-refused}
+use Rattle.writeleaves.proofs.Leading.{row_starts, led_on, led_refused, led_left, rows_on, rows-refused}
 use Rattle.writeleaves.specs.Leaves.{row_from}
 use Rattle.writecheck.specs.Looking.{lent}
 use native.Mathlib.Omega.{arith}
@@ -12,7 +12,7 @@ pub loop-i-init : goal.loop-i-init
 loop-i-init c =
     let a = c.args in
     let t = lent a.s.now a.nodes.now a.entries.now a.used in
-    (row_from t a.allowance a.count c.requires.2 c.requires.3 c.requires.0.inside, omega arith)
+    (row_starts t a.allowance a.count c.requires.2 c.requires.3 c.requires.0.inside, omega arith)
 
 pub child_at-child-requires : goal.child_at-child-requires
 child_at-child-requires c = row-entry c.loop-i.invariant.0 c.loop-i-test.true

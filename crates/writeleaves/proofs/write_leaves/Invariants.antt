@@ -1,6 +1,5 @@
 -- Carried by `Rowing`: the children that are left are still to come, and none that was done is done again. Assumes nothing.
 use Rattle.underway.proofs.Under.{Rowing}
-use Rattle.writeleaves.proofs.Leading.{row_from}
 use Rattle.writeleaves.specs.Leaves.{row_from}
 use Rattle.writecheck.specs.Looking.{lent}
 use Rattle.writing.specs.Steps.{writing}
