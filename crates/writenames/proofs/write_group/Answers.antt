@@ -45,18 +45,18 @@ returns-in-Refused c =
     let a = c.args in
     let t = lent a.s.now a.nodes.now a.entries.now a.used in
     let f = string_part t a.allowance in
-    member-refused t a.locals a.bit f a.counted a.out.now a.at c.loop.invariant (member_next t a.locals a.bit f a.counted a.out.now a.at _ c.requires.1 c.loop.invariant c.loop-test.true c.child_of_lem.ensures) c.belongs.ensures c.write_member.ensures c.in-Refused.is
+    member-refused t a.locals a.bit f a.counted a.out.now a.at c.loop-i.invariant (member_next t a.locals a.bit f a.counted a.out.now a.at _ c.requires.1 c.loop-i.invariant c.loop-i-test.true c.child_of-name.ensures) c.belongs-member.ensures c.write_member.ensures c.in-Refused.is
 
 pub overflow_add-n : goal.overflow_add-n
 overflow_add-n c =
-    omega (arith, c.loop.invariant.most, c.loop-i-test.true, c.one_if-n.ensures.1, c.requires.3)
+    omega (arith, c.loop-i.invariant.most, c.loop-i-test.true, c.one_if-n.ensures.1, c.requires.3)
 
 pub loop-i-preserved : goal.loop-i-preserved
 loop-i-preserved c =
     let a = c.args in
     let t = lent a.s.now a.nodes.now a.entries.now a.used in
     let f = string_part t a.allowance in
-    member_more t a.locals a.bit f a.counted a.out.now a.at c.loop.invariant (member_next t a.locals a.bit f a.counted a.out.now a.at _ c.requires.1 c.loop.invariant c.loop-test.true c.child_of_lem.ensures) c.belongs.ensures c.write_member.ensures c.in-Done.is c.one_if-n.ensures c.loop-test.true c.next_of-e.ensures
+    member_more t a.locals a.bit f a.counted a.out.now a.at c.loop-i.invariant (member_next t a.locals a.bit f a.counted a.out.now a.at _ c.requires.1 c.loop-i.invariant c.loop-i-test.true c.child_of-name.ensures) c.belongs-member.ensures c.write_member.ensures c.in-Done.is c.one_if-n.ensures c.loop-i-test.true c.next_of-e.ensures
 
 pub shape_of-out : goal.shape_of-out
 shape_of-out c = c.loop-i.invariant.same

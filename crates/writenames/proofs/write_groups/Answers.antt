@@ -34,8 +34,8 @@ write_group-requires-in-Done-write_group c =
     let f = string_part t a.allowance in
     let local = group_in t a.locals local_bit in
     let cell = group_in t a.locals cell_bit in
-    let k = c.write-group.ensures in
-    let is = c.a.given.1 in
+    let k = c.write_group.ensures in
+    let is = c.in-Done.is in
     let h = groups_open f local k c.requires.0 is in
     let k₂ = c.write_group-in-Done.ensures in
     let is₂ = c.in-Done-write_group.is in (
@@ -88,4 +88,4 @@ returns-in-Done-write_group c =
     let free = group_in t a.locals free_bit in
     let h = c.requires.0 in
     groups_all t a.locals f
-    (groups-then f (local ++ cell) (groups-then f local c.write-group.ensures h c.a.given.1 cell c.write-group2.ensures) h c.in-Done-write_group.is free c.write_group-in-Done-write_group.ensures)
+    (groups-then f (local ++ cell) (groups-then f local c.write_group.ensures h c.in-Done.is cell c.write_group-in-Done.ensures) h c.in-Done-write_group.is free c.write_group-in-Done-write_group.ensures)

@@ -27,7 +27,7 @@ write_groups-requires c =
     let a = c.args in
     let t = lent a.s.now a.nodes.now a.entries.now a.used in (
       puts_open c.requires.0 c.write_len.ensures c.in-Done.is,
-      listed t a.kinds a.node c.requires.1 (ap (λ (m : Node). m.count) c.node_of_lem.ensures) (ap (λ (m : Node). m.first) c.node_of_lem.ensures) (ap (λ (m : Node). m.place) c.node-of2.ensures),
+      listed t a.kinds a.node c.requires.1 (ap (λ (m : Node). m.count) c.node_of-n.ensures) (ap (λ (m : Node). m.first) c.node_of-n.ensures) (ap (λ (m : Node). m.place) c.node_of-k.ensures),
       c.requires.2,
     )
 
@@ -39,7 +39,7 @@ pub store_u32-requires : goal.store_u32-requires
 store_u32-requires c =
     let a = c.args in
     let t = lent a.s.now a.nodes.now a.entries.now a.used in
-    omega (arith, locals-room t a.allowance a.kinds a.node (omega arith) c.requires.1 (ap (λ (m : Node). m.count) c.node_of_lem.ensures) (ap (λ (m : Node). m.first) c.node_of_lem.ensures) (ap (λ (m : Node). m.place) c.node-of2.ensures) c.write-len.ensures c.a.given.1 c.requires.0.inside c.write_groups.ensures)
+    omega (arith, locals-room t a.allowance a.kinds a.node (omega arith) c.requires.1 (ap (λ (m : Node). m.count) c.node_of-n.ensures) (ap (λ (m : Node). m.first) c.node_of-n.ensures) (ap (λ (m : Node). m.place) c.node_of-k.ensures) c.write_len.ensures c.in-Done.is c.requires.0.inside c.write_groups.ensures)
 
 pub shape_of-out-in-Refused : goal.shape_of-out-in-Refused
 shape_of-out-in-Refused c = c.write_len.ensures.same
@@ -48,7 +48,7 @@ pub returns-in-Refused : goal.returns-in-Refused
 returns-in-Refused c =
     let a = c.args in
     let t = lent a.s.now a.nodes.now a.entries.now a.used in
-    locals-refused t a.allowance a.kinds a.node (omega arith) c.requires.1 (ap (λ (m : Node). m.count) c.node_of_lem.ensures) (ap (λ (m : Node). m.first) c.node_of_lem.ensures) (ap (λ (m : Node). m.place) c.node-of2.ensures) c.write_len.ensures c.in-Refused.is
+    locals-refused t a.allowance a.kinds a.node (omega arith) c.requires.1 (ap (λ (m : Node). m.count) c.node_of-n.ensures) (ap (λ (m : Node). m.first) c.node_of-n.ensures) (ap (λ (m : Node). m.place) c.node_of-k.ensures) c.write_len.ensures c.in-Refused.is
 
 pub shape_of-out-in-Refused-write_groups : goal.shape_of-out-in-Refused-write_groups
 shape_of-out-in-Refused-write_groups c = c.write_groups.ensures.puts.same ∙ c.write_len.ensures.same
@@ -57,7 +57,7 @@ pub returns-in-Refused-write_groups : goal.returns-in-Refused-write_groups
 returns-in-Refused-write_groups c =
     let a = c.args in
     let t = lent a.s.now a.nodes.now a.entries.now a.used in
-    locals-stopped t a.allowance a.kinds a.node (omega arith) c.requires.1 (ap (λ (m : Node). m.count) c.node_of_lem.ensures) (ap (λ (m : Node). m.first) c.node_of_lem.ensures) (ap (λ (m : Node). m.place) c.node-of2.ensures) c.write-len.ensures c.a.given.1 c.requires.0.inside c.write_groups.ensures c.in-Refused-write_groups.is
+    locals-stopped t a.allowance a.kinds a.node (omega arith) c.requires.1 (ap (λ (m : Node). m.count) c.node_of-n.ensures) (ap (λ (m : Node). m.first) c.node_of-n.ensures) (ap (λ (m : Node). m.place) c.node_of-k.ensures) c.write_len.ensures c.in-Done.is c.requires.0.inside c.write_groups.ensures c.in-Refused-write_groups.is
 
 pub shape_of-out-in-Done-write_groups : goal.shape_of-out-in-Done-write_groups
 shape_of-out-in-Done-write_groups c = c.store_u32.auto.out ∙ c.write_groups.ensures.puts.same ∙ c.write_len.ensures.same
@@ -66,4 +66,4 @@ pub returns-in-Done-write_groups : goal.returns-in-Done-write_groups
 returns-in-Done-write_groups c =
     let a = c.args in
     let t = lent a.s.now a.nodes.now a.entries.now a.used in
-    locals-done t a.allowance a.kinds a.node (omega arith) c.requires.1 (ap (λ (m : Node). m.count) c.node_of_lem.ensures) (ap (λ (m : Node). m.first) c.node_of_lem.ensures) (ap (λ (m : Node). m.place) c.node-of2.ensures) c.write-len.ensures c.a.given.1 c.requires.0.inside c.write-groups.ensures c.in-Done-write_groups.is c.store_u32.ensures
+    locals-done t a.allowance a.kinds a.node (omega arith) c.requires.1 (ap (λ (m : Node). m.count) c.node_of-n.ensures) (ap (λ (m : Node). m.first) c.node_of-n.ensures) (ap (λ (m : Node). m.place) c.node_of-k.ensures) c.write_len.ensures c.in-Done.is c.requires.0.inside c.write_groups.ensures c.in-Done-write_groups.is c.store_u32.ensures

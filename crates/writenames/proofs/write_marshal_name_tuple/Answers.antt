@@ -25,7 +25,7 @@ write_names-requires c =
     let a = c.args in
     let t = lent a.s.now a.nodes.now a.entries.now a.used in
     let asked = c.requires in
-    let node_of_lem = c.node_of_lem.ensures in
+    let node_of_lem = c.node_of-n.ensures in
     (opens (written_in (tuple_way t a.allowance a.node (omega arith) (tuple_at t a.node asked.1 (ap (λ (m : Node). m.count) node_of_lem) (ap (λ (m : Node). m.first) node_of_lem)) asked.0.inside) c.write_len.ensures c.in-Done.is) asked.0.counts, (tuple_at t a.node asked.1 (ap (λ (m : Node). m.count) node_of_lem) (ap (λ (m : Node). m.first) node_of_lem)).chained, (tuple_at t a.node asked.1 (ap (λ (m : Node). m.count) node_of_lem) (ap (λ (m : Node). m.first) node_of_lem)).texts)
 
 pub shape_of-out-in-Refused : goal.shape_of-out-in-Refused
@@ -36,11 +36,11 @@ returns-in-Refused c =
     let a = c.args in
     let t = lent a.s.now a.nodes.now a.entries.now a.used in
     let asked = c.requires in
-    let node_of_lem = c.node_of_lem.ensures in
-    refused_in (each (string_part t (a.allowance - 1)) (kids_from t c.node_of_lem.result.count c.node_of_lem.result.first)) (tuple_way t a.allowance a.node (omega arith) (tuple_at t a.node asked.1 (ap (λ (m : Node). m.count) node_of_lem) (ap (λ (m : Node). m.first) node_of_lem)) asked.0.inside) c.write_len.ensures c.in-Refused.is
+    let node_of_lem = c.node_of-n.ensures in
+    refused_in (each (string_part t (a.allowance - 1)) (kids_from t c.node_of-n.result.count c.node_of-n.result.first)) (tuple_way t a.allowance a.node (omega arith) (tuple_at t a.node asked.1 (ap (λ (m : Node). m.count) node_of_lem) (ap (λ (m : Node). m.first) node_of_lem)) asked.0.inside) c.write_len.ensures c.in-Refused.is
 
 pub shape_of-out-in-Done : goal.shape_of-out-in-Done
-shape_of-out-in-Done c = c.write_names.auto.nodes.1.1.0 ∙ c.write_len.auto.out
+shape_of-out-in-Done c = c.write_names.auto.out ∙ c.write_len.auto.out
 
 pub returns-in-Done : goal.returns-in-Done
 returns-in-Done c =

@@ -20,7 +20,7 @@ write_string-requires c =
     (opens c.loop-i.invariant.way c.requires.0.counts, text-here t _ _ (row-turn c.loop-i.invariant c.loop-i-test.true c.child_of-name.ensures).fine)
 
 pub shape_of-out-in-Refused : goal.shape_of-out-in-Refused
-shape_of-out-in-Refused c = c.write_string.auto.nodes.1.1.0 ∙ c.loop-i.invariant.way.same
+shape_of-out-in-Refused c = c.write_string.auto.out ∙ c.loop-i.invariant.way.same
 
 pub returns-in-Refused : goal.returns-in-Refused
 returns-in-Refused c = row-refused (row-turn c.loop-i.invariant c.loop-i-test.true c.child_of-name.ensures) c.write_string.ensures c.in-Refused.is
@@ -29,7 +29,7 @@ pub loop-i-preserved : goal.loop-i-preserved
 loop-i-preserved c =
     let a = c.args in
     let t = lent a.s.now a.nodes.now a.entries.now a.used in
-    row_more {w₀ = each (string_part t a.allowance) (kids_from t a.count a.first)} (row-turn c.loop.invariant c.loop-test.true c.child_of_lem.ensures) (texts_later t c.child_of_lem.result) c.loop-test.true c.next_of-e.ensures
+    row_more {w₀ = each (string_part t a.allowance) (kids_from t a.count a.first)} (row-turn c.loop-i.invariant c.loop-i-test.true c.child_of-name.ensures) (texts_later t c.child_of-name.result) c.loop-i-test.true c.next_of-e.ensures
     c.write_string.ensures c.in-Done.is
 
 pub shape_of-out : goal.shape_of-out
