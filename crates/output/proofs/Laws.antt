@@ -4,17 +4,15 @@ use mathlib.Core.Path.{◌≡◌, refl, sym, ap, ◌∙◌}
 use Prim.Native.Nat.{ℕ, suc, ◌+◌, ◌-◌, ◌*◌, ◌≤◌, ◌<◌}
 use native.Mathlib.Omega.{arith}
 use native.Mathlib.Numerals.{add-one, add-two}
-use mathlib.Core.Bool.{Bool, true, false}
 use mathlib.Core.List.{List, [], ◌∷◌, ◌++◌, append_assoc}
 use lib.ListN.{length, get_or, set, take, drop, length-append, length-set}
 use lib.Seq.{length-take-le, sets, sets-eq, length-sets, take_at, drop_at, slice, slice_empty, length-slice, take-set-le}
-use borrow.Author.Tests.{le-leb, lt-leb, lt-ltb, le-ltb}
+use borrow.Author.Tests.{le-leb, lt-leb}
 use Rattle.refusals.specs.Numbers.{no_room}
 use Rattle.grammar.specs.Reading.{gives}
-use Rattle.grammar.specs.Letters as letter
 use Rattle.grammar.specs.Fields.{contents, le32, le64}
 use Rattle.writing.specs.Writing.{ended, emit, into}
-use Rattle.writing.specs.Canonical.{bytes32, bytes64, sized, ascii, code_string}
+use Rattle.writing.specs.Canonical.{bytes32, bytes64, sized}
 use Rattle.writing.proofs.Numbers.{part_next, part-append, word_bytes, long_bytes_lem, two_bytes}
 use Rattle.output.specs.declared.Wrote.{Wrote}
 use Rattle.output.specs.declared.Wrote.TheVariants as wrote
