@@ -1,19 +1,17 @@
 -- Strings as they are put: which are short, and what a short one comes to. Assumes nothing.
 use mathlib.Core.Path.{◌≡◌, refl, sym, ap, ◌∙◌}
-use Prim.Native.Nat.{ℕ, suc, ◌+◌, ◌-◌, ◌*◌, ◌≤◌, ◌<◌}
+use Prim.Native.Nat.{ℕ, ◌+◌, ◌≤◌, ◌<◌}
 use native.Mathlib.Omega.{arith}
-use native.Mathlib.Numerals.{add-one, add-two}
 use mathlib.Core.Bool.{Bool, true, false}
-use mathlib.Core.List.{List, [], ◌∷◌, ◌++◌, append_assoc}
-use lib.ListN.{length, get_or, set, take, drop, length-append, length-set}
-use lib.Seq.{sets, slice, slice_empty, length-slice}
-use borrow.Author.Tests.{le-leb, lt-leb, lt-ltb, le-ltb}
+use mathlib.Core.List.{List, ◌∷◌}
+use lib.ListN.{length, get_or, set}
+use lib.Seq.{sets, slice, slice_empty}
+use borrow.Author.Tests.{lt-ltb, le-ltb}
 use Rattle.refusals.specs.Numbers.{no_room}
-use Rattle.grammar.specs.Letters as letter
 use Rattle.grammar.specs.Fields.{contents}
 use Rattle.writing.specs.Writing.{ended, emit}
 use Rattle.writing.specs.Canonical.{sized, ascii, code_string}
-use Rattle.writing.proofs.Numbers.{part_next, part-append}
+use Rattle.writing.proofs.Numbers.{part_next}
 use Rattle.output.specs.declared.Wrote.TheVariants as wrote
 use Rattle.output.specs.Puts.{Puts}
 use Rattle.output.proofs.Laws.{full, placed, sets-second, contents-length}
