@@ -34,4 +34,4 @@ pub returns : goal.returns
 returns c =
     let a = c.args in
     let t = lent a.s.now a.nodes.now a.entries.now a.used in
-    open_front t a.allowance a.node (c.too-deep.ensures.tells t refl refl) c.if1.false (looks_held t a.node c.look.result c.look.ensures c.if2.false) c.node_of-n.ensures c.write_front.auto.out.0 c.write_front.ensures
+    open_front t a.allowance a.node (c.too_deep.ensures.tells t refl refl) c.if-too_deep.false (looks_held t a.node c.look.result c.look.ensures c.if-not-look.false) c.node_of-n.ensures c.write_front.auto.out.0 c.write_front.ensures

@@ -45,7 +45,7 @@ write_vec-requires-in-11 c = (c.requires.0, sound-within c.args.s.now (node_of c
 
 pub write_slice-requires-in_default : goal.write_slice-requires-in_default
 write_slice-requires-in_default c =
-    (c.requires.0, code_numbers_lem c.args.s.now (node_of c.args.n) c.requires.2 (code_else c.args.s.now (node_of c.args.n) c.requires.2 c.args.class (avoids c.args.class 12 c.in_default.rest) c.requires.3))
+    (c.requires.0, code_numbers_lem c.args.s.now (node_of c.args.n) c.requires.2 (code_else c.args.s.now (node_of c.args.n) c.requires.2 c.args.class (omega arith) c.requires.3))
 
 pub returns-in-0 : goal.returns-in-0
 unfolding class_at classes
@@ -124,4 +124,4 @@ pub returns-in_default : goal.returns-in_default
 returns-in_default c =
     let a = c.args in
     let asked = c.requires in
-    front-parts asked.0.inside (code_else a.s.now (node_of a.n) asked.2 a.class (avoids a.class 12 c.in_default.rest) asked.3) (λ f g kids. as_code a.s.now (λ i. omega (arith, c.type_inv.s i)) (node_of a.n) f g kids (code_else a.s.now (node_of a.n) asked.2 a.class (avoids a.class 12 c.in_default.rest) asked.3) (code_numbers_lem a.s.now (node_of a.n) asked.2 (code_else a.s.now (node_of a.n) asked.2 a.class (avoids a.class 12 c.in_default.rest) asked.3))) c.write_slice-in_default.ensures c.with_parts.ensures
+    front-parts asked.0.inside (code_else a.s.now (node_of a.n) asked.2 a.class (omega arith) asked.3) (λ f g kids. as_code a.s.now (λ i. omega (arith, c.type_inv.s i)) (node_of a.n) f g kids (code_else a.s.now (node_of a.n) asked.2 a.class (omega arith) asked.3) (code_numbers_lem a.s.now (node_of a.n) asked.2 (code_else a.s.now (node_of a.n) asked.2 a.class (omega arith) asked.3))) c.write_slice-in_default.ensures c.with_parts.ensures
