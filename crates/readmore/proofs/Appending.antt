@@ -4,13 +4,13 @@ use Prim.Native.Nat.{ℕ, ◌+◌, ◌-◌, ◌*◌, ◌≤◌, ◌<◌}
 use native.Mathlib.Omega.{arith}
 use mathlib.Core.Bool.{Bool, true, false, cond}
 use mathlib.Core.List.{List, map}
-use lib.ListN.{length, take}
+use lib.ListN.{length}
 use lib.Dec.{ltb}
 use borrow.Author.Tests.{ltb-false, le-ltb, lt-ltb}
 use borrow.Rule.Slice.PartMut.{mid_of, put_mid}
 use Rattle.refusals.specs.Numbers.{accepted, no_node, no_entry, input_too_long}
 use Rattle.refusals.specs.Limits.{most_bytes}
-use Rattle.clearing.specs.Lent.{zeros, padded}
+use Rattle.clearing.specs.Lent.{padded}
 use Rattle.clearing.proofs.Laws.{length-padded}
 use Rattle.grammar.specs.Reading.{Answer, gives, stops}
 use Rattle.grammar.specs.Room.{Rooms, run}
@@ -23,7 +23,7 @@ use Rattle.reader.specs.declared.Outcome.{Outcome}
 use Rattle.reader.specs.declared.Outcome.TheVariants as outcome
 use Rattle.reader.specs.Delivered.{answer_of, Delivers}
 use Rattle.readmore.specs.More.{Kept, keeping, room_left, appending, behind, kept_part, appended_to, more_of}
-use Rattle.readmore.specs.Parts.{turned_away, Fitting, Refused, nodes_behind, entries_behind, laid_behind, unraised, Counted, counting, Room, Raised}
+use Rattle.readmore.specs.Parts.{turned_away, Fitting, Refused, nodes_behind, entries_behind, laid_behind, unraised, counting, Room, Raised}
 use Rattle.raising.specs.Appended.{appended_slot}
 use Rattle.readmore.proofs.Laying.{length-behind, length-lent, laid-written, laid_zero}
 use Rattle.readmore.proofs.Bounds.{Bounded, bounded}

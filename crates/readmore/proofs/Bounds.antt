@@ -1,17 +1,15 @@
 -- The numbers of an accepted reading, in the room that is left: its records fit behind what is kept, and every number raised has 32 bits.
 -- By the bounds of every reading (grammar, Bounded and Keeping). Assumes nothing.
-use mathlib.Core.Path.{◌≡◌, refl, sym, ap, subst, ◌∙◌}
-use Prim.Native.Nat.{ℕ, ◌+◌, ◌-◌, ◌*◌, ◌≤◌, ◌<◌}
+use mathlib.Core.Path.{◌≡◌, sym, ◌∙◌}
+use Prim.Native.Nat.{ℕ, ◌+◌, ◌*◌, ◌≤◌, ◌<◌}
 use native.Mathlib.Omega.{arith}
-use mathlib.Core.Bool.{Bool, true, false, cond}
 use mathlib.Core.List.{List}
 use lib.ListN.{length, get_or}
-use lib.Dec.{eqb}
 use borrow.Author.Tests.{eq-eqb, ne_eqb}
 use Rattle.refusals.specs.Limits.{most_bytes, nothing}
 use Rattle.grammar.specs.Reading.{node, entry, slot, gives}
-use Rattle.grammar.specs.Room.{Rooms, run, plainly}
-use Rattle.grammar.specs.State.{State, start, blank, unlinked, node_width, entry_width}
+use Rattle.grammar.specs.Room.{run, plainly}
+use Rattle.grammar.specs.State.{State, start, node_width, entry_width}
 use Rattle.grammar.specs.Answer.{plain, rooms_of}
 use Rattle.grammar.specs.Counted.{claims_of}
 use Rattle.grammar.proofs.Fitting.{exact_where_all_fit, most-fits, fits-unless_of_room, gives_not_of_room}
@@ -20,7 +18,7 @@ use Rattle.grammar.proofs.Links.{UsedOrNone, is_used, is_none}
 use Rattle.grammar.proofs.Standing.{Valued}
 use Rattle.grammar.proofs.Fielding.{Own}
 use Rattle.grammar.proofs.Keeping.{value_keeps}
-use Rattle.grammar.proofs.Bounded.{Accepted, first_used-or_none, none_claimed, at_start, accepted-within}
+use Rattle.grammar.proofs.Bounded.{first_used-or_none, none_claimed, at_start, accepted-within}
 use Rattle.raising.specs.Appended.{raised_link}
 use Rattle.raising.specs.Raised.{NodesRaise, EntriesRaise, SlotsRaise}
 use Rattle.readmore.specs.More.{Kept, room_left}

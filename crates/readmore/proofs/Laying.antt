@@ -1,9 +1,9 @@
 -- Parts of a store that are lent and come back, in the words of the definitions: the tail cleared, the plain reading laid behind what stays, and
 -- what was laid there raised. Over lists of numbers, for nodes and entries alike. Assumes nothing.
-use mathlib.Core.Path.{◌≡◌, refl, sym, ap, ◌∙◌}
+use mathlib.Core.Path.{◌≡◌, sym, ap, ◌∙◌}
 use Prim.Native.Nat.{ℕ, ◌+◌, ◌-◌, ◌≤◌}
 use native.Mathlib.Omega.{arith}
-use mathlib.Core.List.{List, [], ◌++◌, append-nil, append_assoc}
+use mathlib.Core.List.{List, ◌++◌, append-nil, append_assoc}
 use lib.ListN.{length, take, drop, length-append, length-replicate, replicate-append-replicate, drop_of_length-le}
 use lib.Seq.{length-take-le, take_all, take-take, take-append-le, take_at, drop_at}
 use borrow.Rule.Slice.PartMut.{mid_of, put_mid, mid_len, Post-is}

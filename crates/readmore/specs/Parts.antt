@@ -1,6 +1,6 @@
 -- No export and no promise rests on this page.
 -- What each part of an append leaves: contracts of inner functions.
-use Rattle.std.specs.Prelude.{◌≡◌, ℕ, ◌+◌, ◌*◌, ◌≤◌, cond, List, ◌++◌, map, length, ltb}
+use Rattle.std.specs.Prelude.{◌≡◌, ℕ, ◌+◌, ◌*◌, ◌≤◌, cond, List, map, length, ltb}
 use Rattle.refusals.specs.Numbers.{accepted, no_node, no_entry, input_too_long}
 use Rattle.refusals.specs.Limits.{most_bytes}
 use Rattle.clearing.specs.Lent.{zeros, padded}
