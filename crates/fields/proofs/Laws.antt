@@ -13,7 +13,7 @@ use lib.Seq.{take-nil, drop-nil}
 use borrow.Author.Tests.{ne_eqb, leb-true, leb-false, le-leb, lt-leb, lt-ltb, le-ltb}
 use Rattle.refusals.specs.Numbers.{unknown_type, data_too_short, invalid_bytecode, invalid_utf8}
 use Rattle.wtf8.specs.Forms.{well_formed}
-use Rattle.grammar.specs.Reading.{Answer, gives, stops}
+use Rattle.grammar.specs.Reading.{Answer, stops}
 use Rattle.grammar.specs.Letters as letter
 use Rattle.grammar.specs.Letters.{Class, keeps, contains, refuses, found}
 use Rattle.grammar.specs.Fields.{Fields, field, span, items, size32, string, contents, le16, le32, digits, last_digit, numbers, digit_count, pylong, fields, contained}

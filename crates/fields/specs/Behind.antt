@@ -1,7 +1,7 @@
 -- No export and no promise rests on this page.
 -- What stands behind a header, for any class that is kept, and what the code's answers say of it.
-use Rattle.std.specs.Prelude.{◌≡◌, ℕ, ◌+◌, ◌*◌, ◌≤◌, true, List, length}
-use Rattle.grammar.specs.Reading.{Answer, gives, stops}
+use Rattle.std.specs.Prelude.{◌≡◌, ℕ, ◌+◌, ◌≤◌, List, length}
+use Rattle.grammar.specs.Reading.{Answer, stops}
 use Rattle.grammar.specs.Letters.{Class, refers, keeps, contains, codes, refuses}
 use Rattle.grammar.specs.Fields.{Fields, Children, items, pairs, parts, span, fields, contained, code_fields}
 use Rattle.fields.specs.declared.Kids.{Kids}

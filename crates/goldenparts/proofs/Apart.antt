@@ -1,5 +1,5 @@
 -- Each form taken apart: the ways out of the functions that read the two values, by the readings in front of them. Assumes nothing.
-use mathlib.Core.Path.{◌≡◌, refl, sym, ap, subst, ◌∙◌}
+use mathlib.Core.Path.{◌≡◌, sym, ap, subst, ◌∙◌}
 use mathlib.Core.Bool.{Bool, true, false, cond}
 use mathlib.Core.List.{List}
 use mathlib.Core.Option.{Option, none, some}
@@ -9,20 +9,18 @@ use lib.Dec.{ltb}
 use lib.ListN.{length, take, drop, length-drop}
 use lib.Seq.{take-length}
 use Rattle.refusals.specs.Numbers.{bad_type, trailing_bytes}
-use Rattle.taggedfields.specs.Fields.{Field, start_of, reading}
+use Rattle.taggedfields.specs.Fields.{reading}
 use Rattle.taggedfields.specs.Looking.{told, fault_of}
 use Rattle.taggedfields.specs.declared.Fault.{Fault}
 use Rattle.grammar.specs.Reading.{Answer, gives, stops}
 use Rattle.readalone.specs.declared.Alone.{Alone}
 use Rattle.readalone.specs.declared.Alone.TheVariants as read
-use Rattle.readalone.specs.Alone.{Room, lent, alone, answer_of}
+use Rattle.readalone.specs.Alone.{Room, alone, answer_of}
 use Rattle.readalone.proofs.Placing.{Ended, value-ends}
 use Rattle.goldenparts.specs.declared.Span.{Span}
 use Rattle.goldenparts.specs.declared.Spans.{Spans}
-use Rattle.goldenparts.specs.declared.Taken.{Taken}
-use Rattle.goldenparts.specs.declared.Taken.TheVariants as taken
-use Rattle.goldenparts.specs.Forms.{Part, Golden, next, is_code, judged, result_read, cut_at, old_parts, golden_fields, or_other, or_fault, in_fields, both_read, new_parts}
-use Rattle.goldenparts.specs.Spans.{spans_of, spanned, taken_of, part_in, golden_in, Standing, StandingIn}
+use Rattle.goldenparts.specs.Forms.{Golden, next, is_code, judged, result_read, cut_at, old_parts, golden_fields, or_other, or_fault, in_fields, both_read}
+use Rattle.goldenparts.specs.Spans.{spans_of, spanned, part_in, golden_in, Standing, StandingIn}
 use Rattle.goldenparts.proofs.Judging.{part_length, part_bytes, next_refused, next_value}
 
 -- what a part is read from, as the code names it

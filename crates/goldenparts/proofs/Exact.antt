@@ -3,7 +3,7 @@
 use mathlib.Core.Path.{◌≡◌, refl, sym, ap, subst, ◌∙◌}
 use mathlib.Core.Bool.{Bool, true, false, cond, ◌&&◌}
 use mathlib.Core.List.{List, [], ◌∷◌}
-use mathlib.Core.Option.{Option, none, some}
+use mathlib.Core.Option.{none, some}
 use Prim.Native.Nat.{ℕ, ◌+◌, ◌-◌, ◌≤◌, ◌<◌}
 use native.Mathlib.Omega.{arith}
 use lib.Dec.{ltb, eqb}
@@ -17,7 +17,7 @@ use Rattle.taggedfields.proofs.Parts.{field_at-in}
 use Rattle.taggedfields.proofs.Unread.{Unread, rest, unread_start, unread_end, unread_next}
 use Rattle.grammar.specs.Reading.{Answer, gives, stops}
 use Rattle.goldenparts.specs.declared.Spans.{Spans}
-use Rattle.goldenparts.specs.Forms.{Golden, only_one, is_edition, part_of, golden_fields, or_other}
+use Rattle.goldenparts.specs.Forms.{only_one, is_edition, part_of, golden_fields, or_other}
 use Rattle.goldenparts.specs.Spans.{spanned, Standing, behind_field}
 
 -- ---- the place behind a field

@@ -1,17 +1,16 @@
 -- A golden in fields: its parts are those that its numbers name in the file; the ways out of `new_parts`. Assumes nothing.
-use mathlib.Core.Path.{◌≡◌, refl, sym, ap, subst, ◌∙◌}
-use mathlib.Core.Bool.{Bool, true, false, cond, ◌&&◌}
+use mathlib.Core.Path.{◌≡◌, refl, sym, ap, ◌∙◌}
+use mathlib.Core.Bool.{true, ◌&&◌}
 use mathlib.Core.List.{List, [], ◌∷◌}
 use mathlib.Core.Option.{Option, none, some}
 use Prim.Native.Nat.{ℕ, ◌+◌}
 use native.Mathlib.Omega.{arith}
 use lib.Dec.{eqb}
-use lib.ListN.{length}
-use borrow.Author.Tests.{eqb-true, eq-eqb, ne_eqb}
-use Rattle.taggedfields.specs.Fields.{Field, reading, find, field_in}
+use borrow.Author.Tests.{eqb-true}
+use Rattle.taggedfields.specs.Fields.{Field, reading, find}
 use Rattle.taggedfields.proofs.Parts.{In, field_found, none-some}
 use Rattle.grammar.specs.Reading.{Answer, gives, stops}
-use Rattle.grammar.proofs.Tests.{never, both_true, cond-some, same_some}
+use Rattle.grammar.proofs.Tests.{both_true, cond-some, same_some}
 use Rattle.readalone.specs.Alone.{Room}
 use Rattle.goldenparts.specs.declared.Spans.{Spans}
 use Rattle.goldenparts.specs.declared.Taken.{Taken}

@@ -1,10 +1,10 @@
 -- Two values that were read: each answer of `judge`, and of the reading in front of it. Assumes nothing.
 use mathlib.Core.Path.{◌≡◌, refl, sym, ap, ◌∙◌}
-use mathlib.Core.Bool.{Bool, true, false, cond, not}
+use mathlib.Core.Bool.{Bool, true, false, not}
 use mathlib.Core.List.{List}
 use Prim.Native.Nat.{ℕ, ◌+◌, ◌-◌, ◌≤◌, ◌<◌}
 use native.Mathlib.Omega.{arith}
-use lib.Dec.{ltb, eqb}
+use lib.Dec.{eqb}
 use lib.ListN.{length, get_or, take, drop, length-drop}
 use lib.Seq.{length-take-le, get_or-take, get_or-drop}
 use borrow.Author.Tests.{lt-ltb, le-ltb}
@@ -14,10 +14,10 @@ use Rattle.grammar.specs.LetterNames.{code_letter}
 use Rattle.grammar.specs.Letters.{letter_of}
 use Rattle.readalone.specs.declared.Alone.{Alone}
 use Rattle.readalone.specs.declared.Alone.TheVariants as read
-use Rattle.readalone.specs.Alone.{Room, lent, answer_of}
+use Rattle.readalone.specs.Alone.{lent, answer_of}
 use Rattle.goldenparts.specs.declared.Span.{Span}
 use Rattle.goldenparts.specs.declared.Spans.{Spans}
-use Rattle.goldenparts.specs.Forms.{Part, Golden, next, is_code, judged}
+use Rattle.goldenparts.specs.Forms.{Golden, next, is_code, judged}
 use Rattle.goldenparts.specs.Spans.{spanned, part_in, golden_in, Standing}
 
 -- a part has its size, and its bytes are those of the file

@@ -1,6 +1,6 @@
 -- 02, K13: "The old golden is two values back to back, code then expected result, with nothing after. The new one has the tagged fields of K8:
 -- edition (tag 1, the one byte 1), code (tag 2), result (tag 3), exactly these in that order." Each form taken apart, with its refusals.
-use Rattle.std.specs.Prelude.{ℕ, ◌+◌, Bool, true, false, cond, ◌&&◌, List, [], ◌∷◌, ltb, eqb, length, get_or, take, drop}
+use Rattle.std.specs.Prelude.{ℕ, ◌+◌, Bool, false, cond, ◌&&◌, List, [], ◌∷◌, ltb, eqb, length, get_or, take, drop}
 use Rattle.std.proofs.Math.Option.{Option, none, some}
 use Rattle.refusals.specs.Numbers.{bad_type, no_such_field, trailing_bytes}
 use Rattle.taggedfields.specs.Fields.{Field, start_of, reading}

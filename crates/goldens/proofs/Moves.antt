@@ -13,7 +13,7 @@ use Rattle.refusals.specs.Limits.{nothing}
 use Rattle.clearing.specs.Lent.{zeros, padded}
 use Rattle.clearing.proofs.Laws.{sets-padded}
 use Rattle.copying.proofs.Copying.{sets-append}
-use Rattle.taggedfields.specs.Fields.{Field, bytes_of, spelt}
+use Rattle.taggedfields.specs.Fields.{bytes_of, spelt}
 use Rattle.grammar.specs.Reading.{Answer, gives, stops}
 use Rattle.readalone.specs.Alone.{Room}
 use Rattle.goldenparts.specs.declared.Spans.{Spans}

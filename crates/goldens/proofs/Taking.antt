@@ -2,17 +2,17 @@
 use mathlib.Core.Path.{◌≡◌, refl, sym, ap, subst, ◌∙◌}
 use mathlib.Core.Bool.{Bool, true, false, cond}
 use mathlib.Core.List.{List}
-use Prim.Native.Nat.{ℕ, ◌+◌, ◌-◌, ◌≤◌, ◌<◌}
+use Prim.Native.Nat.{ℕ, ◌+◌, ◌≤◌}
 use native.Mathlib.Omega.{arith}
 use lib.Dec.{ltb}
-use lib.ListN.{length, take, drop, length-drop}
+use lib.ListN.{length, take, drop}
 use lib.Seq.{length-take-le, take-length}
 use borrow.Author.Tests.{ltb-false}
 use Rattle.refusals.specs.Numbers.{bad_type, trailing_bytes}
 use Rattle.grammar.specs.Reading.{Answer, gives, stops}
 use Rattle.readalone.specs.Alone.{Room, alone}
 use Rattle.readalone.proofs.Placing.{Ended, alone-ends}
-use Rattle.goldenparts.specs.Forms.{Part, Golden, next, is_code, judged, result_read, cut_at, old_parts, in_fields, both_read, new_parts}
+use Rattle.goldenparts.specs.Forms.{Golden, next, is_code, judged, result_read, cut_at, old_parts, in_fields, both_read, new_parts}
 use Rattle.goldenparts.specs.Spans.{spans_of, part_in, golden_in}
 use Rattle.goldenparts.proofs.Fielded.{fielded, golden_parts}
 

@@ -3,7 +3,7 @@
 use mathlib.Core.Path.{◌≡◌, refl, sym, ap, subst, ◌∙◌}
 use mathlib.Core.Bool.{Bool, true, false, cond}
 use mathlib.Core.List.{List}
-use Prim.Native.Nat.{ℕ, ◌+◌, ◌≤◌, ◌<◌}
+use Prim.Native.Nat.{ℕ, ◌≤◌, ◌<◌}
 use native.Mathlib.Omega.{arith}
 use lib.Dec.{ltb}
 use lib.ListN.{length}
@@ -14,7 +14,7 @@ use Rattle.grammar.specs.Reading.{Answer, gives, stops}
 use Rattle.grammar.specs.Room.{Rooms, run}
 use Rattle.grammar.specs.State.{State}
 use Rattle.grammar.specs.Answer.{plain, rooms_of, reading, Counts, answered, read_of}
-use Rattle.grammar.proofs.Bounded.{Accepted, places_in, accepted-within}
+use Rattle.grammar.proofs.Bounded.{places_in, accepted-within}
 use Rattle.readalone.specs.declared.Alone.{Alone}
 use Rattle.readalone.specs.declared.Alone.TheVariants as variant
 use Rattle.readalone.specs.Alone.{Room, within, placed_from, alone, answer_of, placed_counts, Fitting}

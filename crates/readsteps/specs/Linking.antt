@@ -1,7 +1,7 @@
 -- No export and no promise rests on this page.
 -- What the code makes of a line when a child is complete, of a part by its rule, of the first line, and of a code's end.
 -- 01, 'Reading a value': from "Children get the allowance less one" on, as grammar's Steps says it.
-use Rattle.std.specs.Prelude.{◌≡◌, ℕ, zero, suc, ◌+◌, ◌-◌, ◌%◌, ◌≤◌, ◌<◌, Bool, true, false, cond, ◌&&◌, List, length, get_or, leb, ltb, eqb}
+use Rattle.std.specs.Prelude.{◌≡◌, ℕ, zero, suc, ◌+◌, ◌-◌, ◌%◌, ◌≤◌, ◌<◌, Bool, true, cond, ◌&&◌, List, length, get_or, leb, ltb, eqb}
 use Rattle.refusals.specs.Numbers.{accepted, eof_object, data_too_short, no_entry}
 use Rattle.refusals.specs.Limits.{nothing}
 use Rattle.grammar.specs.LetterNames.{null_letter}

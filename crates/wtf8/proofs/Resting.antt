@@ -1,14 +1,13 @@
 -- Going through bytes by the table: the state has, in its low bits, the place of the stage that is reached, and what is left is
 -- well-formed from there just where the whole is. Assumes nothing.
 use mathlib.Core.Path.{◌≡◌, refl, sym, ap, ◌∙◌, subst}
-use mathlib.Core.Bool.{Bool}
 use mathlib.Core.List.{List}
 use Prim.Native.Nat.{ℕ, ◌+◌, ◌-◌, ◌/◌, ◌%◌, ◌^◌, ◌≤◌, ◌<◌}
 use native.Mathlib.Omega.{arith}
 use native.Mathlib.Numerals.{add-one}
 use lib.Dec.{eqb}
 use lib.ListN.{length, get_or, drop, drop_of_length-le}
-use Rattle.wtf8.specs.Forms.{Expected, allows, may_end, well_formed}
+use Rattle.wtf8.specs.Forms.{allows, may_end, well_formed}
 use Rattle.wtf8.specs.Leads.{lead_table, row_table, Stage, fresh, one, two, three, after_e0, after_f0, after_f4, spoilt, expected, shift, turned}
 use Rattle.wtf8.proofs.Reached.{turn}
 use Rattle.wtf8.proofs.Table.{next, next_expected, row_right}

@@ -1,10 +1,10 @@
 -- The rule of the table of first bytes, over the whole table: the group of a byte tells what the byte leads to, and the group's row
 -- has, at each stage, the stage that follows the byte. One test of all 256 entries, which is computed. Assumes nothing.
-use mathlib.Core.Path.{◌≡◌, refl, ap, ◌∙◌}
+use mathlib.Core.Path.{◌≡◌, refl}
 use mathlib.Core.Bool.{Bool, true, false, cond}
 use Prim.Native.Nat.{ℕ, ◌/◌, ◌%◌, ◌^◌, ◌<◌}
 use lib.Dec.{leb, ltb, eqb}
-use lib.ListN.{length, get_or}
+use lib.ListN.{get_or}
 use borrow.Author.Tests.{ltb-true, eqb-true}
 use Rattle.wtf8.specs.Forms.{Expected, point, trail, wrong, after_lead, after}
 use Rattle.wtf8.specs.Leads.{lead_table, led_by, lead_of, row_table, Stage, fresh, one, two, three, after_e0, after_f0, after_f4, spoilt, expected, shift}

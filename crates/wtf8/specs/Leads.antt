@@ -1,7 +1,7 @@
 -- No export and no promise rests on this page.
 -- The table of first bytes: each of the 256 bytes by what it does at the head of a sequence, and where it may stand inside one.
 -- 02, K10: "two tables of 256 entries, each with its rule shown over the whole table"; the rule is `leads_right` of proofs/Table.
-use Rattle.std.specs.Prelude.{ℕ, ◌/◌, ◌%◌, ◌^◌, cond, List, [], ◌∷◌, leb, ltb, eqb, get_or}
+use Rattle.std.specs.Prelude.{ℕ, ◌/◌, ◌%◌, ◌^◌, List, [], ◌∷◌, get_or}
 use Rattle.wtf8.specs.Forms.{Expected, point, trail, wrong}
 
 -- The group of each byte: 0 is ASCII; 1 to 3 are 80..8F, 90..9F, A0..BF, which lead nothing and continue; 4 leads nothing and

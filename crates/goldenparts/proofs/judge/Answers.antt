@@ -1,6 +1,6 @@
 -- `goldenparts::judge` meets its contract, by the laws of this crate that it names.
 use mathlib.Core.Path.{refl, ◌∙◌}
-use Rattle.goldenparts.proofs.Judging.{not-true, not-false, code-told, judged-no_code, judged-behind-code, judged-behind-result, judged-fine}
+use Rattle.goldenparts.proofs.Judging.{code-told, judged-no_code, judged-behind-code, judged-behind-result, judged-fine}
 use Rattle.goldenparts.proofs.judge.Goals as goal
 
 pub returns-then-not-is_code : goal.returns-then-not-is_code

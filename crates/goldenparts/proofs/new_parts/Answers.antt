@@ -19,11 +19,11 @@ returns-in-Refused c =
 
 pub returns-in-Apart : goal.returns-in-Apart
 returns-in-Apart c = (
-      new_value (lent _ _ _ _) c.args.file.now c.golden_fields-f.ensures.0 c.in-Apart.is
-          (lent_same c.args.nesting c.clear_words.auto.words c.clear_words-2.auto.words c.clear_words-3.auto.words) c.read_both.ensures.0,
-      both_standing (lent _ _ _ _) c.args.file.now _
-          (subst (StandingIn (length c.args.file.now)) (ap taken_of c.in-Apart.is) c.golden_fields-f.ensures.1) c.read_both.ensures.0,
-      c.read_both.ensures.1 ∙ ap zeros c.clear_words.auto.words,
-      c.read_both.ensures.2 ∙ ap zeros c.clear_words-2.auto.words,
-      c.read_both.ensures.3 ∙ ap zeros c.clear_words-3.auto.words,
-    )
+  new_value (lent _ _ _ _) c.args.file.now c.golden_fields-f.ensures.0 c.in-Apart.is
+      (lent_same c.args.nesting c.clear_words.auto.words c.clear_words-2.auto.words c.clear_words-3.auto.words) c.read_both.ensures.0,
+  both_standing (lent _ _ _ _) c.args.file.now _
+      (subst (StandingIn (length c.args.file.now)) (ap taken_of c.in-Apart.is) c.golden_fields-f.ensures.1) c.read_both.ensures.0,
+  c.read_both.ensures.1 ∙ ap zeros c.clear_words.auto.words,
+  c.read_both.ensures.2 ∙ ap zeros c.clear_words-2.auto.words,
+  c.read_both.ensures.3 ∙ ap zeros c.clear_words-3.auto.words,
+)

@@ -16,9 +16,9 @@ returns-in-Refused c =
 
 pub returns-in-Value : goal.returns-in-Value
 returns-in-Value c = (
-      both-value (lent _ _ _ _) c.args.file.now c.args.parts c.read_alone-r.ensures.0 c.in-Value.is
-          (lent_same c.args.nesting c.read_alone-r.auto.nodes c.read_alone-r.auto.entries c.read_alone-r.auto.slots) c.read_result.ensures.0,
-      c.read_result.ensures.1 ∙ ap zeros c.read_alone-r.auto.nodes,
-      c.read_result.ensures.2 ∙ ap zeros c.read_alone-r.auto.entries,
-      c.read_result.ensures.3 ∙ ap zeros c.read_alone-r.auto.slots,
-    )
+  both-value (lent _ _ _ _) c.args.file.now c.args.parts c.read_alone-r.ensures.0 c.in-Value.is
+      (lent_same c.args.nesting c.read_alone-r.auto.nodes c.read_alone-r.auto.entries c.read_alone-r.auto.slots) c.read_result.ensures.0,
+  c.read_result.ensures.1 ∙ ap zeros c.read_alone-r.auto.nodes,
+  c.read_result.ensures.2 ∙ ap zeros c.read_alone-r.auto.entries,
+  c.read_result.ensures.3 ∙ ap zeros c.read_alone-r.auto.slots,
+)

@@ -1,6 +1,5 @@
 -- `localsplus::any_argument` meets its contract: what is left of the list says as much as the whole on whether all are nothing.
 -- Assumes nothing.
-use Prim.Native.Nat.{◌-◌}
 use mathlib.Core.Path.{refl, sym, ◌∙◌}
 use borrow.Author.Rules.{rules}
 use Rattle.localsplus.specs.Lists.{all_nothing}

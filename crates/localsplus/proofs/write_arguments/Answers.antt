@@ -16,8 +16,8 @@ loop-i-preserved c =
     let h = c.loop-i-test.true in
     let e = c.has_bit.ensures in
     elim c.if-has_bit.branch [
-      then-has_bit w ↦ walk_put inv h (arguments_has _ _ h _ (sym e ∙ w.if-has_bit.true) w.argument_of.ensures) w.out-is w.n-is
-    | else-has_bit w ↦ walk_pass inv h (arguments_lacks _ _ h _ (sym e ∙ w.if-has_bit.false)) w.out-is w.n-is
+      | then-has_bit w ↦ walk_put inv h (arguments_has _ _ h _ (sym e ∙ w.if-has_bit.true) w.argument_of.ensures) w.out-is w.n-is
+      | else-has_bit w ↦ walk_pass inv h (arguments_lacks _ _ h _ (sym e ∙ w.if-has_bit.false)) w.out-is w.n-is
     ]
 
 pub returns : goal.returns

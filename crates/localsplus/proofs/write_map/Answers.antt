@@ -1,6 +1,5 @@
 -- `localsplus::write_map` meets its contract: the laws of a walk carry the loop; the ranks stay below the names passed.
 -- Assumes nothing.
-use Prim.Native.Nat.{◌-◌}
 use mathlib.Core.Path.{refl, sym, ap, ◌∙◌}
 use borrow.Author.Rules.{rules}
 use Rattle.clearing.specs.Lent.{zeros}

@@ -11,8 +11,8 @@ placed-requires c =
 
 pub returns : goal.returns
 returns c = (
-      c.placed.ensures ∙ placed-alone (lent _ _ _ _) _ _ c.deserialize_value-answer.ensures.answer,
-      c.clear_words.ensures ∙ ap zeros c.deserialize_value-answer.auto.nodes,
-      c.clear_words-2.ensures ∙ ap zeros c.deserialize_value-answer.auto.entries,
-      c.clear_words-3.ensures ∙ ap zeros c.deserialize_value-answer.auto.slots,
-    )
+  c.placed.ensures ∙ placed-alone (lent _ _ _ _) _ _ c.deserialize_value-answer.ensures.answer,
+  c.clear_words.ensures ∙ ap zeros c.deserialize_value-answer.auto.nodes,
+  c.clear_words-2.ensures ∙ ap zeros c.deserialize_value-answer.auto.entries,
+  c.clear_words-3.ensures ∙ ap zeros c.deserialize_value-answer.auto.slots,
+)

@@ -1,5 +1,4 @@
 -- `run` keeps what holds at the head of the reader's loop; a law of Running for each way out and for the turn.
-use Prim.Native.Nat.{◌-◌}
 use Rattle.readleaves.proofs.Chains.{stands_safe}
 use Rattle.readleaves.proofs.Running.{running_start, run-done, run-refused, run-stands, run_left, run-cut, run_less, run_next}
 use borrow.Author.Rules.{rules}

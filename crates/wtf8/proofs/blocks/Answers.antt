@@ -1,7 +1,6 @@
 -- `wtf8::blocks` meets its contract: the laws on a stretch of ASCII.
 -- Assumes nothing.
 use borrow.Author.Rules.{rules}
-use Prim.Native.Nat.{◌-◌}
 use Rattle.wtf8.proofs.Going.{low_none, low_more}
 use Rattle.wtf8.proofs.blocks.Goals as goal
 

@@ -2,7 +2,6 @@
 -- Assumes nothing.
 use native.Mathlib.Omega.{arith}
 use borrow.Author.Rules.{rules}
-use Prim.Native.Nat.{◌-◌}
 use native.Mathlib.Nat.{le_trans}
 use borrow.Author.Count.{below_more}
 use Rattle.wtf8.proofs.greatest.Goals as goal

@@ -1,6 +1,5 @@
 -- `wtf8::sequences` meets its contract: the laws on going from sequence to sequence.
 -- Assumes nothing.
-use Prim.Native.Nat.{◌-◌}
 use Rattle.wtf8.proofs.Going.{begun, onward, refused, ended}
 use Rattle.wtf8.proofs.sequences.Goals as goal
 
