@@ -1,12 +1,12 @@
 -- THEOREM of 02's K12: all that is promised of a join (specs/Promised). A whole table is spelt by its entries, and rows' `spells_join` puts
 -- one behind the other; all else is that law twice, or once with the empty table. Assumes nothing.
 use mathlib.Core.Path.{◌≡◌, refl, sym, ap, subst, ◌∙◌}
-use mathlib.Core.Bool.{Bool, true, false, cond, ◌&&◌}
-use mathlib.Core.List.{List, [], ◌++◌, append_assoc, append-nil}
+use mathlib.Core.Bool.{Bool, true, false, cond}
+use mathlib.Core.List.{List, ◌++◌, append_assoc, append-nil}
 use Prim.Native.Nat.{ℕ, ◌+◌, ◌≤◌, ◌<◌, ◌^◌, min}
 use native.Mathlib.Omega.{arith}
 use lib.ListN.{length, length-append}
-use lib.Dec.{ltb, eqb}
+use lib.Dec.{ltb}
 use borrow.Author.Tests.{lt-ltb, le-ltb, eqb-true, eq-eqb}
 use Rattle.refusals.specs.Numbers.{input_too_long, no_room, not_joined}
 use Rattle.refusals.specs.Limits.{most_bytes}
@@ -15,11 +15,9 @@ use Rattle.lineentry.specs.declared.Location.{Location}
 use Rattle.linetable.specs.Walk.{done}
 use Rattle.linetable.specs.Complete.{here}
 use Rattle.rows.specs.Spells.{Spells}
-use Rattle.rows.proofs.Local.{never}
 use Rattle.rows.proofs.Joins.{spells_join, spells_none, spells_complete, complete_spells}
 use Rattle.salvage.proofs.Kept.{spells_walk}
 use Rattle.join.specs.declared.Joined.{Joined}
-use Rattle.join.specs.Whole.{whole_for, line_of}
 use Rattle.join.specs.Join.{meets, refused_with, joins, join_of}
 use Rattle.join.specs.Promised.{Table, Whole, leaves, Shows, followed, nothing, Meet, Allowed, joining, Promised}
 use Rattle.join.proofs.Wholes.{both, whole_complete, complete_whole, spells_whole, spells_eights}

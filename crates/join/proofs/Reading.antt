@@ -1,12 +1,12 @@
 -- THEOREM: what is told of a table is what 01's walk says of it: its refusal, or its whole with the line where it ends. From rows' `walk-row`,
 -- by how the row ends; the line by an induction over the list of entries. Assumes nothing.
-use mathlib.Core.Path.{◌≡◌, refl, sym, subst, ◌∙◌}
+use mathlib.Core.Path.{◌≡◌, refl, sym, subst}
 use mathlib.Core.Bool.{Bool, true, false, cond, ◌&&◌}
 use mathlib.Core.List.{List, [], ◌∷◌}
 use Prim.Native.Nat.{ℕ, ◌+◌, ◌-◌, ◌≤◌, ◌<◌}
 use native.Mathlib.Omega.{arith}
 use lib.ListN.{length}
-use lib.Dec.{leb, ltb, eqb}
+use lib.Dec.{leb, eqb}
 use borrow.Author.Tests.{lt-ltb, le-ltb, leb-true, leb-false}
 use Rattle.refusals.specs.Numbers.{input_too_long, number_range}
 use Rattle.refusals.specs.Limits.{most_bytes}
@@ -16,7 +16,7 @@ use Rattle.lineentry.specs.declared.Entry.TheVariants.{Covers}
 use Rattle.lineentry.specs.Entry.{entry_at}
 use Rattle.lineentry.proofs.Entries.{entry_past}
 use Rattle.linetable.specs.Walk.{Reading, done, refused, walk}
-use Rattle.rows.specs.Row.{Ending, placed_all, table_end, stop_byte, cut_short, out_of_range, past_count, Row, row, Chain, Ends, Rowed, line_after, place_after, total, row_reads}
+use Rattle.rows.specs.Row.{Ending, placed_all, table_end, stop_byte, cut_short, out_of_range, past_count, row, Chain, Ends, Rowed, line_after, place_after, total, row_reads}
 use Rattle.rows.proofs.Extent.{entry_runs}
 use Rattle.rows.proofs.Chains.{rowed}
 use Rattle.rows.proofs.Walks.{walk-row}

@@ -3,22 +3,22 @@
 use mathlib.Core.Path.{◌≡◌, refl, sym, ap, subst, ◌∙◌}
 use mathlib.Core.Bool.{Bool, true, false, cond, ◌&&◌}
 use mathlib.Core.List.{List, ◌++◌}
-use Prim.Native.Nat.{ℕ, ◌+◌, ◌-◌, ◌*◌, ◌≤◌, ◌<◌, min}
+use Prim.Native.Nat.{ℕ, ◌+◌, ◌-◌, ◌≤◌, ◌<◌, min}
 use native.Mathlib.Omega.{arith}
 use lib.ListN.{length, take, drop, length-append}
 use lib.Seq.{sets, take_all}
 use lib.Dec.{ltb, eqb}
 use borrow.Author.Tests.{lt-ltb, le-ltb, ltb-true, ltb-false, eq-eqb, ne_eqb}
-use Rattle.refusals.specs.Numbers.{accepted, input_too_long, no_room, number_range, not_joined}
+use Rattle.refusals.specs.Numbers.{input_too_long, no_room, number_range, not_joined}
 use Rattle.refusals.specs.Limits.{most_bytes}
-use Rattle.clearing.specs.Lent.{zeros, padded}
+use Rattle.clearing.specs.Lent.{zeros}
 use Rattle.lineentry.specs.declared.Span.{Span}
 use Rattle.lineentry.specs.Entry.{entry_at}
 use Rattle.lineentry.proofs.Entries.{entry_past}
 use Rattle.linetable.proofs.Stores.{sets-append}
-use Rattle.rows.specs.Row.{Ending, placed_all, table_end, stop_byte, cut_short, out_of_range, past_count, Row, row, Ends, Rowed, line_after, place_after, total}
+use Rattle.rows.specs.Row.{Ending, placed_all, table_end, stop_byte, cut_short, out_of_range, past_count, row, Rowed, line_after, place_after}
 use Rattle.rows.specs.declared.RowEnd.{RowEnd}
-use Rattle.rows.specs.Summary.{how_of, summary_of, summary}
+use Rattle.rows.specs.Summary.{summary_of, summary}
 use Rattle.rows.proofs.Local.{never}
 use Rattle.rows.proofs.Chains.{rowed, chain-upto}
 use Rattle.salvage.proofs.Told.{over_zeros}

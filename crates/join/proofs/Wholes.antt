@@ -1,7 +1,7 @@
 -- A table is whole for a count exactly if it is spelt by complete entries, and then its running line is theirs; it has at most eight
 -- instructions a byte, which is why the counts of two tables never pass 32 bits. Inductions over the list of entries. Assumes nothing.
-use mathlib.Core.Path.{◌≡◌, refl, sym, ap, subst, ◌∙◌}
-use mathlib.Core.Bool.{Bool, true, false, cond, ◌&&◌}
+use mathlib.Core.Path.{◌≡◌, refl, sym, ap, ◌∙◌}
+use mathlib.Core.Bool.{Bool, true, false, ◌&&◌}
 use mathlib.Core.List.{List, [], ◌∷◌}
 use Prim.Native.Nat.{ℕ, ◌+◌, ◌*◌, ◌≤◌}
 use native.Mathlib.Omega.{arith}
@@ -11,7 +11,7 @@ use borrow.Author.Tests.{eqb-true, eq-eqb}
 use Rattle.lineentry.specs.declared.Location.{Location}
 use Rattle.lineentry.specs.declared.Span.{Span}
 use Rattle.linetable.specs.Complete.{Complete}
-use Rattle.rows.specs.Row.{Ending, placed_all, table_end, stop_byte, cut_short, out_of_range, past_count, Row, row, Chain, Rowed, line_after, place_after, total, locations}
+use Rattle.rows.specs.Row.{Ending, placed_all, table_end, stop_byte, cut_short, out_of_range, past_count, row, Chain, Rowed, line_after, place_after, total, locations}
 use Rattle.rows.specs.Spells.{Spells}
 use Rattle.rows.proofs.Local.{never}
 use Rattle.rows.proofs.Extent.{entry_runs}

@@ -4,7 +4,7 @@ use Rattle.std.specs.Prelude.{Bool, true, false, cond, ◌&&◌, List, ◌++◌,
 use Rattle.refusals.specs.Numbers.{accepted, input_too_long, no_room, not_joined}
 use Rattle.refusals.specs.Limits.{most_bytes}
 use Rattle.clearing.specs.Lent.{zeros, padded}
-use Rattle.lineentry.specs.Line.{origin, shown}
+use Rattle.lineentry.specs.Line.{origin}
 use Rattle.join.specs.Whole.{whole_for, line_of}
 use Rattle.join.specs.declared.Met.{Met}
 use Rattle.join.specs.declared.Joined.{Joined}

@@ -1,6 +1,6 @@
 -- What 02's K12 promises of a join, each sentence a field. `proofs/Promised` has the theorem. Lines are kept plus 2^31, as everywhere.
-use Rattle.std.specs.Prelude.{◌≡◌, Bool, true, false, List, [], ◌++◌, ℕ, ◌+◌, ◌≤◌, ◌<◌, ◌^◌, min, length}
-use Rattle.refusals.specs.Numbers.{accepted, input_too_long, no_room, not_joined}
+use Rattle.std.specs.Prelude.{◌≡◌, Bool, true, List, [], ◌++◌, ℕ, ◌+◌, ◌≤◌, ◌<◌, ◌^◌, min, length}
+use Rattle.refusals.specs.Numbers.{input_too_long, no_room, not_joined}
 use Rattle.refusals.specs.Limits.{most_bytes}
 use Rattle.clearing.specs.Lent.{zeros, padded}
 use Rattle.lineentry.specs.declared.Location.{Location}
