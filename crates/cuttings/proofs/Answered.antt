@@ -1,7 +1,7 @@
 -- How each call by piece ends, whatever it is lent: an answer, or a number of the table with the records all zero. By cases of the definitions.
-use mathlib.Core.Path.{◌≡◌, refl, sym, ap, subst, ◌∙◌}
+use mathlib.Core.Path.{◌≡◌, refl, sym, ap}
 use mathlib.Core.Bool.{Bool, true, false, cond, ◌||◌}
-use mathlib.Core.List.{List, [], ◌∷◌, ◌++◌}
+use mathlib.Core.List.{List, ◌++◌}
 use Prim.Native.Nat.{ℕ, ◌+◌, ◌-◌, ◌*◌, ◌/◌, ◌≤◌, ◌<◌, min}
 use native.Mathlib.Omega.{arith}
 use lib.ListN.{length, drop}
@@ -15,15 +15,15 @@ use Rattle.lineentry.specs.declared.Entry.{Entry}
 use Rattle.lineentry.specs.declared.Entry.TheVariants.{Covers, Stop, OutOfRange}
 use Rattle.lineentry.specs.Entry.{entry_at}
 use Rattle.linetable.specs.Answer.{numbers}
-use Rattle.rows.specs.Row.{Ending, placed_all, table_end, stop_byte, cut_short, out_of_range, past_count, Row, row}
+use Rattle.rows.specs.Row.{Ending, placed_all, table_end, stop_byte, cut_short, out_of_range, past_count, row}
 use Rattle.rows.proofs.Local.{never}
 use Rattle.lostentry.specs.Lost.{lost}
 use Rattle.piecestate.specs.declared.Kept.{Kept}
 use Rattle.piecestate.specs.declared.Gate.{Gate}
 use Rattle.piecestate.specs.declared.Gate.TheVariants.{Open, Shut, Stuck}
-use Rattle.piecestate.specs.State.{over, refusing, ended, kept_at, held_at, counted, sound_going, kept_refusal, sound_by}
-use Rattle.piecestate.specs.Answers.{Left, told, no_state, shut, stuck, gate}
-use Rattle.pieces.specs.Piece.{refused_as, shown_of, by_ending, after, walked, piece_by}
+use Rattle.piecestate.specs.State.{over, refusing, ended, kept_at, held_at, kept_refusal, sound_by}
+use Rattle.piecestate.specs.Answers.{Left, told, no_state, stuck, gate}
+use Rattle.pieces.specs.Piece.{shown_of, by_ending, after, walked, piece_by}
 use Rattle.pieces.specs.Calls.{through, called, piece, by_held, end_by, end, begin}
 
 pub data CallEnds (n : ℕ) (x : Left) : Type 0 where

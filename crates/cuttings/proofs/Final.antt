@@ -1,7 +1,7 @@
 -- The end of a reading that stands after u gives what 01's walk over u gives: the answer, and the records. By how the row of u ends.
 use mathlib.Core.Path.{◌≡◌, refl, sym, ap, subst, ◌∙◌}
-use mathlib.Core.Bool.{Bool, true, false, cond}
-use mathlib.Core.List.{List, [], ◌∷◌, ◌++◌, append-nil, append_assoc}
+use mathlib.Core.Bool.{Bool, false}
+use mathlib.Core.List.{List, [], ◌++◌, append-nil, append_assoc}
 use Prim.Native.Nat.{ℕ, ◌+◌, ◌-◌, ◌*◌, ◌/◌, ◌≤◌, ◌<◌, min}
 use native.Mathlib.Omega.{arith}
 use lib.ListN.{length, replicate, get_or, drop, length-append, length-replicate, drop_of_length-le}
@@ -20,24 +20,23 @@ use Rattle.lineentry.proofs.Entries.{entry_past}
 use Rattle.linetable.specs.Walk.{Reading, done, refused, joined}
 use Rattle.linetable.specs.Answer.{numbers, records_of}
 use Rattle.linetable.proofs.Stores.{length-numbers, stored-after}
-use Rattle.rows.specs.Row.{Ending, placed_all, table_end, stop_byte, cut_short, out_of_range, past_count, Row, row, Ends, Rowed, total, locations, line_after, place_after, ending_reads, row_reads}
+use Rattle.rows.specs.Row.{Ending, placed_all, table_end, stop_byte, cut_short, out_of_range, past_count, Row, row, Ends, total, locations, line_after, place_after, ending_reads, row_reads}
 use Rattle.rows.proofs.Chains.{rowed, chain-upto}
-use Rattle.lostentry.specs.Lost.{lost}
 use Rattle.piecestate.specs.declared.Kept.{Kept}
 use Rattle.piecestate.specs.declared.Gate.TheVariants.{Open, Shut}
-use Rattle.piecestate.specs.State.{over, kept_at, held_at}
+use Rattle.piecestate.specs.State.{kept_at}
 use Rattle.piecestate.specs.Answers.{Left, told, shut, stuck}
 use Rattle.pieces.specs.Facts.{Entered}
 use Rattle.pieces.specs.Piece.{overrun, shown_of}
 use Rattle.pieces.proofs.Fronts.{length-locations}
-use Rattle.pieces.proofs.Short.{Goes, nothing, incomplete, unsure}
+use Rattle.pieces.proofs.Short.{Goes}
 use Rattle.pieces.proofs.Shown.{held_out}
 use Rattle.pieces.specs.Calls.{finished, by_held, end_by, end}
 use Rattle.cuttings.specs.Promised.{as_call}
 use Rattle.pieces.proofs.Gates.{by_gate}
 use Rattle.pieces.proofs.Closes.{end_over, end_placed, end_held_by}
-use Rattle.cuttings.proofs.Sound.{Unshifted, held_covers, bytes_drop}
-use Rattle.cuttings.proofs.Standing.{GoingAs, OverAs, GoneAs, Stopped, byte, past, Way, all, on, stopped, gone, Stands}
+use Rattle.cuttings.proofs.Sound.{held_covers, bytes_drop}
+use Rattle.cuttings.proofs.Standing.{GoingAs, OverAs, GoneAs, Stopped, Way, all, on, stopped, gone, Stands}
 use Rattle.cuttings.proofs.Steps.{going_enters, over_enters, gate_open, gate-shut, held_is}
 
 -- a call's answer and records are those of a reading

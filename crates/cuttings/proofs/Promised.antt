@@ -3,39 +3,38 @@
 use mathlib.Core.Path.{◌≡◌, refl, sym, ap, subst, ◌∙◌}
 use mathlib.Core.Bool.{Bool, true, false, ◌&&◌}
 use mathlib.Core.List.{List, [], ◌∷◌, ◌++◌, append_assoc, append-nil}
-use Prim.Native.Nat.{ℕ, zero, suc, ◌+◌, ◌-◌, ◌*◌, ◌/◌, ◌≤◌, ◌<◌}
+use Prim.Native.Nat.{ℕ, ◌+◌, ◌/◌, ◌≤◌, ◌<◌}
 use native.Mathlib.Omega.{arith}
-use lib.ListN.{length, get_or, take, drop, length-append, length-replicate, take-append-drop}
-use lib.Seq.{sets, sets-eq, length-sets, set-get_or}
+use lib.ListN.{length, get_or, drop, length-append, length-replicate}
+use lib.Seq.{length-sets}
 use lib.Dec.{ltb, eqb}
 use borrow.Author.Tests.{ltb-true, ltb-false, eqb-true, eqb-false}
-use Rattle.refusals.specs.Numbers.{accepted, input_too_long, no_room, number_range, already_ended}
+use Rattle.refusals.specs.Numbers.{accepted, input_too_long, no_room, number_range}
 use Rattle.refusals.specs.Limits.{most_bytes}
 use Rattle.grammar.specs.Input.{Bytes}
 use Rattle.clearing.specs.Lent.{zeros}
 use Rattle.lineentry.specs.declared.Span.{Span}
 use Rattle.lineentry.specs.Entry.{at_line}
-use Rattle.linetable.specs.Walk.{Reading, done, refused, walk}
-use Rattle.linetable.specs.Answer.{located, records_of, numbers}
+use Rattle.linetable.specs.Answer.{located, records_of}
 use Rattle.linetable.proofs.Outcomes.{located-short, located_walks}
-use Rattle.rows.specs.Row.{Ending, placed_all, table_end, stop_byte, cut_short, out_of_range, past_count, Row, alone, row, Ends, total, line_after, place_after, row_reads}
-use Rattle.rows.proofs.Chains.{rowed, row_ends}
+use Rattle.rows.specs.Row.{Ending, placed_all, table_end, stop_byte, cut_short, out_of_range, past_count, Row, row, line_after, place_after, row_reads}
+use Rattle.rows.proofs.Chains.{row_ends}
 use Rattle.rows.proofs.Local.{never}
 use Rattle.rows.proofs.Walks.{walk-row}
 use Rattle.lostentry.specs.Lost.{lost}
-use Rattle.piecestate.specs.State.{state_numbers, going, ended, kept_at, kept_refusal, sound, refused_state}
-use Rattle.piecestate.specs.Answers.{Left, left, told, shut, stuck}
+use Rattle.piecestate.specs.State.{going, kept_at}
+use Rattle.piecestate.specs.Answers.{Left, left, told, stuck}
 use Rattle.pieces.proofs.Enters.{piece-long}
-use Rattle.pieces.proofs.Short.{Goes, nothing, incomplete, unsure}
+use Rattle.pieces.proofs.Short.{Goes, nothing, unsure}
 use Rattle.pieces.proofs.Shown.{is_out, shown, shown-refuses, refuses-shown}
-use Rattle.pieces.specs.Calls.{piece, end, fresh, begin}
-use Rattle.cuttings.specs.Promised.{joined, calls, end_after, as_call, EveryRefused, Taken, States, Promised}
+use Rattle.pieces.specs.Calls.{piece, fresh, begin}
+use Rattle.cuttings.specs.Promised.{joined, calls, end_after, as_call, EveryRefused, Taken, Promised}
 use Rattle.pieces.proofs.Begins.{begin-few, begin_on}
 use Rattle.cuttings.proofs.Spelled.{fresh-is}
 use Rattle.cuttings.proofs.Sound.{bytes-front, fresh-sound}
-use Rattle.cuttings.proofs.Standing.{kept_of, GoingAs, OverAs, GoneAs, Stopped, byte, past, Way, all, on, stopped, gone, Stands}
+use Rattle.cuttings.proofs.Standing.{kept_of, GoingAs, Stopped, Way, all, on, stopped, gone, Stands}
 use Rattle.cuttings.proofs.Steps.{going_enters, over_enters, piece_is, step}
-use Rattle.cuttings.proofs.Final.{Reaches, final}
+use Rattle.cuttings.proofs.Final.{final}
 use Rattle.cuttings.proofs.Same.{nothing_new}
 use Rattle.cuttings.proofs.Repeats.{states-kept, stuck_stays, stuck-ends, stuck-calls}
 

@@ -1,14 +1,14 @@
 -- THEOREM of 02's K6: what the calls make of any state: one that keeps a refusal repeats it, one that has ended is of no use, numbers that are no
 -- state are 21, and a call on a state leaves a state.
-use mathlib.Core.Path.{◌≡◌, refl, sym, ap, subst, ◌∙◌}
+use mathlib.Core.Path.{◌≡◌, refl, ap, ◌∙◌}
 use mathlib.Core.Bool.{Bool, true, false}
 use mathlib.Core.List.{List, [], ◌∷◌, ◌++◌}
-use Prim.Native.Nat.{ℕ, zero, suc, ◌+◌, ◌-◌, ◌/◌, ◌≤◌, ◌<◌}
+use Prim.Native.Nat.{ℕ, zero, suc, ◌+◌, ◌-◌, ◌/◌, ◌≤◌}
 use native.Mathlib.Omega.{arith}
 use lib.ListN.{length, get_or, length-append, length-replicate}
 use lib.Seq.{sets, length-sets}
 use lib.Dec.{ltb, eqb}
-use borrow.Author.Tests.{lt-ltb, ltb-true, ltb-false, eqb-true, eqb-false}
+use borrow.Author.Tests.{ltb-true, ltb-false, eqb-true, eqb-false}
 use Rattle.refusals.specs.Numbers.{input_too_long, no_room, number_range, already_ended}
 use Rattle.refusals.specs.Limits.{most_bytes}
 use Rattle.grammar.specs.Input.{Bytes}
@@ -16,9 +16,8 @@ use Rattle.clearing.specs.Lent.{zeros}
 use Rattle.lineentry.specs.declared.Entry.{Entry}
 use Rattle.lineentry.specs.declared.Entry.TheVariants.{Covers, Stop, OutOfRange}
 use Rattle.lineentry.specs.Entry.{entry_at}
-use Rattle.piecestate.specs.declared.Gate.{Gate}
 use Rattle.piecestate.specs.declared.Gate.TheVariants.{Open, Shut, Stuck}
-use Rattle.piecestate.specs.State.{going, over, refusing, ended, kept_at, held_at, kept_refusal, sound_by, sound, refused_state}
+use Rattle.piecestate.specs.State.{going, refusing, ended, kept_at, held_at, kept_refusal, sound_by, sound, refused_state}
 use Rattle.piecestate.specs.Answers.{Left, left, told, shut, stuck, gate}
 use Rattle.piecestate.proofs.Stores.{length_held}
 use Rattle.pieces.specs.Facts.{Entered}

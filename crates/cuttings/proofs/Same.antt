@@ -1,10 +1,10 @@
 -- "a piece without bytes before the final call changes nothing": the answer, the state and the records stay.
 use mathlib.Core.Path.{◌≡◌, refl, sym, ap, subst, ◌∙◌}
-use mathlib.Core.Bool.{Bool, true, false, cond}
+use mathlib.Core.Bool.{false, cond}
 use mathlib.Core.List.{List, [], ◌∷◌, ◌++◌, append-nil}
-use Prim.Native.Nat.{ℕ, ◌+◌, ◌-◌, ◌*◌, ◌/◌, ◌≤◌, ◌<◌}
+use Prim.Native.Nat.{ℕ, ◌+◌, ◌-◌, ◌*◌, ◌/◌, ◌≤◌}
 use native.Mathlib.Omega.{arith}
-use lib.ListN.{length, get_or, take, drop, length-append, length-drop, take-append-drop, drop_of_length-le}
+use lib.ListN.{length, get_or, take, drop, length-drop, take-append-drop, drop_of_length-le}
 use lib.Seq.{sets, sets-eq, set-get_or}
 use Rattle.refusals.specs.Numbers.{number_range}
 use Rattle.refusals.specs.Limits.{most_bytes}
@@ -12,7 +12,7 @@ use Rattle.grammar.specs.Input.{Bytes}
 use Rattle.clearing.specs.Lent.{zeros}
 use Rattle.lineentry.specs.declared.Span.{Span}
 use Rattle.linetable.specs.Answer.{numbers}
-use Rattle.rows.specs.Row.{Ending, placed_all, table_end, cut_short, out_of_range, Row, alone, row, Ends, Rowed, total, locations, line_after, place_after, past_count, stop_byte}
+use Rattle.rows.specs.Row.{Ending, placed_all, table_end, cut_short, out_of_range, Row, alone, row, Ends, total, locations, line_after, place_after, past_count, stop_byte}
 use Rattle.rows.proofs.Chains.{rowed, chain-upto, row_ends}
 use Rattle.lostentry.specs.Lost.{lost}
 use Rattle.piecestate.specs.declared.Kept.{Kept}
@@ -20,12 +20,12 @@ use Rattle.piecestate.specs.State.{going, kept_at, advanced}
 use Rattle.piecestate.specs.Answers.{Left, left, told, stuck}
 use Rattle.pieces.specs.Piece.{onward, shown_of, after, walked}
 use Rattle.pieces.proofs.Enters.{goes}
-use Rattle.pieces.proofs.Short.{Goes, nothing, incomplete, unsure}
+use Rattle.pieces.proofs.Short.{Goes, unsure}
 use Rattle.pieces.proofs.Shown.{held_out}
 use Rattle.pieces.specs.Calls.{piece}
 use Rattle.cuttings.proofs.Spelled.{front, spelled, advanced_is}
-use Rattle.cuttings.proofs.Sound.{Unshifted, held_covers, bytes_drop}
-use Rattle.cuttings.proofs.Standing.{kept_of, GoingAs, OverAs, GoneAs, Stopped, Way, all, on, stopped, gone, Stands}
+use Rattle.cuttings.proofs.Sound.{held_covers, bytes_drop}
+use Rattle.cuttings.proofs.Standing.{GoingAs, OverAs, GoneAs, Way, all, on, stopped, gone, Stands}
 use Rattle.cuttings.proofs.Steps.{going_enters, going-piece, over-piece, gone_piece}
 
 -- ---- a walk over held bytes alone

@@ -3,12 +3,12 @@
 use mathlib.Core.Path.{◌≡◌, refl, sym, ap, subst, ◌∙◌}
 use mathlib.Core.Bool.{Bool, true, false, cond, not}
 use mathlib.Core.List.{List, [], ◌∷◌, ◌++◌, map, append-nil}
-use Prim.Native.Nat.{ℕ, zero, suc, ◌+◌, ◌-◌, ◌*◌, ◌%◌, ◌≤◌, ◌<◌}
+use Prim.Native.Nat.{ℕ, zero, suc, ◌+◌, ◌-◌, ◌≤◌, ◌<◌}
 use native.Mathlib.Omega.{arith}
-use lib.ListN.{length, get_or, take, drop, length-append, length-drop, get_or-append, get_or-eq_default}
+use lib.ListN.{length, get_or, take, drop, length-drop, get_or-append, get_or-eq_default}
 use lib.Seq.{sets, get_or-drop, get_or-append-add}
-use lib.Dec.{leb, ltb, eqb}
-use borrow.Author.Tests.{lt-ltb, le-ltb, le-leb, ltb-true, ltb-false, eqb-true, eqb-false}
+use lib.Dec.{ltb, eqb}
+use borrow.Author.Tests.{le-ltb, le-leb, ltb-true, ltb-false, eqb-false}
 use Rattle.refusals.specs.Numbers.{number_range}
 use Rattle.refusals.specs.Limits.{most_bytes}
 use Rattle.grammar.specs.Input.{Bytes}
@@ -16,18 +16,16 @@ use Rattle.lineentry.specs.declared.Span.{Span}
 use Rattle.lineentry.specs.declared.Entry.{Entry}
 use Rattle.lineentry.specs.declared.Entry.TheVariants.{Covers, Stop, OutOfRange}
 use Rattle.lineentry.specs.Entry.{entry_at}
-use Rattle.linetable.specs.Answer.{numbers}
-use Rattle.rows.specs.Row.{Ending, placed_all, table_end, stop_byte, cut_short, out_of_range, past_count, Row, row, shift_span, Ends, total, line_after, place_after}
+use Rattle.rows.specs.Row.{Ending, placed_all, table_end, stop_byte, cut_short, out_of_range, past_count, row, shift_span, Ends, total, line_after, place_after}
 use Rattle.rows.proofs.Shift.{shift_entry}
 use Rattle.rows.proofs.Chains.{rowed, chain-upto}
 use Rattle.lostentry.specs.Lost.{lost}
-use Rattle.piecestate.specs.declared.Kept.{Kept}
-use Rattle.piecestate.specs.State.{going, over, refusing, ended, kept_at, low, held_in, held_at, open_as, open_entry, counted, sound_going, kept_refusal, sound_by, sound, refused_state, advanced}
-use Rattle.piecestate.specs.Answers.{Left, left, told, stuck}
-use Rattle.pieces.specs.Piece.{onward, shown_of, by_ending, after, walked}
+use Rattle.piecestate.specs.State.{going, over, ended, kept_at, low, held_in, held_at, open_as, open_entry, counted, sound_going, kept_refusal, sound_by, sound, refused_state, advanced}
+use Rattle.piecestate.specs.Answers.{stuck}
+use Rattle.pieces.specs.Piece.{onward, by_ending, after, walked}
 use Rattle.pieces.proofs.Settled.{entry-drop}
 use Rattle.pieces.proofs.Shown.{held_out}
-use Rattle.pieces.proofs.Short.{Goes, nothing, incomplete, unsure, held_short}
+use Rattle.pieces.proofs.Short.{Goes, incomplete, unsure, held_short}
 use Rattle.pieces.specs.Calls.{fresh}
 use Rattle.cuttings.proofs.Spelled.{front, advanced_is, refused_is, counted_is, ended_is, fresh-is, stored_held, same_bytes}
 

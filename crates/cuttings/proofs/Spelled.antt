@@ -1,13 +1,12 @@
 -- The ten numbers at the front of a state, spelled out, and what a call that stores some of them leaves.
-use mathlib.Core.Path.{◌≡◌, refl, sym, ap, ◌∙◌}
-use mathlib.Core.List.{List, [], ◌∷◌, ◌++◌, map}
-use Prim.Native.Nat.{ℕ, zero, suc, ◌+◌, ◌-◌, ◌%◌, ◌≤◌, ◌<◌}
+use mathlib.Core.Path.{◌≡◌, refl, ap, ◌∙◌}
+use mathlib.Core.List.{List, [], ◌∷◌, map}
+use Prim.Native.Nat.{ℕ, suc, ◌%◌, ◌≤◌}
 use native.Mathlib.Omega.{arith}
-use lib.ListN.{length, set, get_or, take, drop, length-set, length-drop}
-use lib.Seq.{sets, length-sets, drop-cons}
+use lib.ListN.{length, set, get_or, take, drop, length-drop}
+use lib.Seq.{sets, drop-cons}
 use Rattle.grammar.specs.Input.{Bytes}
-use Rattle.piecestate.specs.declared.Kept.{Kept}
-use Rattle.piecestate.specs.State.{going, refusing, ended, kept_at, low, held_in, held_at, refused_state, advanced}
+use Rattle.piecestate.specs.State.{going, refusing, ended, low, refused_state, advanced}
 use Rattle.piecestate.proofs.Stores.{front-sets}
 use Rattle.pieces.specs.Calls.{fresh}
 

@@ -2,13 +2,11 @@
 -- A piece leads from u to u ++ v, since the row of a table that goes on begins with the complete entries of its first bytes.
 use mathlib.Core.Path.{◌≡◌, refl, sym, ap, subst, ◌∙◌}
 use mathlib.Core.Bool.{Bool, true, false, cond}
-use mathlib.Core.List.{List, [], ◌∷◌, ◌++◌, map, append-nil}
-use Prim.Native.Nat.{ℕ, ◌+◌, ◌-◌, ◌*◌, ◌/◌, ◌≤◌, ◌<◌}
+use mathlib.Core.List.{List, [], ◌∷◌, ◌++◌, append-nil}
+use Prim.Native.Nat.{ℕ, ◌+◌, ◌-◌, ◌≤◌}
 use native.Mathlib.Omega.{arith}
-use lib.ListN.{length, replicate, get_or, take, drop, length-append, length-drop, length-replicate, drop_of_length-le}
+use lib.ListN.{length, replicate, get_or, take, drop, length-append, length-replicate, drop_of_length-le}
 use lib.Seq.{sets, length-sets}
-use lib.Dec.{ltb, eqb}
-use borrow.Author.Tests.{le-ltb, eq-eqb, ne_eqb}
 use Rattle.refusals.specs.Numbers.{number_range}
 use Rattle.refusals.specs.Limits.{most_bytes}
 use Rattle.grammar.specs.Input.{Bytes}
@@ -16,17 +14,16 @@ use Rattle.clearing.specs.Lent.{zeros}
 use Rattle.lineentry.specs.declared.Location.{Location}
 use Rattle.lineentry.specs.declared.Span.{Span}
 use Rattle.linetable.specs.Answer.{numbers}
-use Rattle.rows.specs.Row.{Ending, placed_all, table_end, stop_byte, cut_short, out_of_range, past_count, Row, row, Chain, Ends, Rowed, total, locations, line_after, place_after}
-use Rattle.rows.proofs.Chains.{rowed, chain-upto}
+use Rattle.rows.specs.Row.{Ending, placed_all, table_end, stop_byte, cut_short, out_of_range, past_count, Row, row, Ends, total, locations, line_after, place_after}
+use Rattle.rows.proofs.Chains.{rowed}
 use Rattle.lostentry.specs.Lost.{lost}
 use Rattle.piecestate.specs.declared.Kept.{Kept}
-use Rattle.piecestate.specs.declared.Gate.TheVariants.{Open}
-use Rattle.piecestate.specs.State.{going, over, refusing, ended, kept_at, low, held_in, held_at, sound_by, sound, advanced, refused_state}
-use Rattle.piecestate.specs.Answers.{Left, left, told, stuck, gate}
+use Rattle.piecestate.specs.State.{going, over, refusing, kept_at, sound, advanced}
+use Rattle.piecestate.specs.Answers.{Left, told, stuck}
 use Rattle.pieces.specs.Piece.{onward, overrun, shown_of, by_ending, after, walked}
 use Rattle.pieces.proofs.Fronts.{length-locations}
 use Rattle.pieces.proofs.Short.{Goes, nothing, incomplete, unsure, held_short}
-use Rattle.cuttings.proofs.Spelled.{front, advanced_is, refused_is, stored_held}
+use Rattle.cuttings.proofs.Spelled.{advanced_is, refused_is, stored_held}
 use Rattle.cuttings.proofs.Sound.{walked-sound}
 
 abbrev pub kept_of : ℕ → ℕ → ℕ → ℕ → ℕ → ℕ → ℕ → ℕ → ℕ → ℕ → Kept

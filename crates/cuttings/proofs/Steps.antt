@@ -1,10 +1,10 @@
 -- A piece leads from where a reading stands after u to where it stands after u ++ v.
 use mathlib.Core.Path.{◌≡◌, refl, sym, ap, subst, ◌∙◌}
-use mathlib.Core.Bool.{Bool, true, false, cond}
+use mathlib.Core.Bool.{true, false}
 use mathlib.Core.List.{List, [], ◌∷◌, ◌++◌, map, append_assoc}
 use Prim.Native.Nat.{ℕ, ◌+◌, ◌-◌, ◌*◌, ◌/◌, ◌≤◌, ◌<◌}
 use native.Mathlib.Omega.{arith}
-use lib.ListN.{length, get_or, take, drop, length-append, length-replicate}
+use lib.ListN.{length, get_or, drop, length-append, length-replicate}
 use lib.Seq.{sets, length-sets, drop-append-le}
 use Rattle.refusals.specs.Numbers.{number_range}
 use Rattle.refusals.specs.Limits.{most_bytes}
@@ -14,28 +14,27 @@ use Rattle.lineentry.specs.declared.Span.{Span}
 use Rattle.lineentry.specs.declared.Entry.TheVariants.{OutOfRange}
 use Rattle.lineentry.specs.Entry.{entry_at}
 use Rattle.linetable.specs.Answer.{numbers}
-use Rattle.rows.specs.Row.{Ending, placed_all, stop_byte, out_of_range, past_count, Row, row, Chain, Ends, Rowed, total, locations, line_after, place_after, cut_short, table_end}
+use Rattle.rows.specs.Row.{Ending, placed_all, stop_byte, out_of_range, past_count, Row, row, Ends, total, locations, line_after, place_after, cut_short, table_end}
 use Rattle.rows.proofs.Chains.{rowed, chain-upto, row_ends}
 use Rattle.lostentry.specs.Lost.{Lost, lost}
 use Rattle.lostentry.proofs.Losing.{lost-refuses}
 use Rattle.lostentry.proofs.Heals.{refuses-lost}
 use Rattle.piecestate.specs.declared.Kept.{Kept}
 use Rattle.piecestate.specs.declared.Gate.TheVariants.{Open, Shut}
-use Rattle.piecestate.specs.State.{going, over, refusing, kept_at, low, held_in, held_at, sound}
+use Rattle.piecestate.specs.State.{kept_at, low, held_in, held_at}
 use Rattle.piecestate.specs.Answers.{Left, left, told, shut, gate}
 use Rattle.pieces.specs.Facts.{Entered}
-use Rattle.pieces.specs.Piece.{shown_of, walked, piece_by}
+use Rattle.pieces.specs.Piece.{walked, piece_by}
 use Rattle.pieces.proofs.Enters.{all_counts, piece-over, piece_on}
 use Rattle.pieces.proofs.Fronts.{walked_feed}
 use Rattle.pieces.proofs.Others.{alike}
 use Rattle.pieces.proofs.Settled.{Settled, stop as stop_settled, past as past_settled, gone as gone_settled, row_settled}
-use Rattle.pieces.proofs.Short.{Goes}
 use Rattle.pieces.proofs.Shown.{chain-line}
 use Rattle.pieces.specs.Calls.{piece}
 use Rattle.pieces.proofs.Gates.{open_gate, refused-gate, by_gate}
 use Rattle.cuttings.proofs.Spelled.{counted_is, same_bytes}
 use Rattle.cuttings.proofs.Sound.{bytes_drop, bytes-front, counted-sound}
-use Rattle.cuttings.proofs.Standing.{GoingAs, OverAs, GoneAs, Stopped, byte, past, Way, all, on, stopped, gone, Stands, walked-stands}
+use Rattle.cuttings.proofs.Standing.{GoingAs, OverAs, GoneAs, Stopped, Way, all, on, stopped, gone, Stands, walked-stands}
 
 stopped_settled : (u : List ℕ) (line p : ℕ) (x : Ending) → Stopped x → Settled u line p x
 stopped_settled u line p placed_all g = elim g [ ]
