@@ -4,7 +4,7 @@ use Rattle.grammar.specs.State.{Node}
 use Rattle.grammar.specs.Record.{sound_at}
 use Rattle.grammar.specs.Letters.{is_bytes}
 use Rattle.stores.specs.Written.{node_of}
-use borrow.Author.Tests.{not-true, not-false, le-ltb, lt-leb, le-leb}
+use borrow.Author.Tests.{le-ltb, lt-leb, le-leb}
 use lib.Dec.{eqb}
 use native.Mathlib.Omega.{arith}
 use mathlib.Core.Bool.{◌&&◌}

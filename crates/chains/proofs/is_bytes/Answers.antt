@@ -1,7 +1,5 @@
 -- By the letter. Assumes nothing.
-use Rattle.chains.proofs.Told.{not_among}
 use Rattle.grammar.specs.Letters.{is_bytes}
-use mathlib.Core.List.{[], ◌∷◌}
 use mathlib.Core.Path.{sym, ap}
 use Rattle.chains.proofs.is_bytes.Goals as goal
 

@@ -2,7 +2,6 @@
 -- Assumes nothing.
 use Rattle.chains.proofs.Chains.{walk-stop, walk_more, walk_end, straight_fits, straight_walk, outside, within-room, linked_is}
 use native.Mathlib.Omega.{arith}
-use Prim.Native.Nat.{◌-◌}
 use borrow.Author.Rules.{rules}
 use Rattle.chains.proofs.linked.Goals as goal
 

@@ -2,7 +2,6 @@
 use Rattle.chains.proofs.Chains.{straight_start, straight_more}
 use native.Mathlib.Omega.{arith}
 use mathlib.Core.Path.{sym, ◌∙◌}
-use Prim.Native.Nat.{◌-◌}
 use Rattle.chains.proofs.straight.Goals as goal
 
 pub loop-i-init : goal.loop-i-init

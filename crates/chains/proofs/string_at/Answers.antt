@@ -3,7 +3,7 @@ use Rattle.chains.proofs.Told.{and-false, and-true}
 use Rattle.grammar.specs.State.{Node, node_at}
 use Rattle.grammar.specs.Record.{sound, sound_at}
 use Rattle.grammar.specs.Letters.{is_string}
-use borrow.Author.Tests.{not-true, not-false, lt-ltb, le-ltb}
+use borrow.Author.Tests.{lt-ltb, le-ltb}
 use mathlib.Core.Bool.{◌&&◌}
 use mathlib.Core.Path.{ap, sym, ◌∙◌}
 use Rattle.chains.proofs.string_at.Goals as goal
