@@ -7,7 +7,6 @@ use mathlib.Core.Option.{Option, none, some}
 use mathlib.Core.List.{List, [], ◌∷◌, ◌++◌}
 use lib.ListN.{length, get_or, take, drop}
 use Rattle.localsplus.specs.Kind.{local_bit, cell_bit, free_bit, has}
-use Rattle.grammar.specs.Letters as letter
 use Rattle.grammar.specs.Letters.{Class, refers, keeps, contains, codes, refuses, class_of, is_tuple, is_string}
 use Rattle.grammar.specs.Steps as rule
 use Rattle.grammar.specs.Steps.{Rule, rules, kinds_part, line_part}
@@ -17,7 +16,6 @@ use Rattle.grammar.proofs.Lettered.{Each}
 use Rattle.grammar.proofs.Passed.{first_string, unless_none, or-none, fits-some, fits-sound}
 use Rattle.writing.specs.Writing.{Writing, ended, emit, then, each}
 use Rattle.writing.specs.Canonical.{bytes32, code_string, shown_line}
-use Rattle.writing.specs.Shape as shape
 use Rattle.writing.specs.Names.{contents_of, same_bytes, having, named_in, apart_from, in_groups}
 use Rattle.writing.specs.Steps.{levelled, string_part, names_part, some_of, kids_of, Manner, as_value, as_names, as_locals, as_string, manners, part, parts_as, parted}
 use Rattle.writing.specs.Unread.{SameRead}

@@ -8,15 +8,15 @@ use mathlib.Core.List.{List, [], ◌∷◌, ◌++◌}
 use lib.ListN.{length, get_or}
 use lib.Seq.{slice, slice_empty}
 use lib.Dec.{leb, ltb, eqb}
-use borrow.Author.Tests.{lt-ltb, le-ltb, le-leb, lt-leb, ltb-true, ltb-false, leb-true, eqb-false}
+use borrow.Author.Tests.{le-ltb, ltb-true, leb-true, eqb-false}
 use Rattle.refusals.specs.Numbers.{data_too_short, invalid_bytecode}
 use Rattle.grammar.specs.Reading.{Answer, gives, stops}
 use Rattle.grammar.specs.Letters as letter
-use Rattle.grammar.specs.Fields.{Fields, items, span, field, fields, digits, last_digit, pylong, le16, le32, contents, not_negative, digit_count}
+use Rattle.grammar.specs.Fields.{Fields, items, span, fields, digits, last_digit, pylong, le16, le32, contents, not_negative, digit_count}
 use Rattle.grammar.specs.Leaf.{magnitude}
-use Rattle.writing.specs.Canonical.{bytes16, bytes32, Integer, bits_of, in_signed32, digits_from, digits_of, digit_bytes, long_bytes, integer_bytes}
+use Rattle.writing.specs.Canonical.{bytes32, bits_of, digits_from, digits_of, digit_bytes, long_bytes}
 use Rattle.writing.specs.Shape.{long_at}
-use Rattle.writing.proofs.Numbers.{part-append, word_bytes, pair_bytes, word_below, great_positive, great_negative}
+use Rattle.writing.proofs.Numbers.{part-append, word_bytes, pair_bytes, word_below}
 
 -- The fewest digits, from the least on.
 

@@ -2,14 +2,13 @@
 use mathlib.Core.Path.{◌≡◌, refl, sym, ap, ◌∙◌}
 use Prim.Native.Nat.{ℕ, zero, suc, ◌+◌, ◌-◌, ◌*◌, ◌/◌, ◌%◌, ◌≤◌, ◌<◌}
 use native.Mathlib.Omega.{arith}
-use mathlib.Core.Bool.{Bool, true, false, cond}
-use mathlib.Core.List.{List, [], ◌∷◌, ◌++◌, append-nil}
+use mathlib.Core.Bool.{true, false}
+use mathlib.Core.List.{List, [], ◌∷◌, ◌++◌}
 use lib.ListN.{length, get_or}
 use lib.Seq.{slice, slice_empty, slice-cons}
-use lib.Dec.{leb, ltb}
-use borrow.Author.Tests.{lt-ltb, le-ltb, le-leb, lt-leb, ltb-true, ltb-false}
+use borrow.Author.Tests.{lt-ltb, le-ltb, le-leb, lt-leb}
 use Rattle.grammar.specs.Fields.{le16, le32, le64, contents}
-use Rattle.writing.specs.Canonical.{bytes16, bytes32, bytes64, words, Integer, of_bits, bits_of, in_signed32, long_bytes, integer_bytes}
+use Rattle.writing.specs.Canonical.{bytes16, bytes32, bytes64, words, of_bits, long_bytes, integer_bytes}
 use Rattle.writing.specs.Shape.{numbers_at}
 
 -- A part, byte by byte and piece by piece.

@@ -30,7 +30,7 @@ use Rattle.writing.specs.Steps.{parted, shaped, looked, is_code, no_parts, writi
 use Rattle.writing.specs.Answer.{most_output, written}
 use Rattle.writing.specs.Unread.{SameBytes, SameLinks, SameRead}
 use Rattle.writing.proofs.Alike.{linked, same_classed}
-use Rattle.writing.proofs.Judging.{relinked, bytes-told, part-fits, own, same_look}
+use Rattle.writing.proofs.Judging.{relinked, bytes-told, part-fits, same_look}
 use Rattle.writing.proofs.Coding.{Told, same_parted}
 
 -- The children of a node, each written alike.

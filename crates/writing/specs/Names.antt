@@ -1,6 +1,6 @@
 -- The order in which local names are written. 01, 'Writing it back': "Local names are written as all Local, then Cell whose name equals no
 -- Local name, then Free; kinds as stored".
-use Rattle.std.specs.Prelude.{ℕ, Bool, true, false, cond, not, ◌&&◌, ◌||◌, List, [], ◌∷◌, ◌++◌, eqb}
+use Rattle.std.specs.Prelude.{ℕ, Bool, true, false, cond, ◌&&◌, ◌||◌, List, [], ◌∷◌, ◌++◌, eqb}
 use Rattle.localsplus.specs.Kind.{local_bit, cell_bit, free_bit, has}
 use Rattle.grammar.specs.Fields.{contents}
 use Rattle.grammar.specs.Record.{Tables, node_of}

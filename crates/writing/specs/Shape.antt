@@ -1,6 +1,6 @@
 -- What a node of a sound record is, whatever letter it was read from: the writer and the meaning of stores both go by it.
 -- 01, 'Writing it back': "Interning, sharing and integer, string or tuple letter do not count."
-use Rattle.std.specs.Prelude.{ℕ, ◌+◌, Bool, true, false, cond, not, List, [], ◌∷◌, eqb}
+use Rattle.std.specs.Prelude.{ℕ, ◌+◌, cond, not, List, [], ◌∷◌, eqb}
 use Rattle.grammar.specs.LetterNames.{float_letter, tuple_letter}
 use Rattle.grammar.specs.Letters as letter
 use Rattle.grammar.specs.Letters.{Form, Sort, Class, class_of}

@@ -1,10 +1,10 @@
 -- The writing of a node, step by step, for any stores. 01, 'Writing it back'.
-use Rattle.std.specs.Prelude.{ℕ, zero, suc, ◌+◌, ◌-◌, Bool, true, false, cond, ◌&&◌, List, [], ◌∷◌, ◌++◌, length, get_or, take, drop, ltb, eqb}
+use Rattle.std.specs.Prelude.{ℕ, zero, suc, ◌+◌, ◌-◌, Bool, cond, ◌&&◌, List, [], ◌∷◌, ◌++◌, length, get_or, take, drop, ltb, eqb}
 use Rattle.refusals.specs.Numbers.{too_deep, bad_table}
 use Rattle.grammar.specs.LetterNames.{float_letter, complex_letter, bytes_letter, unicode_letter, tuple_letter, slice_letter, dict_letter, code_letter, null_letter}
 use Rattle.grammar.specs.Steps as rule
 use Rattle.grammar.specs.Steps.{Rule, rules, locals_part, kinds_part, line_part}
-use Rattle.grammar.specs.Record.{Tables, Looked, holds, faulty, look, node_of, nodes_in, chain}
+use Rattle.grammar.specs.Record.{Tables, Looked, holds, faulty, look, node_of, nodes_in}
 use Rattle.writing.specs.Writing.{Writing, ended, refused, emit, then, each}
 use Rattle.writing.specs.Canonical.{bytes32, bytes64, words, integer_bytes, sized, code_string, shown_line}
 use Rattle.writing.specs.Shape as shape

@@ -1,7 +1,7 @@
 -- `soundness::text_sound` meets its contract: the span, then what every string's letter asks.
 -- Assumes nothing.
 use mathlib.Core.Path.{sym, ap, ◌∙◌}
-use mathlib.Core.Bool.{true, false, cond, ◌&&◌}
+use mathlib.Core.Bool.{false, cond, ◌&&◌}
 use borrow.Author.Tests.{lt-leb, le-leb, eq-eqb, ne_eqb}
 use Rattle.wtf8.specs.Forms.{well_formed}
 use Rattle.grammar.specs.Fields.{contents}

@@ -1,10 +1,8 @@
 -- `soundness::too_long` meets its contract: the size, then the letter.
 -- Assumes nothing.
-use mathlib.Core.Path.{sym, ap, ◌∙◌}
-use mathlib.Core.Bool.{true, false, cond}
+use mathlib.Core.Path.{sym, ap}
 use mathlib.Core.List.{[], ◌∷◌}
-use lib.Dec.{eqb}
-use borrow.Author.Tests.{lt-leb, le-leb, ne_eqb}
+use borrow.Author.Tests.{lt-leb, le-leb}
 use Rattle.grammar.specs.Letters.{among}
 use Rattle.soundness.proofs.too_long.Goals as goal
 
