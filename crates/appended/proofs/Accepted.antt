@@ -1,34 +1,32 @@
 -- An append that is accepted, beside the reading of its input alone: records and values. By the records behind the kept part (Behind), the law of
 -- carried stores (carried) for what is new and that of grown ones (Growing) for what is kept. Assumes nothing.
 use mathlib.Core.Path.{◌≡◌, refl, sym, ap, ap₂, subst, ◌∙◌}
-use Prim.Native.Nat.{ℕ, zero, suc, ◌+◌, ◌-◌, ◌*◌, ◌≤◌, ◌<◌, min}
+use Prim.Native.Nat.{ℕ, ◌+◌, ◌-◌, ◌*◌, ◌≤◌, ◌<◌, min}
 use native.Mathlib.Omega.{arith}
 use mathlib.Core.Bool.{Bool, true, false, cond}
-use mathlib.Core.Option.{some}
 use mathlib.Core.List.{List, [], ◌∷◌, map}
 use lib.ListN.{length, get_or, length-map}
 use lib.Dec.{ltb}
 use borrow.Author.Tests.{ltb-false}
 use Rattle.refusals.specs.Numbers.{no_node, no_entry, input_too_long}
-use Rattle.refusals.specs.Limits.{most_bytes, nothing}
+use Rattle.refusals.specs.Limits.{most_bytes}
 use Rattle.clearing.specs.Lent.{padded}
 use Rattle.clearing.proofs.Laws.{length-padded}
 use Rattle.grammar.specs.Reading.{Kind, level, node, entry, slot, Answer, gives, stops}
 use Rattle.grammar.specs.Room.{Rooms, room_for, run}
 use Rattle.grammar.specs.State.{Node, Entry, State, blank, unlinked, node_width, entry_width, node_cells, entry_cells, node_at, entry_at, node_capacity, entry_capacity}
-use Rattle.grammar.specs.Answer.{plain, reading, Counts, counts_of, Outcome, outcome_of, nodes_held, entries_held, read_of}
-use Rattle.grammar.specs.Record.{Tables, tables_of, nodes_in, entries_in, chain, node_of}
+use Rattle.grammar.specs.Answer.{plain, reading, Counts, counts_of, outcome_of, read_of}
+use Rattle.grammar.specs.Record.{Tables, tables_of, nodes_in, entries_in, chain}
 use Rattle.grammar.proofs.Fitting.{more_room, gives_not_of_room}
 use Rattle.grammar.proofs.Exactness.{within-room}
 use Rattle.grammar.proofs.Contents.{accepted-reading, length-node_cells, length-entry_cells}
 use Rattle.grammar.proofs.Bounded as grammar
 use Rattle.grammar.proofs.Links.{child_of, next_of, More, Linked}
 use Rattle.grammar.proofs.ReadBack.{node_at_lem, entry_at_lem, linked-read, tables_read}
-use Rattle.meaning.specs.Value.{Value}
 use Rattle.meaning.specs.Meaning.{value_of, tables_after}
 use Rattle.carried.proofs.Carried.{bare, AllKept, Carried}
 use Rattle.carried.proofs.Values.{value-kept}
-use Rattle.raising.specs.Appended.{raised_link, appended_node, appended_entry}
+use Rattle.raising.specs.Appended.{appended_node, appended_entry}
 use Rattle.readmore.specs.More.{Kept, room_left, appending, counts_with, behind, appended_to}
 use Rattle.readmore.specs.Parts.{Fitting}
 use Rattle.readmore.proofs.Laying.{length-behind}

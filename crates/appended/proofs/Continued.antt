@@ -1,22 +1,21 @@
 -- The grammar's reading begun behind what is kept, beside the append: the same root, counts and records. By the law of shifted readings (Counting,
 -- `goes_on`); every node that was read has a letter, so that all of them are raised. Assumes nothing.
 use mathlib.Core.Path.{◌≡◌, refl, sym, ap, ap₂, subst, ◌∙◌}
-use Prim.Native.Nat.{ℕ, zero, suc, ◌+◌, ◌-◌, ◌*◌, ◌≤◌, ◌<◌}
+use Prim.Native.Nat.{ℕ, zero, suc, ◌+◌, ◌*◌, ◌≤◌, ◌<◌}
 use native.Mathlib.Omega.{arith}
-use mathlib.Core.Bool.{Bool, true, false, cond, ◌&&◌}
-use mathlib.Core.List.{List, [], ◌∷◌, ◌++◌, map}
+use mathlib.Core.Bool.{Bool, true, false}
+use mathlib.Core.List.{List, [], ◌∷◌, map}
 use lib.ListN.{length, get_or, length-map}
 use lib.Dec.{leb, eqb}
 use borrow.Author.Tests.{eqb-true}
 use Rattle.refusals.specs.Limits.{most_bytes}
 use Rattle.clearing.specs.Lent.{padded}
-use Rattle.grammar.specs.Input.{Bytes}
 use Rattle.grammar.specs.Reading.{Answer, gives, stops}
 use Rattle.grammar.specs.Letters.{letters, found, class_of}
 use Rattle.grammar.specs.Room.{Rooms, run, plainly}
-use Rattle.grammar.specs.State.{Node, Entry, State, blank, node_width, entry_width, node_cells, entry_cells}
+use Rattle.grammar.specs.State.{Node, Entry, State, blank, node_width, node_cells}
 use Rattle.grammar.specs.Steps.{value}
-use Rattle.grammar.specs.Answer.{plain, Counts, counts_of, Outcome}
+use Rattle.grammar.specs.Answer.{plain, Counts}
 use Rattle.grammar.specs.Record.{ruled, sound}
 use Rattle.grammar.proofs.Tests.{both_true, never}
 use Rattle.grammar.proofs.Fitting.{exact_where_all_fit, fits-unless_of_room, gives_not_of_room}
@@ -24,8 +23,8 @@ use Rattle.grammar.proofs.Bounded.{accepted-within}
 use Rattle.grammar.proofs.Root.{root_is_node_0}
 use Rattle.shifts.specs.Shift.{Shift, raised_node, raised_entry, raised_slot, raised, raised_value, lifted_a}
 use Rattle.shifts.proofs.Raising.{behind-length}
-use Rattle.raising.specs.Appended.{relabelled, appended_node, appended_entry, appended_slot}
-use Rattle.readmore.specs.More.{Kept, keeping, room_left, appending, counts_with, behind, appended_to, more_of}
+use Rattle.raising.specs.Appended.{relabelled, appended_node, appended_slot}
+use Rattle.readmore.specs.More.{Kept, keeping, room_left, appending, behind}
 use Rattle.appended.specs.Promised.{lent_room, Holds, kept_state, by_kept, Continued}
 use Rattle.appended.proofs.Counting.{goes_on, reads_on, more-is}
 

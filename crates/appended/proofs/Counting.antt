@@ -3,18 +3,17 @@
 use mathlib.Core.Path.{◌≡◌, refl, sym, ap, ◌∙◌}
 use Prim.Native.Nat.{ℕ, ◌+◌, ◌-◌, ◌≤◌, ◌<◌}
 use native.Mathlib.Omega.{arith}
-use mathlib.Core.Bool.{cond}
 use mathlib.Core.List.{List, [], ◌∷◌, ◌++◌, map}
 use lib.ListN.{length}
 use borrow.Author.Tests.{le-ltb, lt-ltb}
 use Rattle.refusals.specs.Numbers.{no_node, no_entry, input_too_long}
 use Rattle.refusals.specs.Limits.{most_bytes}
-use Rattle.grammar.specs.Reading.{Kind, level, node, entry, slot, Answer, gives, stops}
-use Rattle.grammar.specs.Room.{Rooms, room_for, number_of, run, plainly, Claim, AllFit}
+use Rattle.grammar.specs.Reading.{Kind, level, node, entry, slot, Answer, stops}
+use Rattle.grammar.specs.Room.{Rooms, room_for, run, Claim, AllFit}
 use Rattle.grammar.specs.State.{Node, Entry, State}
 use Rattle.grammar.specs.Steps.{value}
-use Rattle.grammar.specs.Answer.{plain, rooms_of}
-use Rattle.grammar.specs.Counted.{claims_of, needed, AllFour, Over}
+use Rattle.grammar.specs.Answer.{plain}
+use Rattle.grammar.specs.Counted.{claims_of, Over}
 use Rattle.grammar.proofs.Fitting.{exact_where_all_fit, all_fit, refused_where_one_is_over}
 use Rattle.grammar.proofs.Exactness.{FourOrOver, four, short, four_or_over}
 use Rattle.shifts.specs.Shift.{raised_value, lifted_a}

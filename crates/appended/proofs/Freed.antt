@@ -1,13 +1,13 @@
 -- The room that a move reports free is what a new read behind it can claim: the stores keep their lengths, and what is kept is within their
 -- capacities. By the laws of a move (carried). Assumes nothing.
-use mathlib.Core.Path.{◌≡◌, refl, sym, ap, subst, ◌∙◌}
-use Prim.Native.Nat.{ℕ, ◌-◌, ◌≤◌}
+use mathlib.Core.Path.{◌≡◌, sym, ap, subst}
+use Prim.Native.Nat.{ℕ, ◌-◌}
 use native.Mathlib.Omega.{arith}
 use mathlib.Core.List.{List, []}
 use lib.ListN.{length}
 use Rattle.grammar.specs.State.{node_capacity, entry_capacity}
 use Rattle.keepvisit.specs.Visit.{chains}
-use Rattle.keep.specs.Kept.{lent_stores, Outcome, moves, outcome, held_by, Held, kept_of}
+use Rattle.keep.specs.Kept.{lent_stores, moves, outcome, held_by, kept_of}
 use Rattle.carried.proofs.Moved.{few-nodes, few-entries, long-nodes, long-entries}
 use Rattle.carried.proofs.Promised.{visit_of}
 use Rattle.appended.specs.Promised.{Freed}

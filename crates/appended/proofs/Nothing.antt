@@ -11,9 +11,9 @@ use Rattle.refusals.specs.Numbers.{no_node, no_entry, input_too_long}
 use Rattle.refusals.specs.Limits.{most_bytes, nothing}
 use Rattle.clearing.specs.Lent.{zeros, padded}
 use Rattle.grammar.specs.Reading.{Answer, gives, stops}
-use Rattle.grammar.specs.Room.{Rooms, run}
+use Rattle.grammar.specs.Room.{run}
 use Rattle.grammar.specs.State.{Node, Entry, State, blank, node_cells, entry_cells}
-use Rattle.grammar.specs.Answer.{plain, rooms_of, reading, Counts, Outcome, counts_of, outcome_of, read_of}
+use Rattle.grammar.specs.Answer.{plain, rooms_of, reading, outcome_of, read_of}
 use Rattle.grammar.proofs.Contents.{accepted-reading}
 use Rattle.raising.specs.Appended.{raised_link, appended_node, appended_entry, appended_slot}
 use Rattle.readmore.specs.More.{Kept, keeping, room_left, appending, appended_to, more_of}
