@@ -1,13 +1,13 @@
 -- Of what a move left: each node there is a kept one, its children are the moved children, and every number but its first entry's stayed.
 -- Assumes nothing.
-use mathlib.Core.Path.{◌≡◌, refl, sym, ap, ap₂, subst, ◌∙◌}
-use Prim.Native.Nat.{ℕ, zero, suc, ◌+◌, ◌≤◌, ◌<◌}
+use mathlib.Core.Path.{◌≡◌, refl, sym, ap, subst, ◌∙◌}
+use Prim.Native.Nat.{ℕ, zero, suc, ◌+◌, ◌<◌}
 use native.Mathlib.Omega.{arith}
-use mathlib.Core.Bool.{Bool, true, false}
+use mathlib.Core.Bool.{true}
 use mathlib.Core.List.{List, [], ◌∷◌, map}
 use lib.ListN.{length, get_or}
 use Rattle.grammar.specs.State.{node_at}
-use Rattle.keepvisit.specs.Visit.{Stores, stores, Visited, visited, member, chains, chain_of, children, place_in, visit_from}
+use Rattle.keepvisit.specs.Visit.{Stores, stores, visited, member, chains, chain_of, children, place_in, visit_from}
 use Rattle.keepvisit.proofs.Members.{member-cons_same}
 use Rattle.keepvisit.proofs.Closed.{either, empty, member_right, kept-children}
 use Rattle.keepvisit.proofs.Distinct.{within, visited-once}

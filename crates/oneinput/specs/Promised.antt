@@ -1,6 +1,6 @@
 -- What is promised of the input that nodes name. The record test does not look at it, so that it is a theorem: which input to hand over with a
 -- root is told by the root's own number. `proofs/Promised` has the theorem.
-use Rattle.std.specs.Prelude.{◌≡◌, ℕ, ◌<◌, List, length}
+use Rattle.std.specs.Prelude.{◌≡◌, ℕ, ◌<◌, List}
 use Rattle.grammar.specs.Reading.{gives}
 use Rattle.grammar.specs.State.{node_at}
 use Rattle.grammar.specs.Answer.{Counts, Outcome, read_of}
