@@ -28,10 +28,10 @@ write_front-requires c =
     (asked.0, asked.1, subst (λ (m : Node). sound a.s.now m ≡ true) (sym c.node_of-n.ensures) (held_node t a.node (looks_held t a.node c.look.result c.look.ensures c.if-not-look.false)), c.class_of.ensures)
 
 pub shape_of-out : goal.shape_of-out
-shape_of-out c = c.write_front.auto.out.0
+shape_of-out c = c.write_front.auto.out
 
 pub returns : goal.returns
 returns c =
     let a = c.args in
     let t = lent a.s.now a.nodes.now a.entries.now a.used in
-    open_front t a.allowance a.node (c.too_deep.ensures.tells t refl refl) c.if-too_deep.false (looks_held t a.node c.look.result c.look.ensures c.if-not-look.false) c.node_of-n.ensures c.write_front.auto.out.0 c.write_front.ensures
+    open_front t a.allowance a.node (c.too_deep.ensures.tells t refl refl) c.if-too_deep.false (looks_held t a.node c.look.result c.look.ensures c.if-not-look.false) c.node_of-n.ensures c.write_front.auto.out c.write_front.ensures
