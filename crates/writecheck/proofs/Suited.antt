@@ -1,18 +1,17 @@
 -- One part of a code: what its rule asks, by its letter and its own numbers. Assumes nothing.
-use mathlib.Core.Path.{◌≡◌, refl, sym, ap, subst, ◌∙◌}
-use Prim.Native.Nat.{ℕ, zero, suc, ◌+◌, ◌<◌}
+use mathlib.Core.Path.{◌≡◌, refl, sym, ap, ◌∙◌}
+use Prim.Native.Nat.{ℕ, zero, suc, ◌<◌}
 use native.Mathlib.Omega.{arith}
 use mathlib.Core.Bool.{Bool, true, false, cond, ◌&&◌}
 use mathlib.Core.Option.{Option, none, some}
 use mathlib.Core.List.{List, [], ◌∷◌}
-use lib.ListN.{length, get_or}
-use lib.Dec.{leb, ltb, eqb}
-use borrow.Author.Tests.{eqb-true, ne_eqb, lt-ltb}
+use lib.ListN.{get_or}
+use lib.Dec.{eqb}
+use borrow.Author.Tests.{eqb-true}
 use Rattle.grammar.specs.Letters as letter
 use Rattle.grammar.specs.Letters.{contains, found, letters, class_of, among, is_bytes, is_tuple, is_string}
-use Rattle.grammar.specs.State.{Node, node_at}
 use Rattle.grammar.specs.Steps.{Rule, whatever, as_bytes, as_tuple, as_names, as_string, rules}
-use Rattle.grammar.specs.Record.{Tables, unless, chain, whole, node_of, nodes_in, sound, sound_at, ruled, containing, suited, names}
+use Rattle.grammar.specs.Record.{Tables, unless, chain, whole, node_of, sound_at, ruled, containing, suited, names}
 use Rattle.grammar.proofs.Tests.{both_true}
 use Rattle.grammar.proofs.Lettered.{among-each}
 use Rattle.grammar.proofs.Passed.{sound-ruled, sound_at_lem, whole-some}

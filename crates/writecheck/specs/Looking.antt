@@ -1,12 +1,11 @@
 -- No export and no promise rests on this page.
 -- The record test of a node with its chain, and of a code with its parts, as the code answers it. 01, 'Writing it back': "16 is given exactly
 -- when ..".
-use Rattle.std.specs.Prelude.{◌≡◌, ℕ, zero, suc, ◌+◌, ◌%◌, ◌≤◌, ◌<◌, Bool, true, false, ◌&&◌, List, [], eqb}
-use Rattle.std.proofs.Math.Option.{Option, none, some}
-use Rattle.grammar.specs.Letters.{is_bytes, is_string}
+use Rattle.std.specs.Prelude.{◌≡◌, ℕ, zero, suc, ◌%◌, Bool, true, false, ◌&&◌, List, eqb}
+use Rattle.std.proofs.Math.Option.{some}
 use Rattle.grammar.specs.State.{node_at, entry_at}
 use Rattle.grammar.specs.Steps.{Rule, rules, code_parts, as_names}
-use Rattle.grammar.specs.Record.{Tables, tables_of, holds, faulty, look, chain, node_of, sound_at, whole, suited, bad_string, bad_part}
+use Rattle.grammar.specs.Record.{Tables, tables_of, holds, faulty, look, chain, node_of, whole, suited, bad_part}
 use Rattle.chains.specs.Chained.{is_none}
 use Rattle.writecheck.specs.declared.Used.{Used}
 

@@ -4,7 +4,6 @@ use Rattle.chains.proofs.Chains.{some_is}
 use Rattle.writecheck.specs.Looking.{lent}
 use Rattle.grammar.specs.Record
 use Rattle.grammar.specs.State.{Node}
-use borrow.Author.Tests.{not-true, not-false}
 use native.Mathlib.Omega.{arith}
 use mathlib.Core.Path.{ap, sym, ◌∙◌}
 use Rattle.writecheck.proofs.look.Goals as goal

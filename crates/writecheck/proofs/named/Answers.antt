@@ -1,10 +1,8 @@
 -- Carried by `Walking` over sound strings. Assumes nothing.
 use Rattle.chains.proofs.Chains.{walk_start, walk-stop, walk_more, walk_end, spelt_outside, spelt_as, named_are}
 use Rattle.writecheck.specs.Looking.{lent}
-use borrow.Author.Tests.{not-true, not-false}
 use native.Mathlib.Omega.{arith}
 use mathlib.Core.Path.{◌∙◌}
-use Prim.Native.Nat.{◌-◌}
 use Rattle.writecheck.proofs.named.Goals as goal
 
 pub loop-i-init : goal.loop-i-init

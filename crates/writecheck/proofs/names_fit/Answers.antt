@@ -2,7 +2,6 @@
 use Rattle.writecheck.proofs.Suited.{no_tuple, a_tuple}
 use Rattle.writecheck.specs.Looking.{lent}
 use Rattle.grammar.specs.State.{Node}
-use borrow.Author.Tests.{not-true, not-false}
 use mathlib.Core.Path.{ap}
 use Rattle.writecheck.proofs.names_fit.Goals as goal
 

@@ -1,7 +1,6 @@
 -- Carried by `Reaching`: what is left of the way leads to the same entry. Assumes nothing.
 use Rattle.writecheck.proofs.Codes.{reaching_none, reaching_more, reaching_end}
 use native.Mathlib.Omega.{arith}
-use Prim.Native.Nat.{◌-◌}
 use Rattle.writecheck.proofs.part_at.Goals as goal
 
 pub loop-i-init : goal.loop-i-init

@@ -1,9 +1,7 @@
 -- Carried by `Fitting`: the parts that are left still tell the same. Assumes nothing.
 use Rattle.writecheck.proofs.Codes.{fitting_none, fitting_not, fitting_more, fitting_all}
 use Rattle.writecheck.specs.Looking.{lent}
-use borrow.Author.Tests.{not-true, not-false}
 use native.Mathlib.Omega.{arith}
-use Prim.Native.Nat.{◌-◌}
 use Rattle.writecheck.proofs.parts_fit.Goals as goal
 
 pub loop-part-init : goal.loop-part-init

@@ -4,7 +4,6 @@ use Rattle.chains.proofs.Chains.{some_is, none_is}
 use Rattle.writecheck.specs.Looking.{lent}
 use Rattle.grammar.specs.Steps.{as_tuple}
 use Rattle.grammar.specs.Record
-use borrow.Author.Tests.{not-true, not-false}
 use mathlib.Core.Path.{sym, ◌∙◌}
 use Rattle.writecheck.proofs.tuple_fits.Goals as goal
 

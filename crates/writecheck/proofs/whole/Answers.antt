@@ -2,7 +2,6 @@
 use Rattle.chains.proofs.Chains.{whole_not, whole_is}
 use Rattle.writecheck.specs.Looking.{lent}
 use Rattle.grammar.specs.State.{Node}
-use borrow.Author.Tests.{not-true, not-false}
 use mathlib.Core.Path.{ap}
 use Rattle.writecheck.proofs.whole.Goals as goal
 

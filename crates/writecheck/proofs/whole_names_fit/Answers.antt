@@ -4,7 +4,6 @@ use Rattle.chains.proofs.Chains.{none_is}
 use Rattle.writecheck.specs.Looking.{lent}
 use Rattle.grammar.specs.Steps.{as_names}
 use Rattle.grammar.specs.Record
-use borrow.Author.Tests.{not-true, not-false}
 use mathlib.Core.Path.{sym, ◌∙◌}
 use Rattle.writecheck.proofs.whole_names_fit.Goals as goal
 
