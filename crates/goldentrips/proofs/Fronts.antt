@@ -1,7 +1,7 @@
 -- A value that ends within the front of an input reads the same from that front alone: the laws of Shortened, through the definitions of
 -- the grammar's Steps, from a header to a whole value. Assumes nothing.
-use mathlib.Core.Path.{◌≡◌, refl, sym, ap, subst, ◌∙◌}
-use Prim.Native.Nat.{ℕ, zero, suc, ◌+◌, ◌≤◌, ◌<◌}
+use mathlib.Core.Path.{◌≡◌, refl, sym, ap, subst}
+use Prim.Native.Nat.{ℕ, zero, suc, ◌+◌, ◌≤◌}
 use native.Mathlib.Omega.{arith}
 use mathlib.Core.Bool.{Bool, true, false, cond}
 use mathlib.Core.List.{List}
@@ -9,10 +9,10 @@ use lib.ListN.{length, get_or}
 use lib.Dec.{ltb, eqb}
 use borrow.Author.Tests.{lt-ltb}
 use Rattle.refusals.specs.Numbers.{accepted, eof_object, bad_type}
-use Rattle.grammar.specs.Reading.{Kind, entry, level, node, slot, Reading, done, refused, claim, bind, reads, Answer, gives, stops}
+use Rattle.grammar.specs.Reading.{Kind, entry, level, node, slot, Reading, done, refused, claim, bind, Answer, gives, stops}
 use Rattle.grammar.specs.Room.{plainly}
 use Rattle.grammar.specs.Letters.{Class, refers, keeps, contains, codes, refuses, flag_of, letter_of, class_of, ends_dict}
-use Rattle.grammar.specs.Fields.{Fields, Children, items, pairs, parts, le32, field, fields, contained, code_fields, code_numbers, code_fault, sum_at}
+use Rattle.grammar.specs.Fields.{Fields, Children, items, pairs, parts, le32, field, fields, contained, code_fields}
 use Rattle.grammar.specs.State.{State}
 use Rattle.grammar.specs.Steps.{Front, known, opens, stored, reference, reserving, opened, header, front, Chain, fresh, attach, Rule, whatever, suits, Reader, child, kids, passed, key_or, couples, code_parts, rules, line_part, lined, first_line_of, parts_from, fault_of, ended, body, enter, close, one, value}
 use Rattle.grammar.specs.Steps as steps

@@ -1,5 +1,5 @@
 -- The letter of the whole value is that of its first byte. Assumes nothing.
-use mathlib.Core.Path.{◌≡◌, refl, sym, ap, subst, ◌∙◌}
+use mathlib.Core.Path.{◌≡◌, refl, ap, ◌∙◌}
 use Prim.Native.Nat.{ℕ, zero, suc, ◌+◌, ◌<◌}
 use native.Mathlib.Omega.{arith}
 use mathlib.Core.Bool.{Bool, true, false, cond}
@@ -13,7 +13,7 @@ use Rattle.grammar.specs.Room.{plainly}
 use Rattle.grammar.specs.Letters.{Class, refers, keeps, contains, codes, refuses, flag_of, letter_of, class_of}
 use Rattle.grammar.specs.Fields.{Fields, fields, contained, code_fields}
 use Rattle.grammar.specs.State.{Node, State, start, blank}
-use Rattle.grammar.specs.Steps.{Front, known, opens, stored, reference, reserving, opened, header, front, Chain, letter_in, fresh, body, enter, close, after, one, value}
+use Rattle.grammar.specs.Steps.{Front, known, opens, stored, reference, reserving, opened, header, front, letter_in, fresh, body, enter, close, after, one, value}
 use Rattle.grammar.specs.Answer.{plain}
 use Rattle.grammar.proofs.Root.{Ends, ends-bind, ends-gives}
 

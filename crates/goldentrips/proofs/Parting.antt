@@ -1,12 +1,12 @@
 -- A value at the front of an input, and the same value from its own bytes alone: the reading is the same. Assumes nothing.
-use mathlib.Core.Path.{◌≡◌, refl, sym, ap, subst, ◌∙◌}
-use Prim.Native.Nat.{ℕ, ◌+◌, ◌≤◌, ◌<◌}
+use mathlib.Core.Path.{◌≡◌, refl, sym, ap, ◌∙◌}
+use Prim.Native.Nat.{ℕ, ◌+◌, ◌≤◌}
 use native.Mathlib.Omega.{arith}
 use mathlib.Core.Bool.{Bool, true, false, cond}
 use mathlib.Core.List.{List, ◌++◌}
 use lib.ListN.{length, get_or, drop, length-append, get_or-append}
 use lib.Seq.{take-append-le}
-use lib.Dec.{ltb, eqb}
+use lib.Dec.{ltb}
 use borrow.Author.Tests.{ltb-false, eqb-true}
 use Rattle.refusals.specs.Numbers.{input_too_long}
 use Rattle.refusals.specs.Limits.{most_bytes}
@@ -15,7 +15,7 @@ use Rattle.grammar.specs.Room.{run}
 use Rattle.grammar.specs.LetterNames.{code_letter}
 use Rattle.grammar.specs.Letters.{letter_of}
 use Rattle.grammar.specs.State.{State, start}
-use Rattle.grammar.specs.Steps.{letter_in, value}
+use Rattle.grammar.specs.Steps.{letter_in}
 use Rattle.grammar.specs.Answer.{plain, rooms_of, reading}
 use Rattle.grammar.proofs.Appended.{appended-same_answer}
 use Rattle.grammar.proofs.Bounded.{accepted}

@@ -1,29 +1,27 @@
 -- THEOREM of golden files (specs/Promised): a value reads alone as it reads at the front of others (Parting), and fields that are written read
 -- back (taggedfields). Assumes nothing.
 use mathlib.Core.Path.{◌≡◌, refl, sym, ap, subst, ◌∙◌}
-use Prim.Native.Nat.{ℕ, ◌+◌, ◌*◌, ◌/◌, ◌%◌, ◌≤◌, ◌<◌, min}
+use Prim.Native.Nat.{ℕ, ◌+◌, ◌/◌, ◌%◌, ◌≤◌, min}
 use native.Mathlib.Omega.{arith}
 use mathlib.Core.Bool.{Bool, true, false, cond}
 use mathlib.Core.List.{List, [], ◌∷◌, ◌++◌}
-use mathlib.Core.Option.{none, some}
-use lib.Dec.{ltb, eqb}
-use lib.ListN.{length, get_or, take, drop, length-append, length-drop, take-append-drop}
+use lib.Dec.{ltb}
+use lib.ListN.{length, take, drop, length-append, take-append-drop}
 use lib.Seq.{length-take-le, take-append_seam, drop-append_seam}
 use borrow.Author.Tests.{le-ltb, ltb-false, eqb-true}
-use Rattle.refusals.specs.Limits.{most_bytes, nothing}
+use Rattle.refusals.specs.Limits.{nothing}
 use Rattle.refusals.specs.Numbers.{accepted, no_room, value_too_long}
 use Rattle.clearing.specs.Lent.{padded}
 use Rattle.taggedfields.specs.Fields.{Field, Reading, reading, among, bytes_of, spelt}
 use Rattle.taggedfields.specs.Looking.{size_in}
 use Rattle.taggedfields.specs.Promised.{tags_of, laid}
-use Rattle.taggedfields.proofs.Parts.{In}
 use Rattle.taggedfields.proofs.Promised.{fields_keep_their_promises}
 use Rattle.taggedfields.proofs.Spelt.{spelt-reading}
 use Rattle.grammar.specs.Input.{Bytes}
-use Rattle.grammar.specs.Reading.{Answer, gives, stops}
+use Rattle.grammar.specs.Reading.{gives, stops}
 use Rattle.grammar.proofs.Tests.{never}
 use Rattle.readalone.specs.Alone.{Room, within, alone}
-use Rattle.goldenparts.specs.Forms.{Part, Golden, next, is_code, judged, result_read, cut_at, old_parts, only_one, part_of, golden_fields, or_other, or_fault, in_fields, both_read, new_parts}
+use Rattle.goldenparts.specs.Forms.{Golden, next, is_code, judged, result_read, cut_at, old_parts, only_one, golden_fields, or_other, or_fault, in_fields, both_read, new_parts}
 use Rattle.goldenparts.proofs.Fielded.{Three, three, code_in, result_in, fielded}
 use Rattle.goldens.specs.Moving as moving
 use Rattle.goldens.specs.Moving.{written, new_form, old_form, most_contents, to_fields, to_plain, refused_as, in_room, moved_as}

@@ -2,14 +2,14 @@
 -- input, gives something, its position is at least `lo`, P holds of it, and m is the same reading if the position is within the front.
 -- One law a definition of the grammar's Steps. Assumes nothing.
 use mathlib.Core.Path.{◌≡◌, refl, sym, ap, subst, ◌∙◌}
-use Prim.Native.Nat.{ℕ, zero, suc, ◌+◌, ◌*◌, ◌≤◌, ◌<◌}
+use Prim.Native.Nat.{ℕ, zero, suc, ◌+◌, ◌*◌, ◌≤◌}
 use native.Mathlib.Omega.{arith}
 use mathlib.Core.Bool.{Bool, true, false, cond}
 use mathlib.Core.List.{List}
 use lib.ListN.{length, get_or}
 use lib.Dec.{leb, ltb, eqb}
-use borrow.Author.Tests.{lt-ltb, le-leb}
-use Rattle.refusals.specs.Numbers.{accepted, eof_object, data_too_short, bad_size, invalid_bytecode, invalid_utf8}
+use borrow.Author.Tests.{le-leb}
+use Rattle.refusals.specs.Numbers.{data_too_short, bad_size, invalid_bytecode, invalid_utf8}
 use Rattle.wtf8.specs.Forms.{well_formed}
 use Rattle.grammar.specs.Reading.{Kind, Reading, done, refused, claim, bind, reads, Answer, gives, stops}
 use Rattle.grammar.specs.Room.{plainly}

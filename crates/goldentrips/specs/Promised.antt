@@ -6,7 +6,7 @@ use Rattle.refusals.specs.Limits.{nothing}
 use Rattle.clearing.specs.Lent.{padded}
 use Rattle.taggedfields.specs.Fields.{spelt}
 use Rattle.grammar.specs.Input.{Bytes}
-use Rattle.grammar.specs.Reading.{Answer, gives}
+use Rattle.grammar.specs.Reading.{gives}
 use Rattle.grammar.specs.LetterNames.{code_letter}
 use Rattle.grammar.specs.State.{State}
 use Rattle.grammar.specs.Steps.{letter_in}
