@@ -2,7 +2,6 @@
 use Rattle.cellnames.proofs.Groups.{member_not, member-plain, member_cell}
 use Rattle.cellnames.specs.Groups.{locals_in}
 use Rattle.writecheck.specs.Looking.{lent}
-use borrow.Author.Tests.{not-true, not-false}
 use native.Mathlib.Omega.{arith}
 use Rattle.cellnames.proofs.belongs.Goals as goal
 

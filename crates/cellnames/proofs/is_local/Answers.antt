@@ -5,7 +5,6 @@ use Rattle.grammar.specs.Fields.{contents}
 use Rattle.grammar.specs.State.{Node}
 use native.Mathlib.Omega.{arith}
 use mathlib.Core.Path.{ap}
-use Prim.Native.Nat.{◌-◌}
 use Rattle.cellnames.proofs.is_local.Goals as goal
 
 pub node_at-own-requires : goal.node_at-own-requires

@@ -1,6 +1,5 @@
 -- The kind, then the bytes. Assumes nothing.
 use Rattle.cellnames.proofs.Groups.{first_not, first_so}
-use borrow.Author.Tests.{not-true, not-false}
 use Rattle.cellnames.proofs.local_is.Goals as goal
 
 pub returns-then-not-has : goal.returns-then-not-has

@@ -1,7 +1,6 @@
 -- Carried by `Same`: the bytes that are left tell the same. Assumes nothing.
 use Rattle.cellnames.proofs.Groups.{same_none, same_not, same_more, same_all}
 use native.Mathlib.Omega.{arith}
-use Prim.Native.Nat.{◌-◌}
 use Rattle.cellnames.proofs.same_bytes.Goals as goal
 
 pub loop-i-init : goal.loop-i-init
