@@ -13,7 +13,7 @@ use Rattle.writer.proofs.serialize_value.Goals as goal
 pub returns-then-input : goal.returns-then-input
 returns-then-input c =
     let b = c.args in
-    let t = tables_of b.input.now b.nodes.now b.entries.now b.used_nodes b.used_entries_lem in
+    let t = tables_of b.input.now b.nodes.now b.entries.now b.used_nodes b.used_entries in
     finish_long t b.root b.nesting (length b.out.now) (omega arith) c.clear_bytes.ensures
 
 pub slice_bounds-write_value-end : goal.slice_bounds-write_value-end
@@ -27,25 +27,25 @@ write_value-requires c = (record { inside = omega arith; counts = omega (arith, 
 
 pub slice_bounds-clear_bytes-count : goal.slice_bounds-clear_bytes-count
 slice_bounds-clear_bytes-count c =
-    search (fits-behind c.counted.result c.args.out.now (omega (arith, c.counted.ensures.1)) c.write_value.ensures c.in-Done.is, rules)
+    search (fits-behind c.counted-room.result c.args.out.now (omega (arith, c.counted-room.ensures.1)) c.write_value.ensures c.in-Done.is, rules)
 
 pub slice_bounds-clear_bytes-start : goal.slice_bounds-clear_bytes-start
 slice_bounds-clear_bytes-start c =
-    search (fits-behind c.counted.result c.args.out.now (omega (arith, c.counted.ensures.1)) c.write_value.ensures c.in-Done.is, rules)
+    search (fits-behind c.counted-room.result c.args.out.now (omega (arith, c.counted-room.ensures.1)) c.write_value.ensures c.in-Done.is, rules)
 
 pub returns-in-Done : goal.returns-in-Done
 returns-in-Done c =
     let b = c.args in
-    let t = tables_of b.input.now b.nodes.now b.entries.now b.used_nodes b.used_entries_lem in
-    let o = c.write-value.new.1.1.1.0 ++ drop c.counted.result b.out.now in
-    let fits = fits-behind c.counted.result b.out.now (omega (arith, c.counted.ensures.1)) c.write-value.ensures c.in-Done.is in
-    let long = length_front b.out.now c.write-value.new.1.1.1.0 c.counted.result c.write-value.auto.1.1.1.0 in
-    finish_done t b.root b.nesting (length b.out.now) (omega arith) b.out.now c.at_most.ensures c.counted.ensures.0 (omega (arith, c.counted.ensures.1)) c.write-value.ensures c.in-Done.is
+    let t = tables_of b.input.now b.nodes.now b.entries.now b.used_nodes b.used_entries in
+    let o = c.write_value.new.out ++ drop c.counted-room.result b.out.now in
+    let fits = fits-behind c.counted-room.result b.out.now (omega (arith, c.counted-room.ensures.1)) c.write_value.ensures c.in-Done.is in
+    let long = length_front b.out.now c.write_value.new.out c.counted-room.result c.write_value.auto.out in
+    finish_done t b.root b.nesting (length b.out.now) (omega arith) b.out.now c.at_most-allowance.ensures c.counted-room.ensures.0 (omega (arith, c.counted-room.ensures.1)) c.write_value.ensures c.in-Done.is
     (behind-cleared c.in-Done.a (length b.out.now) o fits long c.clear_bytes-in-Done.ensures)
 
 pub returns-in-Refused : goal.returns-in-Refused
 returns-in-Refused c =
     let b = c.args in
-    let t = tables_of b.input.now b.nodes.now b.entries.now b.used_nodes b.used_entries_lem in
-    finish_refused t b.root b.nesting (length b.out.now) (omega arith) b.out.now c.at_most.ensures c.counted.ensures.0 (omega (arith, c.counted.ensures.1)) c.write-value.ensures c.in-Refused.is
-    (c.clear_bytes-in-Refused.ensures ∙ ap zeros (length_front b.out.now c.write-value.new.1.1.1.0 c.counted.result c.write-value.auto.1.1.1.0))
+    let t = tables_of b.input.now b.nodes.now b.entries.now b.used_nodes b.used_entries in
+    finish_refused t b.root b.nesting (length b.out.now) (omega arith) b.out.now c.at_most-allowance.ensures c.counted-room.ensures.0 (omega (arith, c.counted-room.ensures.1)) c.write_value.ensures c.in-Refused.is
+    (c.clear_bytes-in-Refused.ensures ∙ ap zeros (length_front b.out.now c.write_value.new.out c.counted-room.result c.write_value.auto.out))
