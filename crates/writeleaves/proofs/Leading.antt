@@ -8,7 +8,6 @@ use lib.ListN.{length, take}
 use Rattle.grammar.specs.Record.{Tables, chain}
 use Rattle.writing.specs.Writing.{Writing, each, into}
 use Rattle.writing.specs.Steps.{writing}
-use Rattle.output.specs.declared.Wrote.{Wrote}
 use Rattle.output.specs.declared.Wrote.TheVariants as wrote
 use Rattle.output.specs.Puts.{Puts}
 use Rattle.writecheck.specs.declared.Used.{Used}

@@ -6,14 +6,14 @@ use mathlib.Core.Bool.{Bool, true, false, cond, ◌&&◌}
 use mathlib.Core.Option.{some, none}
 use mathlib.Core.List.{List, [], ◌∷◌}
 use lib.ListN.{length, get_or}
-use lib.Dec.{leb, ltb, eqb}
+use lib.Dec.{eqb}
 use borrow.Author.Tests.{lt-ltb, le-leb, eq-eqb, ne_eqb, eqb-true}
 use Rattle.grammar.specs.Letters as letter
 use Rattle.grammar.specs.Letters.{Class, keeps, contains, codes, class_of, letters, found, is_bytes, is_string}
 use Rattle.grammar.specs.Reading.{stops}
 use Rattle.refusals.specs.Numbers.{data_too_short, too_deep}
 use Rattle.grammar.specs.Steps.{as_bytes}
-use Rattle.grammar.specs.Fields.{fields, contents, span, items}
+use Rattle.grammar.specs.Fields.{fields, span, items}
 use Rattle.grammar.specs.State.{Node, node_at}
 use Rattle.grammar.specs.Record.{Tables, node_of, nodes_in, chain, whole, sound, sound_at, ruled, reads_as, containing, suited}
 use Rattle.grammar.proofs.Lettered.{among-each}
@@ -21,13 +21,13 @@ use Rattle.grammar.proofs.Tests.{both_true}
 use Rattle.grammar.proofs.Passed.{sound-ruled, sound_at_lem, unless_none, fits-some, fits-sound}
 use Rattle.writing.specs.Shape.{classed}
 use Rattle.writing.specs.Writing.{Writing, refused}
-use Rattle.writing.specs.Steps.{shaped, writing, is_code}
+use Rattle.writing.specs.Steps.{shaped, writing}
 use Rattle.output.specs.declared.Wrote.{Wrote}
 use Rattle.output.specs.declared.Wrote.TheVariants as wrote
 use Rattle.output.specs.Puts.{Puts}
 use Rattle.writecheck.specs.declared.Used.{Used}
-use Rattle.writecheck.specs.Looking.{Held, lent}
-use Rattle.writecheck.proofs.Codes.{only_code, code_class_lem, look-plain}
+use Rattle.writecheck.specs.Looking.{lent}
+use Rattle.writecheck.proofs.Codes.{code_class_lem, look-plain}
 use Rattle.writeleaves.specs.declared.Leaf.{Leaf}
 use Rattle.writeleaves.specs.declared.Leaf.TheVariants as leaf
 use Rattle.writeleaves.specs.declared.Led.{Led}

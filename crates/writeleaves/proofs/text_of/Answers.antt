@@ -2,7 +2,6 @@
 use Rattle.writeleaves.specs.Leaves.{LeafIs}
 use Rattle.writeleaves.proofs.Leafing.{leaf_string}
 use Rattle.stores.specs.Written.{node_of}
-use borrow.Author.Tests.{not-false}
 use native.Mathlib.Omega.{arith}
 use mathlib.Core.Path.{sym, subst, ◌∙◌}
 use Rattle.writeleaves.proofs.text_of.Goals as goal

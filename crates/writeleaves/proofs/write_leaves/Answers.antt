@@ -1,11 +1,9 @@
 -- Carried by `Rowing`: the children that are left are still to come, and none that was done is done again. Assumes nothing.
 use Rattle.underway.proofs.Under.{opens, row-turn, row_more, row-refused, row-entry}
 use Rattle.writeleaves.proofs.Leading.{row_starts, led_on, led_refused, led_left, rows_on, rows-refused}
-use Rattle.writeleaves.specs.Leaves.{row_from}
 use Rattle.writecheck.specs.Looking.{lent}
 use native.Mathlib.Omega.{arith}
 use mathlib.Core.Path.{refl, ◌∙◌}
-use Prim.Native.Nat.{◌-◌}
 use Rattle.writeleaves.proofs.write_leaves.Goals as goal
 
 pub loop-i-init : goal.loop-i-init
