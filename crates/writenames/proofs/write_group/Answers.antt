@@ -4,7 +4,6 @@ use Rattle.writecheck.specs.Looking.{lent}
 use Rattle.writing.specs.Steps.{string_part}
 use native.Mathlib.Omega.{arith}
 use mathlib.Core.Path.{◌∙◌}
-use Prim.Native.Nat.{◌-◌}
 use Rattle.writenames.proofs.write_group.Goals as goal
 
 pub loop-i-init : goal.loop-i-init

@@ -2,7 +2,6 @@
 use Rattle.writenames.proofs.Naming.{member_in, member_out}
 use Rattle.writecheck.specs.Looking.{lent}
 use Rattle.writing.specs.Steps.{string_part}
-use borrow.Author.Tests.{not-true, not-false}
 use Rattle.writenames.proofs.write_member.Goals as goal
 
 pub returns-then-not-member : goal.returns-then-not-member

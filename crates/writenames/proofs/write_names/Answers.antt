@@ -7,7 +7,6 @@ use Rattle.writing.specs.Steps.{string_part}
 use Rattle.writing.specs.Writing.{each}
 use native.Mathlib.Omega.{arith}
 use mathlib.Core.Path.{refl, ◌∙◌}
-use Prim.Native.Nat.{◌-◌}
 use Rattle.writenames.proofs.write_names.Goals as goal
 
 pub loop-i-init : goal.loop-i-init
