@@ -1,5 +1,5 @@
 //! What the bytes that two values are written as say of the values. Proved of the port: bytes that differ are of different
-//! values, and equal bytes of the same value if every code object of both keeps the name order (`equal-means-equal` in
+//! values, and equal bytes of the same value if every code object of both keeps the name order (`equal_means_equal` in
 //! `crates/promises`). Whether it is kept is asked of the safe crate, whose answer is tested and not proved.
 use crate::text;
 use sillgarland::Golden;
