@@ -28,9 +28,9 @@ placed κs a r e =
     × (e.1.1.1.0.now ≡ records_of (length a.1.1.1.0.now) reading)
     × (e.1.1.1.1.0.now ≡ locations_of (length a.1.1.1.1.0.now) reading)
 
-pub linetable_to-locations-agrees : AgreeInModels linetable_contracts.linetable_to_locations.ended (λ M. linetable_contracts.linetable_to_locations.clauses)
+pub linetable_to-locations-agrees : AgreeInModels linetable_contracts.linetable_to_locations.ended (λ M 𝓤. linetable_contracts.linetable_to_locations.clauses)
 linetable_to-locations-agrees =
-    in_models linetable_contracts.linetable_to_locations.ended (λ M. linetable_contracts.linetable_to_locations.clauses) placed
+    in_models linetable_contracts.linetable_to_locations.ended (λ M 𝓤. linetable_contracts.linetable_to_locations.clauses) placed
     (λ M 𝓤 𝓛 mem run κs a g r e. id⊢ 𝓤 (fact 𝓤 (placed κs a r e)))
     (λ κs a asked r r' ws ws' p p'.
     (one p.0 p'.0, λ i. (tt, (tt, (tt, (one p.1 p'.1 i, (one p.2 p'.2 i, tt)))))))

@@ -39,9 +39,9 @@ placed κs a r e =
     × (e.1.1.1.0.now ≡ records_of (length a.1.1.1.0.now) reading)
     × (e.1.1.1.1.0.now ≡ locations_of (length a.1.1.1.1.0.now) reading)
 
-pub sill_locations-agrees : AgreeInModels sillgarland_contracts.locations.sill_locations.ended (λ M. sillgarland_contracts.locations.sill_locations.clauses)
+pub sill_locations-agrees : AgreeInModels sillgarland_contracts.locations.sill_locations.ended (λ M 𝓤. sillgarland_contracts.locations.sill_locations.clauses)
 sill_locations-agrees =
-    in_models sillgarland_contracts.locations.sill_locations.ended (λ M. sillgarland_contracts.locations.sill_locations.clauses) placed
+    in_models sillgarland_contracts.locations.sill_locations.ended (λ M 𝓤. sillgarland_contracts.locations.sill_locations.clauses) placed
     (λ M 𝓤 𝓛 mem run κs a g r e. id⊢ 𝓤 (fact 𝓤 (placed κs a r e)))
     (λ κs a asked r r' ws ws' p p'.
     (one p.0 p'.0, λ i. (tt, (tt, (tt, (one p.1 p'.1 i, (one p.2 p'.2 i, tt)))))))

@@ -213,7 +213,7 @@ pub record Demand1 : Type 2 where
       EachCall sillgarland_contracts.leaves.sill_locate_node.ended sillgarland.leaves.sill_locate_node.Reads.Asked sillgarland.leaves.sill_locate_node.Reads.Learnt sillgarland.leaves.sill_locate_node.Statement.statement
       (λ c. LocateEnds c.result (Zero c.args.1.1.1.1.1.1.0.now c.last.1.1.1.1.1.1.0))
   pub sill_locations :
-      EachCallInModels sillgarland_contracts.locations.sill_locations.ended (λ M. sillgarland_contracts.locations.sill_locations.clauses) sillgarland.locations.sill_locations.Statement.statement
+      EachCallInModels sillgarland_contracts.locations.sill_locations.ended (λ M 𝓤. sillgarland_contracts.locations.sill_locations.clauses) sillgarland.locations.sill_locations.Statement.statement
       (λ κs a r ws. LocateEnds r (Zero a.1.1.1.0.now ws.1.1.1.0 × (ws.1.1.1.1.0 ≡ replicate (length a.1.1.1.1.0.now) blank)))
   pub sill_salvage :
       EachCall sillgarland_contracts.repairs.sill_salvage.ended sillgarland.repairs.sill_salvage.Reads.Asked sillgarland.repairs.sill_salvage.Reads.Learnt sillgarland.repairs.sill_salvage.Statement.statement
