@@ -7,6 +7,7 @@ use mathlib.Core.Bool.{true}
 use mathlib.Core.List.{List, []}
 use lib.ListN.{length, length-replicate}
 use denote.Ref.{Bor}
+use denote.MutBor.{MutBor}
 use Rattle.clearing.specs.Lent.{zeros}
 use Rattle.grammar.specs.Input.{Bytes}
 use Rattle.grammar.specs.Reading.{Answer, gives, stops}
@@ -156,6 +157,9 @@ shut_out =
 abbrev lent_as : List ℕ → Bor (List ℕ)
 lent_as xs = record { ref_ptr = (0, 0); now = xs }
 
+abbrev lent_for_writing : List ℕ → MutBor (List ℕ)
+lent_for_writing xs = record { ref_ptr = (0, 0); ghost_name = 0; now = xs }
+
 pub deserialize_callable : Callable deserialize_value
 deserialize_callable s bytes small nodes entries slots nesting ln le ls lg =
     let o = read_of s (length (zeros nodes)) (length (zeros entries)) (length (zeros slots)) nesting in
@@ -163,7 +167,7 @@ deserialize_callable s bytes small nodes entries slots nesting ln le ls lg =
       call =
           record {
             κs = ([], ([], ([], ([], tt))));
-            args = (lent_as s, (lent_as (zeros nodes), (lent_as (zeros entries), (lent_as (zeros slots), (nesting, tt)))));
+            args = (lent_as s, (lent_for_writing (zeros nodes), (lent_for_writing (zeros entries), (lent_for_writing (zeros slots), (nesting, tt)))));
             meant = tt;
             result = outcome_from o.answer;
             last = (tt, (o.nodes, (o.entries, (o.slots, (tt, tt)))));
@@ -187,7 +191,7 @@ sill_read_callable s bytes small nodes entries slots nesting ln le ls lg =
       call =
           record {
             κs = ([], ([], ([], ([], tt))));
-            args = (lent_as s, (lent_as (zeros nodes), (lent_as (zeros entries), (lent_as (zeros slots), (nesting, tt)))));
+            args = (lent_as s, (lent_for_writing (zeros nodes), (lent_for_writing (zeros entries), (lent_for_writing (zeros slots), (nesting, tt)))));
             meant = tt;
             result = read_struct o.answer;
             last = (tt, (o.nodes, (o.entries, (o.slots, (tt, tt)))));
