@@ -24,7 +24,7 @@ use Rattle.output.specs.declared.Wrote.{Wrote}
 use Rattle.output.specs.declared.Wrote.TheVariants as wrote
 use Rattle.output.specs.Puts.{Puts}
 use Rattle.chains.specs.Chained.{string_at}
-use Rattle.writecheck.specs.Looking.{Held, after, part_of}
+use Rattle.writecheck.specs.Looking.{after, part_of}
 use Rattle.grammar.proofs.Tests.{none-some}
 use Rattle.grammar.proofs.Passed as told
 use Rattle.grammar.proofs.Passed.{unless_none, sound-ruled, CodeRuled, code-ruled, sound_at_lem, chain_length, fits-some, fits-sound, fits_at, looked_held}

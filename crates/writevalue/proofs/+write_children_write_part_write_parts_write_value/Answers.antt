@@ -15,19 +15,19 @@ use Rattle.std.proofs.Common.{refl, ap, ◌∙◌, arith}
 use Rattle.writevalue.proofs.+write_children_write_part_write_parts_write_value.Goals as goal
 
 pub write_children-returns-then-count-done : goal.write_children-returns-then-count-done
-write_children-returns-then-count-done t c = 
+write_children-returns-then-count-done t c =
     let a = c.args in
     let x = lent a.s.now a.nodes.now a.entries.now a.used in
     row_end_lem (row_led x a.allowance _ c.loop-number.invariant c.write_leaves.ensures c.in-On.is) (omega arith)
 
 pub write_children-returns-in-Refused-write_value : goal.write_children-returns-in-Refused-write_value
-write_children-returns-in-Refused-write_value t c = 
+write_children-returns-in-Refused-write_value t c =
     let a = c.args in
     let x = lent a.s.now a.nodes.now a.entries.now a.used in
     row-refused (row-turn (row_led x a.allowance _ c.loop-number.invariant c.write_leaves.ensures c.in-On.is) (omega arith) c.child_of-child.ensures) c.write_value.ensures c.in-Refused-write_value.is
 
 pub write_children-loop-number-preserved : goal.write_children-loop-number-preserved
-write_children-loop-number-preserved t c = 
+write_children-loop-number-preserved t c =
     let a = c.args in
     let x = lent a.s.now a.nodes.now a.entries.now a.used in
     row_more (row-turn (row_led x a.allowance _ c.loop-number.invariant c.write_leaves.ensures c.in-On.is) (omega arith) c.child_of-child.ensures) (λ vs h. tt) (omega arith) c.next_of-e.ensures c.write_value.ensures c.in-Done.is
@@ -60,7 +60,7 @@ write_part-write_string-requires-in-7 t c = (c.requires.0, asks-string c.require
 
 pub write_part-write_bytes-requires-in-Done : goal.write_part-write_bytes-requires-in-Done
 unfolding rules
-write_part-write_bytes-requires-in-Done t c = 
+write_part-write_bytes-requires-in-Done t c =
     let a = c.args in
     let x = lent a.s.now a.nodes.now a.entries.now a.used in
     (opens (written_in (line_first x a.allowance a.line (contents_of x a.kinds) a.part a.node c.in-8.is c.shown.ensures c.requires.0.inside) c.write_u32.ensures c.in-Done.is) c.requires.0.counts, asks-bytes c.requires.2 c.in-8.is refl)
@@ -98,13 +98,13 @@ unfolding manners
 write_part-returns-in-7 t c = rw c.in-7.is c.write_string-in-7.ensures
 
 pub write_part-returns-in-Refused : goal.write_part-returns-in-Refused
-write_part-returns-in-Refused t c = 
+write_part-returns-in-Refused t c =
     let a = c.args in
     let x = lent a.s.now a.nodes.now a.entries.now a.used in
     refused_in (writing a.allowance x a.node) (line_first x a.allowance a.line (contents_of x a.kinds) a.part a.node c.in-8.is c.shown.ensures c.requires.0.inside) c.write_u32.ensures c.in-Refused.is
 
 pub write_part-returns-in-Done : goal.write_part-returns-in-Done
-write_part-returns-in-Done t c = 
+write_part-returns-in-Done t c =
     let a = c.args in
     let x = lent a.s.now a.nodes.now a.entries.now a.used in
     last (written_in (line_first x a.allowance a.line (contents_of x a.kinds) a.part a.node c.in-8.is c.shown.ensures c.requires.0.inside) c.write_u32.ensures c.in-Done.is) c.write_bytes-in-Done.ensures
@@ -114,20 +114,20 @@ unfolding manners
 write_part-returns-in-9 t c = rw c.in-9.is c.write_bytes-in-9.ensures
 
 pub write_part-returns-in_default : goal.write_part-returns-in_default
-write_part-returns-in_default t c = 
+write_part-returns-in_default t c =
     let a = c.args in
     let x = lent a.s.now a.nodes.now a.entries.now a.used in
     puts_equal {w = writing a.allowance x a.node} c.write_value.ensures
     (value-part x a.allowance a.line (contents_of x a.kinds) a.part a.node c.requires.2.below (λ e. omega arith) (λ e. omega arith) (λ e. omega arith) (λ e. omega arith) (λ e. omega arith) (λ e. omega arith))
 
 pub write_parts-le32-line-requires : goal.write_parts-le32-line-requires
-write_parts-le32-line-requires t c = 
+write_parts-le32-line-requires t c =
     let p = ap (λ (n : Node). n.place) c.node_of-n.ensures in
     let z = ap (λ (n : Node). n.size) c.node_of-n.ensures in
     omega (arith, line-within c.requires.2)
 
 pub write_parts-loop-part-init : goal.write_parts-loop-part-init
-write_parts-loop-part-init t c = 
+write_parts-loop-part-init t c =
     let n = c.node_of-n.ensures in
     parting_none c.requires.2 (ap (λ (n : Node). n.first) n) c.part_at-kinds.ensures
     (c.le32-line.ensures ∙ ap (le32 c.args.s.now) (line-place (ap (λ (n : Node). n.place) n) (ap (λ (n : Node). n.size) n))) c.requires.0.inside
@@ -135,9 +135,11 @@ write_parts-loop-part-init t c =
 pub write_parts-write_part-requires : goal.write_parts-write_part-requires
 write_parts-write_part-requires t c = (
   omega (arith, c.decreases),
-  (opens c.loop-part.invariant.way c.requires.0.counts,
-  c.requires.1,
-  part_in c.requires.2 c.loop-part-test.true (ap (λ (n : Node). n.first) c.node_of-n.ensures) c.part_at-kinds.ensures c.loop-part.invariant.reached c.child_of-child.ensures),
+  (
+    opens c.loop-part.invariant.way c.requires.0.counts,
+    c.requires.1,
+    part_in c.requires.2 c.loop-part-test.true (ap (λ (n : Node). n.first) c.node_of-n.ensures) c.part_at-kinds.ensures c.loop-part.invariant.reached c.child_of-child.ensures,
+  ),
 )
 
 pub write_parts-returns-in-Refused : goal.write_parts-returns-in-Refused

@@ -3,7 +3,6 @@ use Rattle.writevalue.proofs.Opening.{open_deep, open_bad, open_front, held_node
 use Rattle.writecheck.specs.Looking.{lent}
 use Rattle.grammar.specs.Record.{sound}
 use Rattle.grammar.specs.State.{Node}
-use borrow.Author.Tests.{not-true, not-false}
 use mathlib.Core.Bool.{true}
 use mathlib.Core.Path.{◌≡◌, refl, sym, subst}
 use Rattle.writevalue.proofs.open_node.Goals as goal

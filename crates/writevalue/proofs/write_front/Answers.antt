@@ -3,7 +3,6 @@ use Rattle.writevalue.proofs.Fronting.{front-whole, front-row, front-pairs, fron
 use Rattle.underway.proofs.Forms.{letter-small, sound-within, long-read, code_numbers_lem, code_else, as_single, as_four, as_eight, as_double, as_long, as_bytes, as_text, as_short, as_sequence, as_few, as_slice, as_dict, as_code}
 use Rattle.soundness.proofs.Soundness.{fixed_held, double_held}
 use Rattle.stores.specs.Written.{node_of}
-use Rattle.fields.proofs.Laws.{avoids}
 use Rattle.fields.specs.Classes.{classes, class_at}
 use Rattle.grammar.specs.Letters as letter
 use native.Mathlib.Omega.{arith}
