@@ -146,7 +146,7 @@ code_only l codes = eqb l 0x63
 code_only l refers = true
 code_only l (refuses number) = true
 code_only l (keeps form) = true
-code_only l (contains sort) = true
+code_only l (contains which) = true
 
 pub only_code : (l : ℕ) → class_of l ≡ codes → l ≡ 0x63
 unfolding letters

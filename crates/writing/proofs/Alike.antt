@@ -94,7 +94,7 @@ wide l size e n = eqb-true size 8 (go (class_of l) (class_passes test (λ l. ref
     test l (keeps letter.slice) = true
     test l (keeps letter.dict) = true
     test l refers = true
-    test l (contains sort) = true
+    test l (contains which) = true
     test l codes = true
     test l (refuses number) = true
 

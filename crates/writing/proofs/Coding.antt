@@ -88,7 +88,7 @@ module _ (t t' : Tables) (same : SameRead t t') where
       go refers = tt
       go (refuses number) = tt
       go (keeps form) = h
-      go (contains sort) = h
+      go (contains which) = h
       go codes = over (or_else (bad_part t rules kids) (bad_end t v kids))
 
   names-told : (v : ℕ) → suited t rule.as_names v (whole t v) ≡ none → Each Told (kids_of t v)

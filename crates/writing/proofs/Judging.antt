@@ -148,7 +148,7 @@ module _ (t t' : Tables) (same : SameRead t t') where
   same_judged n vs q refers p = refl
   same_judged n vs q (refuses number) p = refl
   same_judged n vs q (keeps form) p = refl
-  same_judged n vs q (contains sort) p = refl
+  same_judged n vs q (contains which) p = refl
   same_judged n vs q codes p = ap (judged n vs) (go (bad_part t rules vs) refl ∙ ap (λ o. or_else o (bad_end t' n vs)) (same_parts rules vs))
     where
       go : (o : Option ℕ) → bad_part t rules vs ≡ o → or_else o (bad_end t n vs) ≡ or_else o (bad_end t' n vs)

@@ -132,7 +132,7 @@ same_from : (s s' : List ℕ) (n : Node) (from : ℕ) → from ≤ n.place → (
 same_from s s' n from l h refers = tt
 same_from s s' n from l h (refuses number) = tt
 same_from s s' n from l h (keeps form) = λ i a b. h i (omega arith)
-same_from s s' n from l h (contains sort) = λ i a b. h i (omega arith)
+same_from s s' n from l h (contains which) = λ i a b. h i (omega arith)
 same_from s s' n from l h codes = ((λ i a b. h i (omega arith)), (λ i a b. h i (omega arith)))
 
 pub bytes-before_unread : (t : Tables) (s' : List ℕ) (from : ℕ) → length t.input ≡ length s'

@@ -18,7 +18,7 @@ abbrev pub SameBytes : (s s' : List ℕ) → Node → Class → Type 0
 SameBytes s s' n refers = Unit
 SameBytes s s' n (refuses number) = Unit
 SameBytes s s' n (keeps form) = SameFrom s s' n.place n.size
-SameBytes s s' n (contains _) = SameFrom s s' n.place n.size
+SameBytes s s' n (contains which) = SameFrom s s' n.place n.size
 SameBytes s s' n codes = SameFrom s s' n.place code_numbers × SameFrom s s' (n.place + n.size) 4
 
 -- So many entries, linked from e and from e' on: a first entry or a link is the same while one more is counted, and then not asked.
