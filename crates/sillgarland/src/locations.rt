@@ -17,12 +17,7 @@ pub struct SillLocated {
 }
 
 // `linetable_to_locations`, four numbers an instruction.
-pub fn sill_locate(
-    table: &[u8],
-    first_line: i32,
-    count: u32,
-    records: &mut [u32],
-) -> SillLocated
+pub fn sill_locate(table: &[u8], first_line: i32, count: u32, records: &mut [u32]) -> SillLocated
     ensures { (result ≡ located_struct (answer (located table.now (first_line_of first_line) count (length records.old / 4))))
         × (records.new ≡ records_of (length records.old) (located table.now (first_line_of first_line) count (length records.old / 4))) }
 {

@@ -19,12 +19,7 @@ pub struct SillSourced {
 }
 
 // A byte an instruction: where the place that `sill_locate` shows comes from.
-pub fn sill_sources(
-    table: &[u8],
-    first_line: i32,
-    count: u32,
-    sources: &mut [u8],
-) -> SillSourced
+pub fn sill_sources(table: &[u8], first_line: i32, count: u32, sources: &mut [u8]) -> SillSourced
     ensures { (result ≡ sourced_struct (answer_of (marks_for table.now (first_line_of first_line) count (length sources.old))))
         × (sources.new ≡ bytes_of (length sources.old) (marks_for table.now (first_line_of first_line) count (length sources.old))) }
 {

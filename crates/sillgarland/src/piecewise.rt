@@ -21,11 +21,7 @@ pub fn sill_locate_begin(
 }
 
 // `locate_piece`.
-pub fn sill_locate_piece(
-    bytes: &[u8],
-    state: &mut [u32],
-    records: &mut [u32],
-) -> SillLocated
+pub fn sill_locate_piece(bytes: &[u8], state: &mut [u32], records: &mut [u32]) -> SillLocated
     ensures { LeavesStruct (piece bytes.now state.old records.old) result state.new records.new }
 {
     let answer = bypiece::locate_piece(bytes, state, records);

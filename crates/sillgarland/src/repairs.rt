@@ -21,12 +21,7 @@ pub struct SillSalvaged {
 }
 
 // Makes a whole line table of what a cut or damaged one still says.
-pub fn sill_salvage(
-    table: &[u8],
-    first_line: i32,
-    count: u32,
-    out: &mut [u8],
-) -> SillSalvaged
+pub fn sill_salvage(table: &[u8], first_line: i32, count: u32, out: &mut [u8]) -> SillSalvaged
     ensures { (result ≡ salvaged_struct (repair table.now (first_line_of first_line) count (length out.old)).0)
         × (out.new ≡ (repair table.now (first_line_of first_line) count (length out.old)).1) }
 {

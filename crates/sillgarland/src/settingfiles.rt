@@ -57,11 +57,7 @@ pub fn sill_setting(own: &[u8], fallback: &[u8], tag: u32) -> SillSetting
 }
 
 // Writes a file of fields again with the contents that the changes have.
-pub fn sill_rewrite_settings(
-    file: &[u8],
-    changes: &[u8],
-    out: &mut [u8],
-) -> SillRewritten
+pub fn sill_rewrite_settings(file: &[u8], changes: &[u8], out: &mut [u8]) -> SillRewritten
     ensures { (result ≡ rewritten_struct (rewrite_of file.now changes.now (length out.old)).0)
         × (out.new ≡ (rewrite_of file.now changes.now (length out.old)).1) }
 {

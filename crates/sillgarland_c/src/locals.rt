@@ -22,5 +22,7 @@ pub extern "C" fn sill_split(
         result
         locals.new cells.new frees.new map.new cell_args.new }
 {
-    sillgarland::locals::sill_split(kinds, names, args, kwonly, flags, locals, cells, frees, map, cell_args)
+    sillgarland::locals::sill_split(
+        kinds, names, args, kwonly, flags, locals, cells, frees, map, cell_args,
+    )
 }

@@ -48,5 +48,14 @@ pub extern "C" fn sill_read_more(
     ensures { ReadAs (more_of input.now nodes.old entries.old (length slots.old) nesting kept_nodes kept_entries input_number)
         result nodes.new entries.new slots.new }
 {
-    sillgarland::reclaiming::sill_read_more(input, nodes, entries, slots, nesting, kept_nodes, kept_entries, input_number)
+    sillgarland::reclaiming::sill_read_more(
+        input,
+        nodes,
+        entries,
+        slots,
+        nesting,
+        kept_nodes,
+        kept_entries,
+        input_number,
+    )
 }

@@ -5,7 +5,7 @@ ghost use Rattle.settings.specs.Rewriting.{rewrite_of};
 ghost use Rattle.editions.specs.Answers.{edition_of, saved_of};
 ghost use Rattle.sillgarland.specs.Settingfiles.{setting_struct, rewritten_struct, edition_struct, kept_struct};
 
-use sillgarland::settingfiles::{SillSetting, SillRewritten, SillSaved, SillEdition};
+use sillgarland::settingfiles::{SillEdition, SillRewritten, SillSaved, SillSetting};
 
 // Where the contents of a tag stand, in the override or else in the default.
 #[unsafe(no_mangle)]

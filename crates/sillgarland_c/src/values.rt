@@ -38,5 +38,14 @@ pub extern "C" fn sill_write(
     ensures { WroteAs (written (tables_of input.now nodes.now entries.now used_nodes used_entries) root nesting (length out.old))
         (length out.old) result out.new }
 {
-    sillgarland::values::sill_write(input, nodes, entries, used_nodes, used_entries, root, nesting, out)
+    sillgarland::values::sill_write(
+        input,
+        nodes,
+        entries,
+        used_nodes,
+        used_entries,
+        root,
+        nesting,
+        out,
+    )
 }

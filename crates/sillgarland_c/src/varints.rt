@@ -7,7 +7,7 @@ ghost use Rattle.varintread.specs.Reading.{read_varint, read_varint_with_start};
 ghost use Rattle.varint.specs.Answers.{stored, stored_signed};
 ghost use Rattle.sillgarland.specs.Varints.{written_as, found_struct};
 
-use sillgarland::varints::{SillWritten, SillFound};
+use sillgarland::varints::{SillFound, SillWritten};
 
 // `write_varint`.
 #[unsafe(no_mangle)]
