@@ -2,7 +2,7 @@
  * library.
  *
  * Link libsillgarland.a or libsillgarland.so: `make install` puts them in place, and `pkg-config --cflags --libs sillgarland`
- * (or sillgarland-static) says how. The one function that they may need from elsewhere is memset.
+ * (or sillgarland-static) says how. The functions that they may need from elsewhere are memset and memcpy.
  *
  * What holds for every function here:
  * - It answers for any bytes and any numbers. It never fails, allocates, prints or keeps anything: it is reentrant, and may
