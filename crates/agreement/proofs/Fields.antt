@@ -14,7 +14,9 @@ use Rattle.fields.specs.Behind.{children_of, behind_of}
 use Rattle.fields.specs.declared.Kids.{Kids}
 use Rattle.fields.specs.declared.Kids.TheVariants as kids
 use Rattle.fields.specs.declared.Behind.{Behind}
-use Rattle.fields.specs.declared.Behind.TheVariants as behind
+use Rattle.std.specs.Prelude.{Result, Ok, Err}
+use Rattle.refusals.specs.declared.Fault.{Fault}
+use Rattle.refusals.proofs.Faults.{fault_at, fault_back}
 use Rattle.fields.proofs as fields
 use Rattle.fields.specs.contracts as fields_contracts
 use Rattle.agreement.specs.Agreement.{Agree}
@@ -62,13 +64,13 @@ kids_back (kids.Items count) = refl
 kids_back kids.Pairs = refl
 kids_back kids.Parts = refl
 
-abbrev behind_from : Answer Fields → Behind
-behind_from (gives f) = behind.Span f.place f.size (kids_from f.children)
-behind_from (stops number place) = behind.Refused number place
+abbrev behind_from : Answer Fields → Result Behind Fault
+behind_from (gives f) = Ok (record { place = f.place; size = f.size; kids = kids_from f.children })
+behind_from (stops number place) = Err (fault_at number place)
 
-behind_back : (r : Behind) → behind_from (behind_of r) ≡ r
-behind_back (behind.Span place size k) = ap (behind.Span place size) (kids_back k)
-behind_back (behind.Refused number place) = refl
+behind_back : (r : Result Behind Fault) → behind_from (behind_of r) ≡ r
+behind_back (Ok b) = ap (λ k. Ok (record { place = b.place; size = b.size; kids = k })) (kids_back b.kids)
+behind_back (Err f) = ap (λ (g : Fault). Err g) (fault_back f)
 
 pub le16-agrees : Agree fields_contracts.le16.ended fields.le16.Reads.Asked fields.le16.Reads.Learnt
 le16-agrees κs a asked r r' ws ws' p p' = (one p.0 p'.0, refl)
@@ -84,6 +86,9 @@ class_of-agrees κs a asked r r' ws ws' p p' = (retold class_at number_of class_
 
 pub class_at-agrees : Agree fields_contracts.class_at.ended fields.class_at.Reads.Asked fields.class_at.Reads.Learnt
 class_at-agrees κs a asked r r' ws ws' p p' = (retold class_at number_of class_back p p', refl)
+
+pub refusal_of-agrees : Agree fields_contracts.refusal_of.ended fields.refusal_of.Reads.Asked fields.refusal_of.Reads.Learnt
+refusal_of-agrees κs a asked r r' ws ws' p p' = (one p p', refl)
 
 pub digit_count-agrees : Agree fields_contracts.digit_count.ended fields.digit_count.Reads.Asked fields.digit_count.Reads.Learnt
 digit_count-agrees κs a asked r r' ws ws' p p' = (one p.0 p'.0, refl)

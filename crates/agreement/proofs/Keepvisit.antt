@@ -2,6 +2,8 @@
 use mathlib.Core.Path.{◌≡◌}
 use Prim.Native.Nat.{ℕ}
 use mathlib.Core.List.{List}
+use Rattle.std.specs.Prelude.{Result}
+use Rattle.refusals.specs.declared.Fault.{Fault}
 use Rattle.keepvisit.specs.declared.Seen.{Seen}
 use Rattle.keepvisit.specs.Visit.{Stores, stores, Visited, bad, visited, visit_from}
 use Rattle.keepvisit.specs.Found.{Answers}
@@ -10,7 +12,7 @@ use Rattle.keepvisit.specs.contracts as keepvisit_contracts
 use Rattle.agreement.specs.Agreement.{AgreeAs}
 use Rattle.agreement.proofs.Same.{one}
 
-answers_one : (t : Stores) (v : Visited) (r r' : Seen) (s s' : List ℕ) → Answers t v r s → Answers t v r' s' → r ≡ r'
+answers_one : (t : Stores) (v : Visited) (r r' : Result Seen Fault) (s s' : List ℕ) → Answers t v r s → Answers t v r' s' → r ≡ r'
 answers_one t (bad place) r r' s s' p p' = one p p'
 answers_one t (visited order) r r' s s' p p' = one p.0 p'.0
 

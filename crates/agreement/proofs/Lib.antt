@@ -1,4 +1,5 @@
 pub mod Same
+pub mod Refusals
 pub mod Clearing
 pub mod Signed
 pub mod Wtf8
@@ -16,7 +17,6 @@ pub mod Rows
 pub mod Salvage
 pub mod Sources
 pub mod Join
-pub mod Copying
 pub mod Taggedfields
 pub mod Settings
 pub mod Editions

@@ -50,9 +50,6 @@ in_numbers-agrees κs a asked r r' ws ws' p p' = (one p p', refl)
 pub signed_step_agrees : Agree lineentry_contracts.quick.signed_step.ended lineentry.quick.signed_step.Reads.Asked lineentry.quick.signed_step.Reads.Learnt
 signed_step_agrees κs a asked r r' ws ws' p p' = (one p p', refl)
 
-pub bytes-from-agrees : Agree lineentry_contracts.quick.bytes_from.ended lineentry.quick.bytes_from.Reads.Asked lineentry.quick.bytes_from.Reads.Learnt
-bytes-from-agrees κs a asked r r' ws ws' p p' = (one p p', refl)
-
 pub one_byte-agrees : Agree lineentry_contracts.quick.one_byte.ended lineentry.quick.one_byte.Reads.Asked lineentry.quick.one_byte.Reads.Learnt
 one_byte-agrees κs a asked r r' ws ws' p p' = (one p p', refl)
 

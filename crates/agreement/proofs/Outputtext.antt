@@ -6,4 +6,4 @@ use Rattle.agreement.specs.Partly.{WhereDone}
 use Rattle.agreement.proofs.Output.{puts_one}
 
 pub write_marshal_str_agrees : AgreeAs outputtext_contracts.write_marshal_str.ended (λ κs a. WhereDone) outputtext.write_marshal_str.Reads.Asked outputtext.write_marshal_str.Reads.Learnt
-write_marshal_str_agrees κs a asked r r' ws ws' p p' = ((puts_one r r' p p').0, λ done i. ((puts_one r r' p p').1 done i, (tt, (tt, (tt, (tt, tt))))))
+write_marshal_str_agrees κs a asked r r' ws ws' p p' = ((puts_one r r' p p').0, λ done i. ((puts_one r r' p p').1 done i, (tt, (tt, tt))))

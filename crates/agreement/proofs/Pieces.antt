@@ -8,7 +8,7 @@ pub take-piece-agrees : Agree pieces_contracts.take_piece.ended pieces.take_piec
 take-piece-agrees κs a asked r r' ws ws' p p' = (one p.answers p'.answers, λ i. (tt, (tt, (one p.states p'.states i, (one p.fills p'.fills i, tt)))))
 
 pub go_on-agrees : Agree pieces_contracts.go_on.ended pieces.go_on.Reads.Asked pieces.go_on.Reads.Learnt
-go_on-agrees κs a asked r r' ws ws' p p' = (one p.0 p'.0, λ i. (one p.1 p'.1 i, (tt, (tt, (tt, (tt, (tt, (tt, tt))))))))
+go_on-agrees κs a asked r r' ws ws' p p' = (one p.0 p'.0, λ i. (one p.1 p'.1 i, (tt, (tt, tt))))
 
 pub go_bare_agrees : Agree pieces_contracts.go_bare.ended pieces.go_bare.Reads.Asked pieces.go_bare.Reads.Learnt
-go_bare_agrees κs a asked r r' ws ws' p p' = (one p.0 p'.0, λ i. (one p.1 p'.1 i, (tt, (tt, (tt, (tt, (tt, tt)))))))
+go_bare_agrees κs a asked r r' ws ws' p p' = (one p.0 p'.0, λ i. (one p.1 p'.1 i, (tt, tt)))

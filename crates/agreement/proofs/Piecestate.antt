@@ -9,7 +9,7 @@ pub kept_at-agrees : Agree piecestate_contracts.kept_at.ended piecestate.kept_at
 kept_at-agrees κs a asked r r' ws ws' p p' = (one p p', refl)
 
 pub fetch_agrees : Agree piecestate_contracts.fetch.ended piecestate.fetch.Reads.Asked piecestate.fetch.Reads.Learnt
-fetch_agrees κs a asked r r' ws ws' p p' = (refl, λ i. (one p p' i, (tt, (tt, tt))))
+fetch_agrees κs a asked r r' ws ws' p p' = (refl, λ i. (one p p' i, (tt, tt)))
 
 pub hold_agrees : Agree piecestate_contracts.hold.ended piecestate.hold.Reads.Asked piecestate.hold.Reads.Learnt
 hold_agrees κs a asked r r' ws ws' p p' = (refl, λ i. (one p p' i, (tt, tt)))
@@ -18,10 +18,10 @@ pub look-agrees : Agree piecestate_contracts.look.ended piecestate.look.Reads.As
 look-agrees κs a asked r r' ws ws' p p' = (one p p', refl)
 
 pub refuse_agrees : Agree piecestate_contracts.refuse.ended piecestate.refuse.Reads.Asked piecestate.refuse.Reads.Learnt
-refuse_agrees κs a asked r r' ws ws' p p' = (one p.0 p'.0, λ i. (one p.1 p'.1 i, (tt, (tt, tt))))
+refuse_agrees κs a asked r r' ws ws' p p' = (one p.0 p'.0, λ i. (one p.1 p'.1 i, (tt, tt)))
 
 pub stick_agrees : Agree piecestate_contracts.stick.ended piecestate.stick.Reads.Asked piecestate.stick.Reads.Learnt
-stick_agrees κs a asked r r' ws ws' p p' = (one p.answers p'.answers, λ i. (one p.states p'.states i, (one p.fills p'.fills i, (tt, (tt, tt)))))
+stick_agrees κs a asked r r' ws ws' p p' = (one p.answers p'.answers, λ i. (one p.states p'.states i, (one p.fills p'.fills i, (tt, tt))))
 
 pub no_state-agrees : Agree piecestate_contracts.no_state.ended piecestate.no_state.Reads.Asked piecestate.no_state.Reads.Learnt
 no_state-agrees κs a asked r r' ws ws' p p' = (one p.answers p'.answers, λ i. (one p.states p'.states i, (one p.fills p'.fills i, tt)))

@@ -16,8 +16,10 @@ use Rattle.readsteps.specs.Linking.{ItemNext, PairNext, PartNext, NextOf}
 use Rattle.readsteps.specs.declared.Opened.{Opened}
 use Rattle.readsteps.specs.declared.Opened.TheVariants as opened
 use Rattle.readsteps.specs.declared.Line.{Line}
-use Rattle.readsteps.specs.declared.Linked.{Linked}
-use Rattle.readsteps.specs.declared.Linked.TheVariants as linked
+use Rattle.std.specs.Prelude.{Result, Ok, Err}
+use Rattle.refusals.specs.Faults.{number_of, fault}
+use Rattle.refusals.proofs.Faults.{number_of_injective, fault_at, fault_back}
+use Rattle.refusals.specs.declared.Fault.{Fault}
 use Rattle.readsteps.specs.declared.Next.{Next}
 use Rattle.readsteps.specs.declared.Next.TheVariants as next
 use Rattle.readsteps.proofs as readsteps
@@ -27,15 +29,15 @@ use Rattle.agreement.proofs.Same.{one, retold}
 use Rattle.agreement.proofs.Fields.{kids_from, kids_back}
 
 -- the answer, from the grammar's words back
-abbrev front_from : Answer Front → Opened
-front_from (gives (known v at)) = opened.Known v at
-front_from (gives (opens letter flag f)) = opened.Node (record { letter = letter; flag = flag; place = f.place; size = f.size }) (kids_from f.children)
-front_from (stops number place) = opened.Refused number place
+abbrev front_from : Answer Front → Result Opened Fault
+front_from (gives (known v at)) = Ok (opened.Known v at)
+front_from (gives (opens letter flag f)) = Ok (opened.Node (record { letter = letter; flag = flag; place = f.place; size = f.size }) (kids_from f.children))
+front_from (stops number place) = Err (fault_at number place)
 
-front_back : (r : Opened) → front_from (front_of r) ≡ r
-front_back (opened.Known v at) = refl
-front_back (opened.Node h kids) = ap (opened.Node h) (kids_back kids)
-front_back (opened.Refused number place) = refl
+front_back : (r : Result Opened Fault) → front_from (front_of r) ≡ r
+front_back (Ok (opened.Known v at)) = refl
+front_back (Ok (opened.Node h kids)) = ap (λ k. Ok (opened.Node h k)) (kids_back kids)
+front_back (Err f) = ap (λ (g : Fault). Err g) (fault_back f)
 
 pub resolve_ref_agrees : Agree readsteps_contracts.resolve_ref.ended readsteps.resolve_ref.Reads.Asked readsteps.resolve_ref.Reads.Learnt
 resolve_ref_agrees κs a asked r r' ws ws' p p' = (retold front_of front_from front_back p.exact p'.exact, refl)
@@ -61,66 +63,67 @@ suits-agrees κs a asked r r' ws ws' p p' = (one p p', refl)
 pub node-size-agrees : Agree readsteps_contracts.node_size.ended readsteps.node_size.Reads.Asked readsteps.node_size.Reads.Learnt
 node-size-agrees κs a asked r r' ws ws' p p' = (one p p', refl)
 
--- What comes next, by the kind of the children.
-items_alike : (count : ℕ) (l : Line) (r r' : Next) → ItemNext count l r → ItemNext count l r' → r ≡ r'
-items_alike count l (next.Child m rule) (next.Child m' rule') h h' = ap₂ next.Child (one h.0 h'.0) (one h.1 h'.1)
-items_alike count l (next.Child m rule) (next.Done m') h h' = let a = h.2 in let b = h'.1 in absurd (omega (arith, a, b))
-items_alike count l (next.Child m rule) (next.Refused n' p') h h' = absurd h'
-items_alike count l (next.Done m) (next.Child m' rule') h h' = let a = h.1 in let b = h'.2 in absurd (omega (arith, a, b))
-items_alike count l (next.Done m) (next.Done m') h h' = ap next.Done (one h.0 h'.0)
-items_alike count l (next.Done m) (next.Refused n' p') h h' = absurd h'
-items_alike count l (next.Refused n p) r' h h' = absurd h
+-- two faults with the same numbers
+fault_alike : (f f' : Fault) → number_of f.refusal ≡ number_of f'.refusal → f.place ≡ f'.place → f ≡ f'
+fault_alike f f' number place = λ i. fault (number_of_injective number i) (place i)
 
-pairs-alike : (s : List ℕ) (l : Line) (r r' : Next) → PairNext s l r → PairNext s l r' → r ≡ r'
-pairs-alike s l (next.Child m rule) (next.Child m' rule') h h' = ap₂ next.Child (one h.0 h'.0) (one h.1 h'.1)
-pairs-alike s l (next.Child m rule) (next.Done m') h h' = absurd ((h.2 h'.1).1 h'.3)
-pairs-alike s l (next.Child m rule) (next.Refused n' p') h h' = let a = (h.2 h'.2).0 in let b = h'.3 in absurd (omega (arith, a, b))
-pairs-alike s l (next.Done m) (next.Child m' rule') h h' = absurd ((h'.2 h.1).1 h.3)
-pairs-alike s l (next.Done m) (next.Done m') h h' = ap next.Done (one h.0 h'.0)
-pairs-alike s l (next.Done m) (next.Refused n' p') h h' = let a = h.2 in let b = h'.3 in absurd (omega (arith, a, b))
-pairs-alike s l (next.Refused n p) (next.Child m' rule') h h' = let a = (h'.2 h.2).0 in let b = h.3 in absurd (omega (arith, a, b))
-pairs-alike s l (next.Refused n p) (next.Done m') h h' = let a = h'.2 in let b = h.3 in absurd (omega (arith, a, b))
-pairs-alike s l (next.Refused n p) (next.Refused n' p') h h' = ap₂ next.Refused (one h.0 h'.0) (one h.1 h'.1)
+-- What comes next, by the kind of the children.
+items_alike : (count : ℕ) (l : Line) (r r' : Result Next Fault) → ItemNext count l r → ItemNext count l r' → r ≡ r'
+items_alike count l (Ok (next.Child m rule)) (Ok (next.Child m' rule')) h h' = ap₂ (λ q u. Ok (next.Child q u)) (one h.0 h'.0) (one h.1 h'.1)
+items_alike count l (Ok (next.Child m rule)) (Ok (next.Done m')) h h' = let a = h.2 in let b = h'.1 in absurd (omega (arith, a, b))
+items_alike count l (Ok (next.Child m rule)) (Err f') h h' = absurd h'
+items_alike count l (Ok (next.Done m)) (Ok (next.Child m' rule')) h h' = let a = h.1 in let b = h'.2 in absurd (omega (arith, a, b))
+items_alike count l (Ok (next.Done m)) (Ok (next.Done m')) h h' = ap (λ q. Ok (next.Done q)) (one h.0 h'.0)
+items_alike count l (Ok (next.Done m)) (Err f') h h' = absurd h'
+items_alike count l (Err f) r' h h' = absurd h
+
+pairs-alike : (s : List ℕ) (l : Line) (r r' : Result Next Fault) → PairNext s l r → PairNext s l r' → r ≡ r'
+pairs-alike s l (Ok (next.Child m rule)) (Ok (next.Child m' rule')) h h' = ap₂ (λ q u. Ok (next.Child q u)) (one h.0 h'.0) (one h.1 h'.1)
+pairs-alike s l (Ok (next.Child m rule)) (Ok (next.Done m')) h h' = absurd ((h.2 h'.1).1 h'.3)
+pairs-alike s l (Ok (next.Child m rule)) (Err f') h h' = let a = (h.2 h'.2).0 in let b = h'.3 in absurd (omega (arith, a, b))
+pairs-alike s l (Ok (next.Done m)) (Ok (next.Child m' rule')) h h' = absurd ((h'.2 h.1).1 h.3)
+pairs-alike s l (Ok (next.Done m)) (Ok (next.Done m')) h h' = ap (λ q. Ok (next.Done q)) (one h.0 h'.0)
+pairs-alike s l (Ok (next.Done m)) (Err f') h h' = let a = h.2 in let b = h'.3 in absurd (omega (arith, a, b))
+pairs-alike s l (Err f) (Ok (next.Child m' rule')) h h' = let a = (h'.2 h.2).0 in let b = h.3 in absurd (omega (arith, a, b))
+pairs-alike s l (Err f) (Ok (next.Done m')) h h' = let a = h'.2 in let b = h.3 in absurd (omega (arith, a, b))
+pairs-alike s l (Err f) (Err f') h h' = ap (λ (g : Fault). Err g) (fault_alike f f' (one h.0 h'.0) (one h.1 h'.1))
 
 -- a line that goes on is no refusal
-abbrev line_in : Line → Linked → Line
-line_in l (linked.Line m) = m
-line_in l (linked.Refused n p) = l
+abbrev line_in : Line → Result Line Fault → Line
+line_in l (Ok m) = m
+line_in l (Err f) = l
 
-abbrev refusal : Linked → ℕ × ℕ
-refusal (linked.Line m) = (0, 0)
-refusal (linked.Refused n p) = (n, p)
+abbrev fault_in : Fault → Result Line Fault → Fault
+fault_in none (Ok m) = none
+fault_in none (Err f) = f
 
-abbrev goes_on : Linked → ℕ
-goes_on (linked.Line m) = 1
-goes_on (linked.Refused n p) = 0
+abbrev goes_on : Result Line Fault → ℕ
+goes_on (Ok m) = 1
+goes_on (Err f) = 0
 
-line_or_refused : {x : Linked} {m : Line} {n p : ℕ} → x ≡ linked.Line m → x ≡ linked.Refused n p → ⊥
+line_or_refused : {x : Result Line Fault} {m : Line} {f : Fault} → x ≡ Ok m → x ≡ Err f → ⊥
 line_or_refused e e' = let z : ◌≡◌ {A = ℕ} 1 0 = ap goes_on (one (sym e) (sym e')) in omega (arith, z)
 
-refused-alike : (s ns : List ℕ) (at : ℕ) (l : Line) (n p n' p' : ℕ) → PartNext s ns at l (next.Refused n p) → PartNext s ns at l (next.Refused n' p') → (n ≡ n') × (p ≡ p')
-refused-alike s ns at l n p n' p' h h' = go (ltb l.count code_parts) refl where
-  go : (t : Bool) → ltb l.count code_parts ≡ t → (n ≡ n') × (p ≡ p')
-  go true e =
-      let less = ltb-true l.count code_parts e in
-      let x = ap refusal (one (sym (h.0 less)) (sym (h'.0 less))) in
-      (ap (λ q. q.0) x, ap (λ q. q.1) x)
+refused-alike : (s ns : List ℕ) (at : ℕ) (l : Line) (f f' : Fault) → PartNext s ns at l (Err f) → PartNext s ns at l (Err f') → f ≡ f'
+refused-alike s ns at l f f' h h' = go (ltb l.count code_parts) refl where
+  go : (t : Bool) → ltb l.count code_parts ≡ t → f ≡ f'
+  go true e = let less = ltb-true l.count code_parts e in ap (fault_in f) (one (sym (h.0 less)) (sym (h'.0 less)))
   go false e =
       let more = ltb-false l.count code_parts e in
-      (one (h.1 more).1 (h'.1 more).1, one (h.1 more).0 (h'.1 more).0)
+      fault_alike f f' (one (h.1 more).1 (h'.1 more).1) (one (h.1 more).0 (h'.1 more).0)
 
-parts-alike : (s ns : List ℕ) (at : ℕ) (l : Line) (r r' : Next) → PartNext s ns at l r → PartNext s ns at l r' → r ≡ r'
-parts-alike s ns at l (next.Child m rule) (next.Child m' rule') h h' = ap₂ next.Child (ap (line_in l) (one (sym h.0) (sym h'.0))) (one h.1 h'.1)
-parts-alike s ns at l (next.Child m rule) (next.Done m') h h' = let a = h.2 in let b = h'.1 in absurd (omega (arith, a, b))
-parts-alike s ns at l (next.Child m rule) (next.Refused n' p') h h' = absurd (line_or_refused h.0 (h'.0 h.2))
-parts-alike s ns at l (next.Done m) (next.Child m' rule') h h' = let a = h.1 in let b = h'.2 in absurd (omega (arith, a, b))
-parts-alike s ns at l (next.Done m) (next.Done m') h h' = ap next.Done (one h.0 h'.0)
-parts-alike s ns at l (next.Done m) (next.Refused n' p') h h' = absurd ((h'.1 h.1).2 ((h'.1 h.1).1 ∙ h.2))
-parts-alike s ns at l (next.Refused n p) (next.Child m' rule') h h' = absurd (line_or_refused h'.0 (h.0 h'.2))
-parts-alike s ns at l (next.Refused n p) (next.Done m') h h' = absurd ((h.1 h'.1).2 ((h.1 h'.1).1 ∙ h'.2))
-parts-alike s ns at l (next.Refused n p) (next.Refused n' p') h h' = let e = refused-alike s ns at l n p n' p' h h' in ap₂ next.Refused e.0 e.1
+parts-alike : (s ns : List ℕ) (at : ℕ) (l : Line) (r r' : Result Next Fault) → PartNext s ns at l r → PartNext s ns at l r' → r ≡ r'
+parts-alike s ns at l (Ok (next.Child m rule)) (Ok (next.Child m' rule')) h h' = ap₂ (λ q u. Ok (next.Child q u)) (ap (line_in l) (one (sym h.0) (sym h'.0))) (one h.1 h'.1)
+parts-alike s ns at l (Ok (next.Child m rule)) (Ok (next.Done m')) h h' = let a = h.2 in let b = h'.1 in absurd (omega (arith, a, b))
+parts-alike s ns at l (Ok (next.Child m rule)) (Err f') h h' = absurd (line_or_refused h.0 (h'.0 h.2))
+parts-alike s ns at l (Ok (next.Done m)) (Ok (next.Child m' rule')) h h' = let a = h.1 in let b = h'.2 in absurd (omega (arith, a, b))
+parts-alike s ns at l (Ok (next.Done m)) (Ok (next.Done m')) h h' = ap (λ q. Ok (next.Done q)) (one h.0 h'.0)
+parts-alike s ns at l (Ok (next.Done m)) (Err f') h h' = absurd ((h'.1 h.1).2 ((h'.1 h.1).1 ∙ h.2))
+parts-alike s ns at l (Err f) (Ok (next.Child m' rule')) h h' = absurd (line_or_refused h'.0 (h.0 h'.2))
+parts-alike s ns at l (Err f) (Ok (next.Done m')) h h' = absurd ((h.1 h'.1).2 ((h.1 h'.1).1 ∙ h'.2))
+parts-alike s ns at l (Err f) (Err f') h h' = ap (λ (g : Fault). Err g) (refused-alike s ns at l f f' h h')
 
-next_alike : (s ns : List ℕ) (kids : Kids) (at : ℕ) (l : Line) (r r' : Next) → NextOf s ns kids at l r → NextOf s ns kids at l r' → r ≡ r'
+next_alike : (s ns : List ℕ) (kids : Kids) (at : ℕ) (l : Line) (r r' : Result Next Fault) → NextOf s ns kids at l r → NextOf s ns kids at l r' → r ≡ r'
 next_alike s ns (kind.Items count) at l r r' h h' = items_alike count l r r' h h'
 next_alike s ns kind.Pairs at l r r' h h' = pairs-alike s l r r' h h'
 next_alike s ns kind.Parts at l r r' h h' = parts-alike s ns at l r r' h h'

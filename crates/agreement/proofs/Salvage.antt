@@ -8,8 +8,5 @@ use Rattle.agreement.proofs.Same.{one}
 pub salvage_table_agrees : Agree salvage_contracts.salvage_table.ended salvage.salvage_table.Reads.Asked salvage.salvage_table.Reads.Learnt
 salvage_table_agrees κs a asked r r' ws ws' p p' = (one p.0 p'.0, λ i. (tt, (tt, (tt, (one p.1 p'.1 i, tt)))))
 
-pub copy_agrees : Agree salvage_contracts.copy.ended salvage.copy.Reads.Asked salvage.copy.Reads.Learnt
-copy_agrees κs a asked r r' ws ws' p p' = (refl, λ i. (one p p' i, (tt, (tt, (tt, (tt, tt))))))
-
 pub short-place-agrees : Agree salvage_contracts.short_place.ended salvage.short_place.Reads.Asked salvage.short_place.Reads.Learnt
 short-place-agrees κs a asked r r' ws ws' p p' = (one p p', refl)

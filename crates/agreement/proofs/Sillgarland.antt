@@ -46,9 +46,6 @@ sill_locations-agrees =
     (λ κs a asked r r' ws ws' p p'.
     (one p.0 p'.0, λ i. (tt, (tt, (tt, (one p.1 p'.1 i, (one p.2 p'.2 i, tt)))))))
 
-pub located-numbers-agrees : Agree sillgarland_contracts.locations.located_numbers.ended sillgarland.locations.located_numbers.Reads.Asked sillgarland.locations.located_numbers.Reads.Learnt
-located-numbers-agrees κs a asked r r' ws ws' p p' = (one p p', refl)
-
 pub sill_join-agrees : Agree sillgarland_contracts.joins.sill_join.ended sillgarland.joins.sill_join.Reads.Asked sillgarland.joins.sill_join.Reads.Learnt
 sill_join-agrees κs a asked r r' ws ws' p p' = (one p.0 p'.0, λ i. (tt, (tt, (tt, (tt, (tt, (tt, (one p.1 p'.1 i, tt))))))))
 
@@ -109,9 +106,6 @@ sill_read-agrees κs a asked r r' ws ws' p p' = (
   one p.numbers p'.numbers,
   λ i. (tt, (one p.holds-nodes p'.holds-nodes i, (one p.holds-entries p'.holds-entries i, (one p.holds-slots p'.holds-slots i, (tt, tt))))),
 )
-
-pub read-numbers-agrees : Agree sillgarland_contracts.values.read_numbers.ended sillgarland.values.read_numbers.Reads.Asked sillgarland.values.read_numbers.Reads.Learnt
-read-numbers-agrees κs a asked r r' ws ws' p p' = (one p p', refl)
 
 pub sill_keep_agrees : Agree sillgarland_contracts.reclaiming.sill_keep.ended sillgarland.reclaiming.sill_keep.Reads.Asked sillgarland.reclaiming.sill_keep.Reads.Learnt
 sill_keep_agrees κs a asked r r' ws ws' p p' = (

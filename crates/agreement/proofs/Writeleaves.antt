@@ -7,4 +7,4 @@ use Rattle.agreement.specs.Partly.{WhereDone}
 use Rattle.agreement.proofs.Output.{puts_one}
 
 pub write_bytes-agrees : AgreeAs writeleaves_contracts.write_bytes.ended (λ κs a. WhereDone) writeleaves.write_bytes.Reads.Asked writeleaves.write_bytes.Reads.Learnt
-write_bytes-agrees κs a asked r r' ws ws' p p' = ((puts_one r r' p p').0, λ done i. (tt, (tt, (tt, ((puts_one r r' p p').1 done i, (tt, (tt, (tt, (tt, tt)))))))))
+write_bytes-agrees κs a asked r r' ws ws' p p' = ((puts_one r r' p p').0, λ done i. (tt, ((puts_one r r' p p').1 done i, (tt, (tt, (tt, tt))))))

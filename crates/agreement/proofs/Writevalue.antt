@@ -6,4 +6,4 @@ use Rattle.agreement.specs.Partly.{WhereDone}
 use Rattle.agreement.proofs.Output.{puts_one}
 
 pub write_value-agrees : AgreeAs writevalue_contracts.write_value.ended (λ κs a. WhereDone) writevalue.write_value.Reads.Asked writevalue.write_value.Reads.Learnt
-write_value-agrees κs a asked r r' ws ws' p p' = ((puts_one r r' p p').0, λ done i. (tt, (tt, (tt, ((puts_one r r' p p').1 done i, (tt, (tt, (tt, (tt, tt)))))))))
+write_value-agrees κs a asked r r' ws ws' p p' = ((puts_one r r' p p').0, λ done i. (tt, ((puts_one r r' p p').1 done i, (tt, (tt, (tt, tt))))))

@@ -1,6 +1,6 @@
 -- The room that a move reports free is what a new read behind it can claim: the stores keep their lengths, and what is kept is within their
 -- capacities. By the laws of a move (carried). Assumes nothing.
-use mathlib.Core.Path.{◌≡◌, sym, ap, subst}
+use mathlib.Core.Path.{◌≡◌, refl, sym, ap, subst}
 use Prim.Native.Nat.{ℕ, ◌-◌}
 use native.Mathlib.Omega.{arith}
 use mathlib.Core.List.{List, []}
@@ -21,10 +21,19 @@ free_is_left nodes entries slots used_nodes used_entries root size order e lent 
     let n = few-nodes [] nodes entries used_nodes used_entries root order v in
     let x = few-entries [] nodes entries used_nodes used_entries root order v in
     let ln = long-nodes [] nodes entries used_nodes used_entries root order v in
+    let moved = length (chains (lent_stores nodes entries used_nodes used_entries) order) in
     let lx = long-entries [] nodes entries used_nodes used_entries root order v in
     subst (λ o. Freed (held_by o (lent_stores nodes entries used_nodes used_entries) slots) lent nesting number) (sym e)
     (record {
+      told =
+          record {
+            nodes = length order;
+            entries = moved;
+            freenodes = node_capacity (length nodes) - length order;
+            freeentries = entry_capacity (length entries) - moved;
+          };
+      accepted = refl;
       holds = record { in_nodes = omega (arith, n, ln); in_entries = omega (arith, x, lx) };
       left_nodes_lem = ap (λ m. node_capacity m - length order) ln;
-      left_entries_lem = ap (λ m. entry_capacity m - length (chains (lent_stores nodes entries used_nodes used_entries) order)) lx;
+      left_entries_lem = ap (λ m. entry_capacity m - moved) lx;
     })

@@ -1,6 +1,6 @@
 -- What 02's K11 promises of a new read behind kept nodes and entries, over the definition that the export's contract cites.
 -- `proofs/Promised` has the theorem.
-use Rattle.std.specs.Prelude.{◌≡◌, ℕ, ◌+◌, ◌*◌, ◌≤◌, ◌<◌, List, [], ◌++◌, map, length}
+use Rattle.std.specs.Prelude.{◌≡◌, ℕ, ◌+◌, ◌*◌, ◌≤◌, ◌<◌, List, [], ◌++◌, map, length, Ok}
 use Rattle.std.proofs.Math.Option.{some}
 use Rattle.refusals.specs.Numbers.{no_node, no_entry, input_too_long}
 use Rattle.refusals.specs.Limits.{most_bytes}
@@ -16,6 +16,7 @@ use Rattle.grammar.specs.Record.{tables_of}
 use Rattle.shifts.specs.Shift.{Shift, raised_value, lifted_a}
 use Rattle.meaning.specs.Value.{Value}
 use Rattle.meaning.specs.Meaning.{value_of, tables_after}
+use Rattle.keep.specs.declared.Kept as declared
 use Rattle.keep.specs.Kept.{lent_stores, moves, outcome, Held, kept_of}
 use Rattle.raising.specs.Appended.{relabelled, appended_node, appended_entry}
 use Rattle.readmore.specs.More.{Kept, keeping, room_left, appending, behind, kept_part, appended_to, more_of}
@@ -108,9 +109,11 @@ pub record Refused (nodes entries : List ℕ) (slots : ℕ) (k : Kept) (o : Outc
 
 -- "the reported room freed is what a new read can claim": behind a move the stores hold what is kept, and this is the room that is left.
 pub record Freed (o : Held) (slots nesting number : ℕ) : Type 0 where
-  pub holds : Holds (lent_room o.nodes o.entries slots nesting) (keeping o.answer.nodes o.answer.entries number)
-  pub left_nodes_lem : (room_left (lent_room o.nodes o.entries slots nesting) (keeping o.answer.nodes o.answer.entries number)).nodes ≡ o.answer.freenodes
-  pub left_entries_lem : (room_left (lent_room o.nodes o.entries slots nesting) (keeping o.answer.nodes o.answer.entries number)).entries ≡ o.answer.freeentries
+  pub told : declared.Kept
+  pub accepted : o.answer ≡ Ok told
+  pub holds : Holds (lent_room o.nodes o.entries slots nesting) (keeping told.nodes told.entries number)
+  pub left_nodes_lem : (room_left (lent_room o.nodes o.entries slots nesting) (keeping told.nodes told.entries number)).nodes ≡ told.freenodes
+  pub left_entries_lem : (room_left (lent_room o.nodes o.entries slots nesting) (keeping told.nodes told.entries number)).entries ≡ told.freeentries
 
 pub record Promised : Type 0 where
   -- where nothing is kept, it is the reading, which gives number 0

@@ -2,13 +2,13 @@
 -- the entry says what the call comes to.
 use mathlib.Core.Path.{◌≡◌, refl, sym, ap, subst, ◌∙◌}
 use mathlib.Core.Bool.{Bool, true, false, cond, not}
-use mathlib.Core.List.{List, [], ◌∷◌, ◌++◌, append-nil}
-use Prim.Native.Nat.{ℕ, ◌+◌, ◌-◌, ◌*◌, ◌/◌, ◌%◌, ◌≤◌, ◌<◌}
+use mathlib.Core.List.{List, [], ◌∷◌, ◌++◌, map, append-nil}
+use Prim.Native.Nat.{ℕ, ◌+◌, ◌-◌, ◌*◌, ◌/◌, ◌≤◌, ◌<◌}
 use native.Mathlib.Omega.{arith}
 use lib.ListN.{length, replicate, take, drop, get_or, length-append, drop_of_length-le, get_or-append}
-use lib.Seq.{sets, drop-cons, length-take-le}
-use lib.Dec.{ltb, eqb}
-use borrow.Author.Tests.{le-ltb, le-leb, ltb-true, eq-eqb, ne_eqb, eqb-true, eqb-false}
+use lib.Seq.{sets}
+use lib.Dec.{eqb}
+use borrow.Author.Tests.{le-ltb, le-leb, eq-eqb, ne_eqb, eqb-true, eqb-false}
 use Rattle.refusals.specs.Limits.{most_bytes}
 use Rattle.lineentry.specs.declared.Span.{Span}
 use Rattle.lineentry.specs.declared.Entry.{Entry}
@@ -18,34 +18,26 @@ use Rattle.linetable.specs.Answer.{numbers}
 use Rattle.linetable.proofs.Stores.{sets-append}
 use Rattle.rows.specs.Row.{placed_all, table_end, cut_short}
 use Rattle.rows.proofs.Chains.{row_ends}
-use Rattle.rows.proofs.Local.{never}
 use Rattle.rows.proofs.Extent.{entry_runs, entry_local, stop_byte_lem, stop_at}
 use Rattle.rows.proofs.Joins.{same_append}
 use Rattle.lostentry.specs.Lost.{lost}
 use Rattle.lostentry.proofs.Losing.{covered, lost-refuses}
 use Rattle.piecestate.specs.declared.Kept.{Kept}
+use Rattle.piecestate.specs.State.{going, kept_at, low, held_in, held_at, open_as, open_entry, counted, sound_going, sound_by, advanced}
+use Rattle.std.specs.Prelude.{Ok}
 use Rattle.piecestate.specs.declared.Pieced.{Pieced}
-use Rattle.piecestate.specs.State.{going, kept_at, held_in, held_at, open_as, open_entry, counted, sound_going, sound_by, advanced}
-use Rattle.piecestate.specs.Answers.{Left, left, told, Leaves}
-use Rattle.piecestate.proofs.Stores.{length_held, front-sets}
+use Rattle.piecestate.specs.Answers.{Answer, Left, left, pieced, told, Leaves}
+use Rattle.piecestate.proofs.Stores.{length_held, front-sets, length-map, part_held}
 use Rattle.pieces.specs.Piece.{shown_of, after, walked, piece_by}
 use Rattle.pieces.specs.Calls.{piece}
 use Rattle.pieces.proofs.Gates.{open_gate}
 use Rattle.pieces.proofs.Fronts.{walked_feed}
 use Rattle.bypiece.specs.declared.onebyte.Step.{Step}
 use Rattle.bypiece.specs.declared.onebyte.Step.TheVariants.{Held, Whole}
-use Rattle.bypiece.specs.Byte.{Cut, Ended, Tells, Easy, Eases, entry_on, Holds, Places, Steps, held_on, Fits, placed_on}
+use Rattle.bypiece.specs.Byte.{Cut, Ended, Tells, Easy, entry_on, Holds, Places, Steps, held_on, Fits, placed_on}
 use Rattle.bypiece.proofs.Entering.{leaves_same, piece_open}
 
 -- ---- the tests
-pub eases_no : (k : Kept) (room : ℕ) → Eases k room false
-eases_no k room = record { told = λ z. never (sym z) }
-
-pub eases : (k : Kept) (room : ℕ) → k.status ≡ going → k.placed < k.count → k.count ≤ room → k.bytes < most_bytes → k.start ≤ k.bytes → k.size ≤ k.bytes - k.start
-    → k.line < 4294967296 → Eases k room (ltb k.size 25)
-eases k room a b c d e f l =
-    record { told = λ z. record { stands = a; few = b; enough = c; small = d; from = e; within = f; short = ltb-true k.size 25 z; bits = l } }
-
 -- an entry is complete as another is
 pub ends_as : {x : Entry} {n : ℕ} {e y : Span} → e ≡ y → Ended x n y → Ended x n e
 ends_as {x} {n} z g = subst (Ended x n) (sym z) g
@@ -56,63 +48,29 @@ single [] e = absurd (omega (arith, e))
 single (x ∷ []) e = refl
 single (x ∷ y ∷ v) e = absurd (omega (arith, e))
 
-module _ (s : List ℕ) (h : 40 ≤ length s) where
-  pub held_one : held_in s 1 ≡ get_or s 10 0 % 256 ∷ []
-  held_one = rw (drop-cons s 10 0 (omega arith))
+-- at the front of a store
+pub fetched : (h out : List ℕ) (b : ℕ) {out₁ out₂ : List ℕ} → out₁ ≡ sets out 0 (map low h) → out₂ ≡ sets out₁ (length h) (b ∷ []) → out₂ ≡ sets out 0 (map low h ++ b ∷ [])
+fetched h out b e f =
+    let l : length h ≡ 0 + length (map low h) = omega (arith, length-map low h) in
+    f ∙ ap (λ t. sets t (length h) (b ∷ [])) e ∙ ap (λ i. sets (sets out 0 (map low h)) i (b ∷ [])) l ∙ sym (sets-append out 0 (map low h) (b ∷ []))
 
-  pub held_two : held_in s 2 ≡ get_or s 10 0 % 256 ∷ get_or s 11 0 % 256 ∷ []
-  held_two = rw (drop-cons s 10 0 (omega arith), drop-cons s 11 0 (omega arith))
+pub front_with : (u out : List ℕ) (n b : ℕ) {front : List ℕ} → length u ≡ n → n < 25 → length out ≡ 25 → front ≡ sets out 0 (u ++ b ∷ []) → take (n + 1) front ≡ u ++ b ∷ []
+front_with u out n b z k l e = ap (take (n + 1)) e ∙ front-sets out (u ++ b ∷ []) (n + 1) (omega (arith, length-append u (b ∷ []))) (omega arith)
 
-  module _ (b line size : ℕ) (r : Step) where
-    pub tells_first : size ≡ 0 → Tells (entry_at (b ∷ []) line 0) 0 r → Tells (entry_at (held_in s size ++ b ∷ []) line 0) size r
-    tells_first e t = subst (λ n. Tells (entry_at (held_in s n ++ b ∷ []) line 0) n r) (sym e) t
+pub tells-any : (h out : List ℕ) (b line : ℕ) (r : Step) {front : List ℕ} {x : Entry} → length h < 25 → length out ≡ 25 → front ≡ sets out 0 (map low h ++ b ∷ [])
+    → x ≡ entry_at (take (length h + 1) front) line 0 → Tells x (length h) r → Tells (entry_at (map low h ++ b ∷ []) line 0) (length h) r
+tells-any h out b line r k l e a t = subst (λ y. Tells y (length h) r) (a ∙ ap (λ u. entry_at u line 0) (front_with (map low h) out (length h) b (length-map low h) k l e)) t
 
-    pub tells-second : size ≡ 1 → Tells (entry_at (get_or s 10 0 % 256 ∷ b ∷ []) line 0) 1 r → Tells (entry_at (held_in s size ++ b ∷ []) line 0) size r
-    tells-second e t = subst (λ n. Tells (entry_at (held_in s n ++ b ∷ []) line 0) n r) (sym e) (subst (λ u. Tells (entry_at (u ++ b ∷ []) line 0) 1 r) (sym held_one) t)
-
-    pub tells-third : size ≡ 2 → Tells (entry_at (get_or s 10 0 % 256 ∷ get_or s 11 0 % 256 ∷ b ∷ []) line 0) 2 r → Tells (entry_at (held_in s size ++ b ∷ []) line 0) size r
-    tells-third e t = subst (λ n. Tells (entry_at (held_in s n ++ b ∷ []) line 0) n r) (sym e) (subst (λ u. Tells (entry_at (u ++ b ∷ []) line 0) 2 r) (sym held_two) t)
-
-  -- at the front of a store
-  pub fetched : (out : List ℕ) (size b : ℕ) {out₁ out₂ : List ℕ} → size < 25 → out₁ ≡ sets out 0 (held_in s size) → out₂ ≡ sets out₁ size (b ∷ []) → out₂ ≡ sets out 0 (held_in s size ++ b ∷ [])
-  fetched out size b k e f =
-      let l : size ≡ 0 + length (held_in s size) = omega (arith, length_held s size (omega arith) h) in
-      f ∙ ap (λ t. sets t size (b ∷ [])) e ∙ ap (λ i. sets (sets out 0 (held_in s size)) i (b ∷ [])) l ∙ sym (sets-append out 0 (held_in s size) (b ∷ []))
-
-  pub length_with : (size b : ℕ) → size < 25 → length (held_in s size ++ b ∷ []) ≡ size + 1
-  length_with size b k = omega (arith, length-append (held_in s size) (b ∷ []), length_held s size (omega arith) h)
-
-  pub front_with : (out : List ℕ) (size b : ℕ) {front : List ℕ} → size < 25 → length out ≡ 25 → front ≡ sets out 0 (held_in s size ++ b ∷ []) → take (size + 1) front ≡ held_in s size ++ b ∷ []
-  front_with out size b k l e = ap (take (size + 1)) e ∙ front-sets out (held_in s size ++ b ∷ []) (size + 1) (length_with size b k) (omega arith)
-
-  pub tells-any : (out : List ℕ) (size b line : ℕ) (r : Step) {front : List ℕ} {x : Entry} → size < 25 → length out ≡ 25 → front ≡ sets out 0 (held_in s size ++ b ∷ [])
-      → x ≡ entry_at (take (size + 1) front) line 0 → Tells x size r → Tells (entry_at (held_in s size ++ b ∷ []) line 0) size r
-  tells-any out size b line r k l e a t = subst (λ y. Tells y size r) (a ∙ ap (λ u. entry_at u line 0) (front_with out size b k l e)) t
-
-  module _ (v : List ℕ) (k : Kept) {s' : List ℕ} where
-    pub held_bare : k.size ≡ 0 → s' ≡ advanced s k.line k.placed k.start (k.bytes + 1) going v → s' ≡ held_on v k s
-    held_bare z e = e ∙ ap (λ n. advanced s k.line k.placed k.start (k.bytes + 1) going (held_in s n ++ v)) (sym z)
-
-    pub held_front : (out : List ℕ) {front : List ℕ} → length v ≡ 1 → k.size < 25 → length out ≡ 25 → front ≡ sets out 0 (held_in s k.size ++ get_or v 0 0 ∷ [])
-        → s' ≡ advanced s k.line k.placed k.start (k.bytes + 1) going (take (k.size + 1) front) → s' ≡ held_on v k s
-    held_front out n l o f e =
-        e ∙ ap (advanced s k.line k.placed k.start (k.bytes + 1) going) (front_with out k.size (get_or v 0 0) l o f ∙ ap (λ u. held_in s k.size ++ u) (sym (single v n)))
-
-pub few_in_front : (t : List ℕ) (n : ℕ) → length t ≡ 25 → n ≤ 25 → length (take n t) ≤ 25
-few_in_front t n h k = omega (arith, length-take-le n t (omega arith))
+-- the held bytes as a part of the state
+module _ (s : List ℕ) (h : 40 ≤ length s) (v : List ℕ) (k : Kept) {s' : List ℕ} where
+  pub held_front : (out : List ℕ) {front : List ℕ} → length v ≡ 1 → k.size < 25 → length out ≡ 25 → front ≡ sets out 0 (map low (take (10 + k.size - 10) (drop 10 s)) ++ get_or v 0 0 ∷ [])
+      → s' ≡ advanced s k.line k.placed k.start (k.bytes + 1) going (take (k.size + 1) front) → s' ≡ held_on v k s
+  held_front out n l o f e =
+      e ∙ ap (advanced s k.line k.placed k.start (k.bytes + 1) going)
+      (front_with (held_in s k.size) out k.size (get_or v 0 0) (length_held s k.size (omega arith) h) l o (f ∙ ap (λ u. sets out 0 (u ++ get_or v 0 0 ∷ [])) (part_held s k.size))
+      ∙ ap (λ u. held_in s k.size ++ u) (sym (single v n)))
 
 -- ---- which step it is
-module _ (v s : List ℕ) {k : Kept} {room : ℕ} (n : length v ≡ 1) (g : Easy k room) {r : Step} where
-  module _ (t : Tells (entry_at (held_in s k.size ++ get_or v 0 0 ∷ []) k.line 0) k.size r) where
-    on : (w : Step) → r ≡ w → Tells (entry_on v k s) k.size w
-    on w o = subst (λ u. Tells (entry_at (held_in s k.size ++ u) k.line 0) k.size w) (sym (single v n)) (subst (Tells (entry_at (held_in s k.size ++ get_or v 0 0 ∷ []) k.line 0) k.size) o t)
-
-    pub step_held : r ≡ Held → Holds v k s room
-    step_held o = record { one = n; easy = g; cut = on Held o }
-
-    pub step_whole : (e : Span) → r ≡ Whole e → e.instructions ≤ k.count - k.placed → Places v k s room e
-    step_whole e o f = record { one = n; easy = g; ends = on (Whole e) o; fits = f }
-
 module _ (v s : List ℕ) (k : Kept) (room : ℕ) (r : Step) (t : Steps v k s room r) where
   pub is_held : r ≡ Held → Holds v k s room
   is_held o = subst (Steps v k s room) o t
@@ -160,14 +118,14 @@ sound-easy s k room g o =
 
 -- ---- what the bytes come to
 module _ (s rs : List ℕ) (start bytes line placed count : ℕ) where
-  pub cut_walks : (t : List ℕ) → placed < count → Cut (entry_at t line 0) → walked t start bytes line placed count s rs ≡ left (told 0 0 placed false) (advanced s line placed start bytes going t) rs
+  pub cut_walks : (t : List ℕ) → placed < count → Cut (entry_at t line 0) → walked t start bytes line placed count s rs ≡ left (told placed false) (advanced s line placed start bytes going t) rs
   unfolding walked after shown_of
   cut_walks t h x =
       let z : count - (count - placed - 0) ≡ placed = omega arith in
       let y : start + 0 ≡ start = omega arith in
       rw (row_ends t line 0 (count - placed) (cut_short x.span) (omega arith, x.covers, x.lacks), z, y)
 
-  pub none_walks : placed ≤ count → walked [] start bytes line placed count s rs ≡ left (told 0 0 placed false) (advanced s line placed start bytes going []) rs
+  pub none_walks : placed ≤ count → walked [] start bytes line placed count s rs ≡ left (told placed false) (advanced s line placed start bytes going []) rs
   unfolding walked after shown_of
   none_walks h = on (eqb (count - placed) 0) refl where
     z : count - (count - placed - 0) ≡ placed
@@ -176,13 +134,13 @@ module _ (s rs : List ℕ) (start bytes line placed count : ℕ) where
     y : start + 0 ≡ start
     y = omega arith
 
-    on : (t : Bool) → eqb (count - placed) 0 ≡ t → walked [] start bytes line placed count s rs ≡ left (told 0 0 placed false) (advanced s line placed start bytes going []) rs
+    on : (t : Bool) → eqb (count - placed) 0 ≡ t → walked [] start bytes line placed count s rs ≡ left (told placed false) (advanced s line placed start bytes going []) rs
     on true e = rw (row_ends [] line 0 (count - placed) placed_all (eqb-true (count - placed) 0 e), z, y)
     on false e = rw (row_ends [] line 0 (count - placed) table_end (omega (arith, eqb-false (count - placed) 0 e), omega arith), z, y)
 
 pub ended_walks : (s rs : List ℕ) (start bytes line placed count : ℕ) (t : List ℕ) (e : Span) → entry_at t line 0 ≡ Covers e → e.missing ≡ false → e.next ≡ length t → placed + e.instructions ≤ count
     → walked t start bytes line placed count s rs
-    ≡ left (told 0 0 (placed + e.instructions) false) (advanced s e.line (placed + e.instructions) (start + e.next) bytes going []) (sets rs (4 * placed) (numbers (replicate e.instructions e.location)))
+    ≡ left (told (placed + e.instructions) false) (advanced s e.line (placed + e.instructions) (start + e.next) bytes going []) (sets rs (4 * placed) (numbers (replicate e.instructions e.location)))
 ended_walks s rs start bytes line placed count t e c m n f =
     let z : e.instructions + 0 ≡ e.instructions = omega arith in
     let d : drop e.next t ≡ [] = drop_of_length-le t {i = e.next} (omega arith) in
@@ -206,7 +164,7 @@ module _ (v s rs : List ℕ) {k : Kept} (h : 40 ≤ length s) (e : k ≡ kept_at
       let c = g.stands in
       rw (n, le-ltb most_bytes (k.bytes + 1) (omega arith), ne_eqb k.status 2 (λ y. omega arith), held_is)
 
-  enters : {y : Pieced} {s' rs' : List ℕ} → Easy k (length rs / 4) → length v ≡ 1 → (x : Span) → entry_on v k s ≡ Covers x → k.size < x.next → {z : Left}
+  enters : {y : Answer} {s' rs' : List ℕ} → Easy k (length rs / 4) → length v ≡ 1 → (x : Span) → entry_on v k s ≡ Covers x → k.size < x.next → {z : Left}
       → walked (held_in s k.size ++ v) k.start (k.bytes + 1) k.line k.placed k.count s rs ≡ z → Leaves z y s' rs' → Leaves (piece v s rs) y s' rs'
   enters g n x c l w m =
       let i = size_is g.short in
@@ -214,14 +172,14 @@ module _ (v s rs : List ℕ) {k : Kept} (h : 40 ≤ length s) (e : k ≡ kept_at
       let q = g.stands in
       piece_open v s rs h e refl (open_gate s k (length rs / 4) o (λ p. omega arith) (λ p. omega arith) g.enough) (leaves_same (walks g n ∙ w) m)
 
-  pub holds-piece : Holds v k s (length rs / 4) → {y : Pieced} {s' : List ℕ} → (y ≡ told 0 0 k.placed false) × (s' ≡ held_on v k s) → Leaves (piece v s rs) y s' rs
+  pub holds-piece : Holds v k s (length rs / 4) → {y : Pieced} {s' : List ℕ} → (y ≡ pieced k.placed false) × (s' ≡ held_on v k s) → Leaves (piece v s rs) (Ok y) s' rs
   holds-piece g l =
       let x = g.cut in
       let r = (entry_runs (held_in s k.size ++ v) k.line 0 x.span x.covers).late x.lacks in
       let i = size_is g.easy.short in
       enters g.easy g.one x.span x.covers (omega (arith, length-append (held_in s k.size) v, g.one))
       (cut_walks s rs k.start (k.bytes + 1) k.line k.placed k.count (held_in s k.size ++ v) g.easy.few x)
-      (record { answers = l.0; states = l.1; fills = refl })
+      (record { answers = ap Ok l.0; states = l.1; fills = refl })
 
   module _ (x : Span) (g : Places v k s (length rs / 4) x) where
     upto : x.next ≡ length (held_in s k.size ++ v)
@@ -241,7 +199,7 @@ module _ (v s rs : List ℕ) {k : Kept} (h : 40 ≤ length s) (e : k ≡ kept_at
           upto = omega (arith, upto, length-append (held_in s k.size) v, g.one, g.easy.from, g.easy.within, g.easy.small);
         }
 
-    pub places-piece : {y : Pieced} {s' rs' : List ℕ} → Leaves (placed_on x k s rs) y s' rs' → Leaves (piece v s rs) y s' rs'
+    pub places-piece : {y : Answer} {s' rs' : List ℕ} → Leaves (placed_on x k s rs) y s' rs' → Leaves (piece v s rs) y s' rs'
     places-piece l =
         enters g.easy g.one x g.ends.covers g.ends.last
         (ended_walks s rs k.start (k.bytes + 1) k.line k.placed k.count (held_in s k.size ++ v) x g.ends.covers g.ends.there upto places-fits.few) l

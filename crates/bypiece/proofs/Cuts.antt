@@ -1,38 +1,30 @@
 -- Code 14 while it lacks bytes: at most five bytes behind the first, of which fewer than four end a number, and a line so far from both ends of
 -- its range that no step of so few bytes leaves it.
-use mathlib.Core.Path.{◌≡◌, refl, sym, ap, subst, ◌∙◌}
+use mathlib.Core.Path.{◌≡◌, refl, ap, ◌∙◌}
 use mathlib.Core.Bool.{Bool, true, false, cond, ◌&&◌}
 use mathlib.Core.List.{List, [], ◌∷◌, ◌++◌, map}
 use Prim.Native.Nat.{ℕ, zero, suc, ◌+◌, ◌-◌, ◌*◌, ◌/◌, ◌%◌, ◌≤◌, ◌<◌, max}
 use native.Mathlib.Omega.{arith}
-use lib.ListN.{length, take, drop, get_or, length-append, length-drop, drop_of_length-le}
-use lib.Seq.{drop-cons, drop-drop, length-take-le}
+use lib.ListN.{length, drop, get_or, length-append, length-drop, drop_of_length-le}
+use lib.Seq.{drop-drop}
 use lib.Dec.{ltb, eqb}
-use borrow.Author.Tests.{lt-ltb, le-ltb, lt-leb, le-leb, ltb-true, eq-eqb, ne_eqb}
-use Rattle.lineentry.specs.declared.Varint.TheVariants.{Value}
-use Rattle.lineentry.specs.declared.Moved.TheVariants.{To}
-use Rattle.lineentry.specs.declared.Entry.{Entry}
+use borrow.Author.Tests.{lt-ltb, le-ltb, ltb-true, eq-eqb, ne_eqb}
+use Rattle.std.specs.Prelude.{Some}
 use Rattle.lineentry.specs.Line.{origin, as_signed, moved, shown}
-use Rattle.lineentry.specs.Varint.{more, digits, number, cut, varint_at, signed_of}
+use Rattle.lineentry.specs.Varint.{read_as, more, digits, number, cut, varint_at, signed_of}
 use Rattle.lineentry.specs.Entry.{location, long_columns, long_form, by_code, entry_at}
 use Rattle.rows.proofs.Local.{never, digits_le, cut-end, parses}
 use Rattle.rows.proofs.Extent.{signed_at_lem, entry-code}
 use Rattle.lostentry.proofs.Grows.{moved_to}
-use Rattle.piecestate.specs.State.{low, held_in}
+use Rattle.piecestate.specs.State.{low}
 use Rattle.piecestate.proofs.Stores.{length-map}
-use Rattle.bypiece.specs.Byte.{Cut, CutIf, lasts, held_behind}
+use Rattle.bypiece.specs.Byte.{Cut, CutIf, lasts}
 use Rattle.bypiece.proofs.Heads.{cut_of}
 
 -- ---- bytes that end a number
 pub lasts-append : (u v : List ℕ) → lasts (u ++ v) ≡ lasts u + lasts v
 lasts-append [] v = omega arith
 lasts-append (b ∷ u) v = let i = lasts-append u v in omega arith
-
-pub last_yes : (b : ℕ) → b % 128 < 64 → (◌≡◌ {A = ℕ} 1 (cond (more b) 0 1)) × (1 ≤ 1)
-last_yes b h = (rw (lt-leb 64 (b % 128) h), omega arith)
-
-pub last_no : (b : ℕ) → 64 ≤ b % 128 → (◌≡◌ {A = ℕ} 0 (cond (more b) 0 1)) × (0 ≤ 1)
-last_no b h = (rw (le-leb 64 (b % 128) h), omega arith)
 
 -- a number that is all there has one of them
 fewer : (u : List ℕ) → cut u ≡ false → lasts u ≡ lasts (drop (length (digits u)) u) + 1
@@ -65,7 +57,7 @@ record Next (s : List ℕ) (p : ℕ) : Type 0 where
   value : ℕ
   next : ℕ
   missing : Bool
-  is : varint_at s p ≡ Value value next missing
+  is : varint_at s p ≡ read_as value next missing
   small : value < 1073741824
   from : p ≤ next
   upto : next ≤ length s
@@ -111,8 +103,8 @@ unfolding as_signed
 signed-plain v h = rw (lt-ltb v origin (omega arith))
 
 long_by_lem : (u : List ℕ) (h line to end x y c d : ℕ) {q₁ q₂ q₃ q₄ : ℕ} {m₁ m₂ m₃ m₄ : Bool} → 240 ≤ h → h < 248
-    → varint_at (h ∷ u) 1 ≡ Value x q₁ m₁ → varint_at (h ∷ u) q₁ ≡ Value y q₂ m₂ → varint_at (h ∷ u) q₂ ≡ Value c q₃ m₃ → varint_at (h ∷ u) q₃ ≡ Value d q₄ m₄
-    → moved line (signed_of x) ≡ To to → moved to (as_signed y) ≡ To end → m₄ ≡ true → Cut (entry_at (h ∷ u) line 0)
+    → varint_at (h ∷ u) 1 ≡ read_as x q₁ m₁ → varint_at (h ∷ u) q₁ ≡ read_as y q₂ m₂ → varint_at (h ∷ u) q₂ ≡ read_as c q₃ m₃ → varint_at (h ∷ u) q₃ ≡ read_as d q₄ m₄
+    → moved line (signed_of x) ≡ Some to → moved to (as_signed y) ≡ Some end → m₄ ≡ true → Cut (entry_at (h ∷ u) line 0)
 unfolding by_code long_form long_columns
 long_by_lem u h line to end x y c d {q₄ = q₄} a b v₁ v₂ v₃ v₄ l k m =
     cut_of (h % 8 + 1) to (location (shown to) (max 1 c) (shown end) (max 1 d)) q₄
@@ -165,50 +157,20 @@ long-cut u h line a b l f g k = one (next_of (h ∷ u) 1 (omega arith) (omega ar
   one n₁ = two n₁ (next_of (h ∷ u) n₁.next n₁.upto (omega (arith, n₁.from)))
 
 -- ---- the held bytes
-module _ (s : List ℕ) (h : 40 ≤ length s) where
-  held_behind_lem : (size : ℕ) → 0 < size → held_in s size ≡ get_or s 10 0 % 256 ∷ held_behind s size
-  held_behind_lem zero k = elim k [ ]
-  held_behind_lem (suc n) k =
-      let z : suc n - 1 ≡ n = omega arith in
-      rw (drop-cons s 10 0 (omega arith), z)
-
-  length-behind : (size : ℕ) → 0 < size → size ≤ 25 → length (held_behind s size) + 1 ≡ size
-  length-behind size k l = omega (arith, length-map low (take (size - 1) (drop 11 s)), length-take-le (size - 1) (drop 11 s) (omega (arith, length-drop 11 s)))
-
-  pub cut_held : (size b line : ℕ) {n m : ℕ} → 0 < size → size ≤ 5 → 240 ≤ get_or s 10 0 % 256 → get_or s 10 0 % 256 < 248 → 536870912 ≤ line → line < 2684354560
-      → n ≡ lasts (held_behind s size) → m ≡ cond (more b) 0 1 → CutIf (entry_at (held_in s size ++ b ∷ []) line 0) (ltb (n + m) 4)
-  cut_held size b line {n} {m} k l x y f g e d =
-      record {
-        told = λ t.
-            let i = length-behind size k (omega arith) in
-            let j = length-append (held_behind s size) (b ∷ []) in
-            let o = lasts-append (held_behind s size) (b ∷ []) in
-            subst (λ u. Cut (entry_at (u ++ b ∷ []) line 0)) (sym (held_behind_lem size k))
-            (long-cut (held_behind s size ++ b ∷ []) (get_or s 10 0 % 256) line x y (omega arith) f g (omega (arith, ltb-true (n + m) 4 t)));
-      }
-
-pub cut_not : (x : Entry) → CutIf x false
-cut_not x = record { told = λ z. never (sym z) }
+pub cut_held : (h : List ℕ) (b line : ℕ) {n m : ℕ} → 0 < length h → length h ≤ 5 → 240 ≤ get_or h 0 0 % 256 → get_or h 0 0 % 256 < 248 → 536870912 ≤ line → line < 2684354560
+    → n ≡ lasts (map low (drop 1 h)) → m ≡ cond (more b) 0 1 → CutIf (entry_at (map low h ++ b ∷ []) line 0) (ltb (n + m) 4)
+cut_held [] b line k l x y f g e d = absurd (omega (arith, k))
+cut_held (a ∷ h) b line {n} {m} k l x y f g e d =
+    record {
+      told = λ t.
+          let i = length-map low h in
+          let j = length-append (map low h) (b ∷ []) in
+          let o = lasts-append (map low h) (b ∷ []) in
+          long-cut (map low h ++ b ∷ []) (a % 256) line x y (omega arith) f g (omega (arith, ltb-true (n + m) 4 t));
+    }
 
 -- ---- the loop that counts them
-pub record Counting (s : List ℕ) (size n i : ℕ) : Type 0 where
-  pub few : n < i
-  pub upto : i ≤ size + 1
-  pub comes : lasts (held_behind s size) ≡ n + lasts (map low (take (size - i) (drop (10 + i) s)))
-
-pub counting_none : (s : List ℕ) (size : ℕ) → Counting s size 0 1
-counting_none s size = record { few = omega arith; upto = omega arith; comes = omega arith }
-
-pub counting_more : (s : List ℕ) (size n i : ℕ) {m : ℕ} → Counting s size n i → i < size → 10 + i < length s → m ≡ cond (more (get_or s (10 + i) 0 % 256)) 0 1 → m ≤ 1 → Counting s size (n + m) (i + 1)
-counting_more s size n i {m} g h l e o =
-    let a : size - i ≡ suc (size - (i + 1)) = omega arith in
-    let b : suc (10 + i) ≡ 10 + (i + 1) = omega arith in
-    let c : lasts (map low (take (size - i) (drop (10 + i) s))) ≡ cond (more (get_or s (10 + i) 0 % 256)) 0 1 + lasts (map low (take (size - (i + 1)) (drop (10 + (i + 1)) s))) =
-    rw (a, drop-cons s (10 + i) 0 l, b) in
-    record { few = omega (arith, g.few); upto = omega arith; comes = omega (arith, g.comes) }
-
-pub counting_all : (s : List ℕ) (size n i : ℕ) → Counting s size n i → size ≤ i → (n ≡ lasts (held_behind s size)) × (n ≤ size)
-counting_all s size n i g h =
-    let a : size - i ≡ 0 = omega arith in
-    let c : lasts (map low (take (size - i) (drop (10 + i) s))) ≡ 0 = rw a in
-    (omega (arith, g.comes), omega (arith, g.few, g.upto))
+pub record Counting (h : List ℕ) (n i : ℕ) : Type 0 where
+  pub few : n ≤ i
+  pub upto : i ≤ length h
+  pub comes : lasts (map low h) ≡ n + lasts (map low (drop i h))

@@ -7,9 +7,9 @@ use native.Mathlib.Omega.{arith}
 use lib.Dec.{eqb}
 use lib.Bits.{bit_or}
 use borrow.Author.Tests.{lt-ltb, le-ltb, eq-eqb, ne_eqb, eqb-false}
+use Rattle.std.specs.Prelude.{Some}
 use Rattle.lineentry.specs.declared.Location.{Location}
 use Rattle.lineentry.specs.declared.Entry.{Entry}
-use Rattle.lineentry.specs.declared.Moved.TheVariants.{To}
 use Rattle.lineentry.specs.Line.{origin, as_signed, moved, shown}
 use Rattle.lineentry.specs.Varint.{signed_at}
 use Rattle.lineentry.specs.Entry.{location, covers, at_line, short_column, short_form, one_line, no_columns, long_columns, long_form, by_code, entry_of, entry_at}
@@ -35,7 +35,7 @@ module _ (h line : ℕ) (a : 128 ≤ h) (b : h < 208) where
   short-ends d e = record { covers = rw (le-ltb h 128 a, lt-ltb (h / 8 % 16) 10 (omega arith), e); there = refl; last = omega arith }
 
 -- ---- codes 10 to 12
-module _ (h line to : ℕ) (a : 208 ≤ h) (b : h < 232) (m : moved line (origin + (h / 8 % 16 - 10)) ≡ To to) where
+module _ (h line to : ℕ) (a : 208 ≤ h) (b : h < 232) (m : moved line (origin + (h / 8 % 16 - 10)) ≡ Some to) where
   pub line-cut : Cut (entry_at (h ∷ []) line 0)
   unfolding entry_of by_code one_line
   line-cut =
@@ -53,8 +53,8 @@ module _ (h line to : ℕ) (a : 208 ≤ h) (b : h < 232) (m : moved line (origin
   line-ends c d = record { covers = rw (le-ltb h 128 (omega arith), le-ltb (h / 8 % 16) 10 (omega arith), lt-ltb (h / 8 % 16) 13 (omega arith), m); there = refl; last = omega arith }
 
 -- ---- codes 13 and 14, of which every number is missing: no line is passed
-stays : (line : ℕ) → line < 4294967296 → moved line origin ≡ To line
-stays line h = let z : line + origin - origin ≡ line = omega arith in moved_to line origin (omega arith) (omega arith) ∙ ap To z
+stays : (line : ℕ) → line < 4294967296 → moved line origin ≡ Some line
+stays line h = let z : line + origin - origin ≡ line = omega arith in moved_to line origin (omega arith) (omega arith) ∙ ap Some z
 
 pub number_cut : (h line : ℕ) → 232 ≤ h → h < 248 → line < 4294967296 → Cut (entry_at (h ∷ []) line 0)
 unfolding entry_of by_code no_columns long_form long_columns signed_at as_signed

@@ -1,6 +1,6 @@
 -- No export and no promise rests on this page.
 -- A piece of one byte: what one reading of the held bytes and of it says, which calls it is made for, and what they then leave.
-use Rattle.std.specs.Prelude.{◌≡◌, Bool, true, false, cond, List, [], ◌∷◌, ◌++◌, map, ℕ, ◌+◌, ◌-◌, ◌*◌, ◌%◌, ◌≤◌, ◌<◌, length, replicate, take, drop}
+use Rattle.std.specs.Prelude.{◌≡◌, Bool, true, false, cond, List, [], ◌∷◌, ◌++◌, ℕ, ◌+◌, ◌-◌, ◌*◌, ◌%◌, ◌≤◌, ◌<◌, length, replicate}
 use Rattle.std.proofs.lemmas.List.Edits.{sets}
 use Rattle.refusals.specs.Limits.{most_bytes}
 use Rattle.lineentry.specs.declared.Span.{Span}
@@ -11,7 +11,7 @@ use Rattle.lineentry.specs.Varint.{more}
 use Rattle.lineentry.specs.Entry.{location, entry_at}
 use Rattle.linetable.specs.Answer.{numbers}
 use Rattle.piecestate.specs.declared.Kept.{Kept}
-use Rattle.piecestate.specs.State.{going, low, held_in, advanced}
+use Rattle.piecestate.specs.State.{going, held_in, advanced}
 use Rattle.piecestate.specs.Answers.{Left, left, told}
 use Rattle.bypiece.specs.declared.onebyte.Step.{Step}
 use Rattle.bypiece.specs.declared.onebyte.Step.TheVariants.{Held, Whole, Other}
@@ -26,13 +26,10 @@ pub record Cut (x : Entry) : Type 0 where
 pub record CutIf (x : Entry) (r : Bool) : Type 0 where
   pub told : r ≡ true → Cut x
 
--- how many bytes end a number, and the held bytes behind the first
+-- how many bytes end a number
 abbrev pub lasts : List ℕ → ℕ
 lasts [] = 0
 lasts (b ∷ s) = cond (more b) 0 1 + lasts s
-
-abbrev pub held_behind : List ℕ → ℕ → List ℕ
-held_behind s size = map low (take (size - 1) (drop 11 s))
 
 -- it is complete, and not within so many bytes
 pub record Ended (x : Entry) (size : ℕ) (e : Span) : Type 0 where
@@ -98,6 +95,6 @@ pub record Fits (e : Span) (k : Kept) (s rs : List ℕ) : Type 0 where
 
 abbrev pub placed_on : Span → Kept → List ℕ → List ℕ → Left
 placed_on e k s rs =
-    left (told 0 0 (k.placed + e.instructions) false)
+    left (told (k.placed + e.instructions) false)
     (advanced s e.line (k.placed + e.instructions) (k.start + e.next) (k.bytes + 1) going [])
     (sets rs (4 * k.placed) (numbers (replicate e.instructions e.location)))

@@ -2,19 +2,20 @@
 // ended". Between them a state of forty numbers, lent by the caller, keeps where the reading stands.
 #![tactic(auto)]
 
-ghost use Rattle.std.specs.Prelude.{◌≡◌, false, [], ◌∷◌, ◌-◌, ◌≤◌, min, length};
+ghost use Rattle.std.specs.Prelude.{◌≡◌, [], ◌∷◌, ◌-◌, ◌≤◌, length, Ok};
 ghost use Rattle.std.proofs.lemmas.List.Edits.{sets};
 ghost use Rattle.linetable.specs.Answer.{first_line_of};
 ghost use Rattle.lineentry.specs.declared.Entry.TheVariants.{Covers, Stop};
 ghost use Rattle.lineentry.specs.Entry.{entry_at};
 ghost use Rattle.piecestate.specs.State.{ended, kept_at, held_at};
-ghost use Rattle.piecestate.specs.Answers.{told, Leaves};
+ghost use Rattle.piecestate.specs.Answers.{pieced, Leaves};
 ghost use Rattle.pieces.specs.Facts.{Entered};
 ghost use Rattle.bypiece.specs.Facts.{Ending};
 ghost use Rattle.pieces.specs.Calls.{piece, by_held, end_by, end, fresh, begin};
 
 use lineentry::{Entry, Span};
-use piecestate::{Gate, Kept, Pieced};
+use piecestate::{Gate, HELD_FROM, Kept, Pieced, Standing};
+use refusals::{Fault, Refusal};
 
 pub mod onebyte;
 
@@ -29,14 +30,19 @@ fn freshen(state: &mut [u32], first: u32, count: u32)
     state[3] = 0;
     state[4] = 0;
     state[5] = 0;
-    state[6] = piecestate::GOING;
+    state[6] = Standing::Going as u32;
     state[7] = 0;
     state[8] = 0;
     state[9] = 0;
 }
 
 // Begins: the first line and the count are fixed, and the records are zero.
-pub fn locate_begin(first_line: i32, count: u32, state: &mut [u32], records: &mut [u32]) -> Pieced
+pub fn locate_begin(
+    first_line: i32,
+    count: u32,
+    state: &mut [u32],
+    records: &mut [u32],
+) -> Result<Pieced, Fault>
     ensures { Leaves (begin (first_line_of first_line) count state.old records.old) result state.new records.new }
 {
     if state.len() < piecestate::STATE_NUMBERS {
@@ -49,25 +55,29 @@ pub fn locate_begin(first_line: i32, count: u32, state: &mut [u32], records: &mu
     );
     let room = records.len() / 4;
     if room < count as usize {
-        return piecestate::stick(state, records, refusals::NO_ROOM, room as u32);
+        return piecestate::stick(state, records, Refusal::NoRoom.at(room as u32));
     }
-    piecestate::refuse(records, 0, 0)
+    clearing::clear_words(records);
+    Ok(Pieced {
+        from_entries: 0,
+        whole: false,
+    })
 }
 
 // A piece, by what is looked at first.
-fn any_piece(bytes: &[u8], k: Kept, state: &mut [u32], records: &mut [u32]) -> Pieced
+fn any_piece(bytes: &[u8], k: Kept, state: &mut [u32], records: &mut [u32]) -> Result<Pieced, Fault>
     requires { (40 ≤ length state.old) × (k ≡ kept_at state.old) }
     ensures { Leaves (piece bytes.now state.old records.old) result state.new records.new }
 {
     match piecestate::look(state, k, records.len() / 4) {
-        Gate::Shut { number, place } => piecestate::refuse(records, number, place),
-        Gate::Stuck { number, place } => piecestate::stick(state, records, number, place),
+        Gate::Shut(why) => piecestate::refuse(records, why),
+        Gate::Stuck(why) => piecestate::stick(state, records, why),
         Gate::Open => pieces::take_piece(bytes, k, state, records),
     }
 }
 
 // Takes a piece.
-pub fn locate_piece(bytes: &[u8], state: &mut [u32], records: &mut [u32]) -> Pieced
+pub fn locate_piece(bytes: &[u8], state: &mut [u32], records: &mut [u32]) -> Result<Pieced, Fault>
     ensures { Leaves (piece bytes.now state.old records.old) result state.new records.new }
 {
     if state.len() < piecestate::STATE_NUMBERS {
@@ -77,21 +87,13 @@ pub fn locate_piece(bytes: &[u8], state: &mut [u32], records: &mut [u32]) -> Pie
     onebyte::take(bytes, k, state, records)
 }
 
-fn at_most(n: usize, most: usize) -> usize
-    ensures { result ≡ min n most }
-{
-    if n <= most { n } else { most }
-}
-
 // The reading has ended, with so many instructions from entries.
 fn finish(state: &mut [u32], entries: u32, whole: bool) -> Pieced
     requires { 40 ≤ length state.old }
-    ensures { (result ≡ told 0 0 entries whole) × (state.new ≡ sets state.old 6 (ended ∷ [])) }
+    ensures { (result ≡ pieced entries whole) × (state.new ≡ sets state.old 6 (ended ∷ [])) }
 {
-    state[6] = piecestate::ENDED;
+    state[6] = Standing::Ended as u32;
     Pieced {
-        refusal: 0,
-        place: 0,
         from_entries: entries,
         whole,
     }
@@ -100,7 +102,7 @@ fn finish(state: &mut [u32], entries: u32, whole: bool) -> Pieced
 // The end where no entry is left: the instructions left take the first line.
 fn end_bare(k: Kept, state: &mut [u32], records: &mut [u32]) -> Pieced
     requires { Ending k state.old records.old }
-    ensures { Leaves (by_held state.old records.old k (k.count - k.placed) Stop) result state.new records.new }
+    ensures { Leaves (by_held state.old records.old k (k.count - k.placed) Stop) (Ok result) state.new records.new }
 {
     let placed = k.placed as usize;
     let left = (k.count - k.placed) as usize;
@@ -111,11 +113,11 @@ fn end_bare(k: Kept, state: &mut [u32], records: &mut [u32]) -> Pieced
 // The end behind an entry of which bytes are missing: it places what it places with zeros, then the first line.
 fn end_cut(span: Span, k: Kept, state: &mut [u32], records: &mut [u32]) -> Pieced
     requires { Ending k state.old records.old }
-    ensures { Leaves (by_held state.old records.old k (k.count - k.placed) (Covers span)) result state.new records.new }
+    ensures { Leaves (by_held state.old records.old k (k.count - k.placed) (Covers span)) (Ok result) state.new records.new }
 {
     let placed = k.placed as usize;
     let left = (k.count - k.placed) as usize;
-    let n = at_most(span.instructions, left);
+    let n = span.instructions.min(left);
     linetable::fill(records, 4 * placed, n, span.location);
     linetable::fill(
         records,
@@ -127,37 +129,37 @@ fn end_cut(span: Span, k: Kept, state: &mut [u32], records: &mut [u32]) -> Piece
 }
 
 // The end by the entry that the held bytes begin, "missing bytes become 0 only there".
-fn end_held(k: Kept, state: &mut [u32], records: &mut [u32]) -> Pieced
+fn end_held(k: Kept, state: &mut [u32], records: &mut [u32]) -> Result<Pieced, Fault>
     requires { Ending k state.old records.old × (k.size ≤ 25) }
     ensures { Leaves (by_held state.old records.old k (k.count - k.placed) (entry_at (held_at state.old) k.line 0))
         result state.new records.new }
 {
     let size = k.size as usize;
     let mut held = [0u8; 25];
-    piecestate::fetch(&mut held, state, size);
+    piecestate::fetch(&mut held, &state[HELD_FROM..HELD_FROM + size]);
     match lineentry::read_entry(&held[..size], k.line, 0) {
-        Entry::OutOfRange => piecestate::stick(state, records, refusals::NUMBER_RANGE, k.start),
-        Entry::Stop => end_bare(k, state, records),
-        Entry::Covers(span) => end_cut(span, k, state, records),
+        Entry::OutOfRange => { piecestate::stick(state, records, Refusal::NumberRange.at(k.start)) }
+        Entry::Stop => Ok(end_bare(k, state, records)),
+        Entry::Covers(span) => Ok(end_cut(span, k, state, records)),
     }
 }
 
 // The end, once nothing is refused before it.
-fn take_end(k: Kept, state: &mut [u32], records: &mut [u32]) -> Pieced
+fn take_end(k: Kept, state: &mut [u32], records: &mut [u32]) -> Result<Pieced, Fault>
     requires { Entered k state.old records.old }
     ensures { Leaves (end_by state.old records.old k) result state.new records.new }
 {
-    if k.status == piecestate::OVER {
-        return end_bare(k, state, records);
+    if k.status == Standing::Over as u32 {
+        return Ok(end_bare(k, state, records));
     }
     if k.placed == k.count {
-        return finish(state, k.placed, k.start == k.bytes);
+        return Ok(finish(state, k.placed, k.start == k.bytes));
     }
     end_held(k, state, records)
 }
 
 // Ends.
-pub fn locate_end(state: &mut [u32], records: &mut [u32]) -> Pieced
+pub fn locate_end(state: &mut [u32], records: &mut [u32]) -> Result<Pieced, Fault>
     ensures { Leaves (end state.old records.old) result state.new records.new }
 {
     if state.len() < piecestate::STATE_NUMBERS {
@@ -165,8 +167,8 @@ pub fn locate_end(state: &mut [u32], records: &mut [u32]) -> Pieced
     }
     let k = piecestate::kept_at(state);
     match piecestate::look(state, k, records.len() / 4) {
-        Gate::Shut { number, place } => piecestate::refuse(records, number, place),
-        Gate::Stuck { number, place } => piecestate::stick(state, records, number, place),
+        Gate::Shut(why) => piecestate::refuse(records, why),
+        Gate::Stuck(why) => piecestate::stick(state, records, why),
         Gate::Open => take_end(k, state, records),
     }
 }

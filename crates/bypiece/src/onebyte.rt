@@ -1,23 +1,26 @@
 // A piece of one byte, as most are where a table comes byte by byte. One reading of the held bytes and of it says both that the state is one that
 // a call leaves and what the call comes to: the byte is held, or an entry is complete. Whatever else a call may find, `any_piece` finds.
-ghost use Rattle.std.specs.Prelude.{◌≡◌, false, cond, [], ◌∷◌, ◌++◌, ◌+◌, ◌-◌, ◌/◌, ◌%◌, ◌≤◌, ◌<◌, length, get_or};
+ghost use Rattle.std.specs.Prelude.{◌≡◌, false, cond, [], ◌∷◌, ◌++◌, map, ◌+◌, ◌-◌, ◌/◌, ◌%◌, ◌≤◌, ◌<◌, length, Ok};
 ghost use Rattle.std.proofs.lemmas.List.Edits.{sets};
 ghost use Rattle.refusals.specs.Limits.{most_bytes};
 ghost use Rattle.lineentry.specs.Line.{origin, moved};
 ghost use Rattle.lineentry.specs.Varint.{more};
 ghost use Rattle.lineentry.specs.Entry.{entry_at};
-ghost use Rattle.piecestate.specs.State.{kept_at, held_in};
-ghost use Rattle.piecestate.specs.Answers.{told, Leaves};
+ghost use Rattle.piecestate.specs.State.{kept_at, low};
+ghost use Rattle.piecestate.specs.Answers.{pieced, Leaves};
 ghost use Rattle.pieces.specs.Calls.{piece};
-ghost use Rattle.bypiece.specs.Byte.{Tells, Ended, line_span, CutIf, lasts, held_behind, Eases, Steps, held_on, Fits, placed_on};
+ghost use Rattle.bypiece.specs.Byte.{Tells, Ended, line_span, CutIf, lasts, Eases, Steps, held_on, Fits, placed_on};
 
-use lineentry::{Entry, Location, Moved, Span};
-use piecestate::{Kept, Pieced};
+use lineentry::{Entry, Location, Span};
+use pieces::Reached;
+use piecestate::{HELD_FROM, Kept, Pieced, Standing};
+use refusals::Fault;
 
 // 0 as a step is kept.
 const ORIGIN: u32 = 0x8000_0000;
 
 // The byte is held, or the entry is complete with it; or that is not told here.
+// Three answers, so no Option.
 #[derive(Clone, Copy)]
 pub enum Step {
     Held,
@@ -26,7 +29,7 @@ pub enum Step {
 }
 
 // Codes 10 to 12 step so many lines down.
-fn line_of(head: u32, line: u32) -> Moved
+fn line_of(head: u32, line: u32) -> Option<u32>
     requires { (208 ≤ head) × (head < 232) }
     ensures { result ≡ moved line (origin + (head / 8 % 16 - 10)) }
 {
@@ -107,8 +110,8 @@ fn step_first(byte: u8, line: u32) -> Step
         return Step::Held;
     }
     match line_of(head, line) {
-        Moved::Outside => Step::Other,
-        Moved::To(_) => Step::Held,
+        None => Step::Other,
+        Some(_) => Step::Held,
     }
 }
 
@@ -124,8 +127,8 @@ fn step_second(head: u32, byte: u8, line: u32) -> Step
         return Step::Whole(short_span(head, byte, line));
     }
     match line_of(head, line) {
-        Moved::Outside => Step::Other,
-        Moved::To(_) => Step::Held,
+        None => Step::Other,
+        Some(_) => Step::Held,
     }
 }
 
@@ -138,18 +141,18 @@ fn step_third(head: u32, second: u32, byte: u8, line: u32) -> Step
         return Step::Other;
     }
     match line_of(head, line) {
-        Moved::Outside => Step::Other,
-        Moved::To(to) => Step::Whole(line_span(head, second, byte, to)),
+        None => Step::Other,
+        Some(to) => Step::Whole(line_span(head, second, byte, to)),
     }
 }
 
 // The held bytes and the byte behind them.
-fn fetch_with(out: &mut [u8], state: &[u32], size: usize, byte: u8)
-    requires { (40 ≤ length state.now) × (size < 25) × (size < length out.old) }
-    ensures { out.new ≡ sets out.old 0 (held_in state.now size ++ byte ∷ []) }
+fn fetch_with(out: &mut [u8], held: &[u32], byte: u8)
+    requires { length held.now < length out.old }
+    ensures { out.new ≡ sets out.old 0 (map low held.now ++ byte ∷ []) }
 {
-    piecestate::fetch(out, state, size);
-    out[size] = byte;
+    piecestate::fetch(out, held);
+    out[held.len()] = byte;
 }
 
 // What an entry that was read says.
@@ -172,12 +175,13 @@ fn step_read(entry: Entry, size: usize) -> Step
 }
 
 // A byte of any entry.
-fn step_any(byte: u8, size: usize, line: u32, state: &[u32]) -> Step
-    requires { (40 ≤ length state.now) × (size < 25) }
-    ensures { Tells (entry_at (held_in state.now size ++ byte ∷ []) line 0) size result }
+fn step_any(byte: u8, held: &[u32], line: u32) -> Step
+    requires { length held.now < 25 }
+    ensures { Tells (entry_at (map low held.now ++ byte ∷ []) line 0) (length held.now) result }
 {
+    let size = held.len();
     let mut front = [0u8; 25];
-    fetch_with(&mut front, state, size, byte);
+    fetch_with(&mut front, held, byte);
     step_read(lineentry::read_entry(&front[..size + 1], line, 0), size)
 }
 
@@ -188,32 +192,31 @@ fn last_of(byte: u8) -> u32
     if byte % 128 < 64 { 1 } else { 0 }
 }
 
-// How many of the held bytes behind the first end a number.
-fn lasts_held(state: &[u32], size: usize) -> u32
-    requires { (40 ≤ length state.now) × (size ≤ 5) }
-    ensures { (result ≡ lasts (held_behind state.now size)) × (result ≤ size) }
+// How many held bytes end a number.
+fn lasts_held(held: &[u32]) -> u32
+    requires { length held.now ≤ 5 }
+    ensures { (result ≡ lasts (map low held.now)) × (result ≤ length held.now) }
 {
     let mut n = 0;
-    let mut i = 1;
-    while i < size {
-        n += last_of((state[10 + i] % 256) as u8);
-        i += 1;
+    for number in held {
+        n += last_of((*number % 256) as u8);
     }
     n
 }
 
 // Code 14 with few bytes, of which fewer than four end a number, at a line that no step of so few bytes takes out of range: bytes are missing.
-fn is_cut(byte: u8, head: u32, size: u32, line: u32, state: &[u32]) -> bool
-    requires { (40 ≤ length state.now) × (0 < size) × (head ≡ get_or state.now 10 0 % 256) }
-    ensures { CutIf (entry_at (held_in state.now size ++ byte ∷ []) line 0) result }
+fn is_cut(byte: u8, held: &[u32], line: u32) -> bool
+    requires { 0 < length held.now }
+    ensures { CutIf (entry_at (map low held.now ++ byte ∷ []) line 0) result }
 {
+    let head = held[0] % 256;
     if head < 240 {
         return false;
     }
     if 248 <= head {
         return false;
     }
-    if 5 < size {
+    if 5 < held.len() {
         return false;
     }
     if line < 0x2000_0000 {
@@ -222,38 +225,40 @@ fn is_cut(byte: u8, head: u32, size: u32, line: u32, state: &[u32]) -> bool
     if 0xA000_0000 <= line {
         return false;
     }
-    lasts_held(state, size as usize) + last_of(byte) < 4
+    lasts_held(&held[1..]) + last_of(byte) < 4
 }
 
 // By the first byte of the entry, and by which of its bytes comes.
-fn step_of(byte: u8, size: u32, line: u32, state: &[u32]) -> Step
-    requires { (40 ≤ length state.now) × (size < 25) }
-    ensures { Tells (entry_at (held_in state.now size ++ byte ∷ []) line 0) size result }
+fn step_of(byte: u8, held: &[u32], line: u32) -> Step
+    requires { length held.now < 25 }
+    ensures { Tells (entry_at (map low held.now ++ byte ∷ []) line 0) (length held.now) result }
 {
+    let size = held.len();
     if size == 0 {
         return step_first(byte, line);
     }
-    let head = state[10] % 256;
+    let head = held[0] % 256;
     if 232 <= head {
-        if is_cut(byte, head, size, line, state) {
+        if is_cut(byte, held, line) {
             return Step::Held;
         }
-        return step_any(byte, size as usize, line, state);
+        return step_any(byte, held, line);
     }
     if size == 1 {
         return step_second(head, byte, line);
     }
     if size == 2 {
-        return step_third(head, state[11] % 256, byte, line);
+        return step_third(head, held[1] % 256, byte, line);
     }
     Step::Other
 }
 
 // The numbers are those of a reading that goes on with instructions to place, there is room for their records, and a byte more is not too many.
+// Early returns, as in `is_cut`: a chain of `&&` loses at its joins which test failed, and the reading of one byte is measured.
 fn is_easy(k: Kept, room: usize) -> bool
     ensures { Eases k room result }
 {
-    if k.status != piecestate::GOING {
+    if k.status != Standing::Going as u32 {
         return false;
     }
     if k.count <= k.placed {
@@ -285,7 +290,8 @@ fn one_step(bytes: &[u8], k: Kept, state: &[u32], room: usize) -> Step
     if !is_easy(k, room) {
         return Step::Other;
     }
-    match step_of(bytes[0], k.size, k.line, state) {
+    let held = &state[HELD_FROM..HELD_FROM + k.size as usize];
+    match step_of(bytes[0], held, k.line) {
         Step::Other => Step::Other,
         Step::Held => Step::Held,
         Step::Whole(span) => {
@@ -300,59 +306,50 @@ fn one_step(bytes: &[u8], k: Kept, state: &[u32], room: usize) -> Step
 // Holds a byte more.
 fn hold_more(bytes: &[u8], k: Kept, state: &mut [u32]) -> Pieced
     requires { (40 ≤ length state.old) × (length bytes.now ≡ 1) × (k.size < 25) × (k.bytes < most_bytes) }
-    ensures { (result ≡ told 0 0 k.placed false)
+    ensures { (result ≡ pieced k.placed false)
         × (state.new ≡ held_on bytes.now k state.old) }
 {
+    let to = Reached {
+        line: k.line,
+        placed: k.placed,
+        at: k.start,
+        bytes: k.bytes + 1,
+        status: Standing::Going as u32,
+    };
     if k.size == 0 {
-        return pieces::go_on(
-            state,
-            k.line,
-            k.placed,
-            k.start,
-            k.bytes + 1,
-            piecestate::GOING,
-            bytes,
-        );
+        return pieces::go_on(state, to, bytes);
     }
     let size = k.size as usize;
     let mut front = [0u8; 25];
-    fetch_with(&mut front, state, size, bytes[0]);
-    pieces::go_on(
-        state,
-        k.line,
-        k.placed,
-        k.start,
-        k.bytes + 1,
-        piecestate::GOING,
-        &front[..size + 1],
-    )
+    fetch_with(&mut front, &state[HELD_FROM..HELD_FROM + size], bytes[0]);
+    pieces::go_on(state, to, &front[..size + 1])
 }
 
 // Places an entry that is complete, and holds nothing.
 fn place(span: Span, k: Kept, state: &mut [u32], records: &mut [u32]) -> Pieced
     requires { Fits span k state.old records.old }
-    ensures { Leaves (placed_on span k state.old records.old) result state.new records.new }
+    ensures { Leaves (placed_on span k state.old records.old) (Ok result) state.new records.new }
 {
     let n = span.instructions;
     linetable::fill(records, 4 * (k.placed as usize), n, span.location);
-    pieces::go_bare(
-        state,
-        span.line,
-        k.placed + n as u32,
-        k.start + span.next as u32,
-        k.bytes + 1,
-        piecestate::GOING,
-    )
+    let to = Reached {
+        line: span.line,
+        placed: k.placed + n as u32,
+        at: k.start + span.next as u32,
+        bytes: k.bytes + 1,
+        status: Standing::Going as u32,
+    };
+    pieces::go_bare(state, to)
 }
 
 // Any piece: one byte by its step, and whatever else by what is looked at first.
-pub fn take(bytes: &[u8], k: Kept, state: &mut [u32], records: &mut [u32]) -> Pieced
+pub fn take(bytes: &[u8], k: Kept, state: &mut [u32], records: &mut [u32]) -> Result<Pieced, Fault>
     requires { (40 ≤ length state.old) × (k ≡ kept_at state.old) }
     ensures { Leaves (piece bytes.now state.old records.old) result state.new records.new }
 {
     match one_step(bytes, k, state, records.len() / 4) {
         Step::Other => crate::any_piece(bytes, k, state, records),
-        Step::Held => hold_more(bytes, k, state),
-        Step::Whole(span) => place(span, k, state, records),
+        Step::Held => Ok(hold_more(bytes, k, state)),
+        Step::Whole(span) => Ok(place(span, k, state, records)),
     }
 }

@@ -4,7 +4,8 @@ use Prim.Native.Nat.{ℕ, zero, suc, ◌+◌, ◌-◌, ◌≤◌}
 use mathlib.Core.List.{List, []}
 use lib.ListN.{length}
 use Rattle.clearing.specs.Lent.{zeros}
-use Rattle.refusals.specs.Numbers.{accepted}
+use Rattle.std.specs.Prelude.{Result, Ok}
+use Rattle.refusals.specs.declared.Fault.{Fault}
 use Rattle.grammar.specs.State.{node_capacity, entry_capacity}
 use Rattle.keepvisit.specs.Visit.{Stores, stores, visited, chains, visit_from}
 use Rattle.keepmove.specs.Moved.{run, nodes_after, entries_after}
@@ -21,15 +22,14 @@ length_run at zero = refl
 length_run at (suc more) = ap suc (length_run (at + 1) more)
 
 -- the contents of a move, by its answer's numbers and the two stores
-abbrev holding : (slots : List ℕ) → (a : declared.Kept) → (nodes entries : List ℕ) → Held
+abbrev holding : (slots : List ℕ) → (a : Result declared.Kept Fault) → (nodes entries : List ℕ) → Held
 holding slots a nodes entries = record { answer = a; nodes = nodes; entries = entries; slots = zeros (length slots) }
 
 -- counts and the room freed
-abbrev counting : (kept moved long_nodes long_entries : ℕ) → declared.Kept
+abbrev counting : (kept moved long_nodes long_entries : ℕ) → Result declared.Kept Fault
 counting kept moved long_nodes long_entries =
+    Ok
     record {
-      refusal = accepted;
-      place = 0;
       nodes = kept;
       entries = moved;
       freenodes = node_capacity long_nodes - kept;

@@ -8,7 +8,7 @@ use mathlib.Core.List.{List, []}
 use lib.ListN.{length}
 use lib.Dec.{ltb}
 use Rattle.refusals.specs.Limits.{most_nesting}
-use Rattle.refusals.specs.Numbers.{no_room}
+use Rattle.refusals.specs.declared.Refusal.TheVariants.{NoRoom}
 use Rattle.grammar.specs.State.{Node, node_at}
 use Rattle.grammar.specs.Record.{tables_of}
 use Rattle.meaning.specs.Meaning.{value_of}
@@ -31,7 +31,7 @@ pub visit_of : (t : Stores) (used_nodes used_entries root size : ℕ) (order : L
 unfolding outcome
 visit_of t used_nodes used_entries root size order h = go (ltb size (need used_nodes used_entries)) (visit_from t root) h
   where
-    go : (b : Bool) (v : Visited) → cond b (refuses no_room size) (by_visit v) ≡ moves order → v ≡ visited order
+    go : (b : Bool) (v : Visited) → cond b (refuses NoRoom size) (by_visit v) ≡ moves order → v ≡ visited order
     go true v e = absurd (let z : ◌≡◌ {A = ℕ} 0 1 = cc in omega arith)
     go false (bad place) e = absurd (let z : ◌≡◌ {A = ℕ} 0 1 = cc in omega arith)
     go false (visited o) e = let same : o ≡ order = cc in ap visited same

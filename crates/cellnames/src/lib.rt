@@ -6,11 +6,10 @@ ghost use Rattle.std.specs.Prelude.{◌≡◌, true, ◌&&◌, ◌+◌, ◌≤�
 ghost use Rattle.grammar.specs.Fields.{contents};
 ghost use Rattle.localsplus.specs.Kind;
 ghost use Rattle.writing.specs.Names.{same_bytes};
-ghost use Rattle.chains.specs.Chained.{string_at};
-ghost use Rattle.writecheck.specs.Looking.{lent};
+ghost use Rattle.writecheck.specs.Looking.{lent_of, StringAt};
 ghost use Rattle.cellnames.specs.Groups.{same_as, is_local, is_member, Listed};
 
-use writecheck::Used;
+use writecheck::Lent;
 
 // The bits of a kind.
 pub const LOCAL: u32 = localsplus::LOCAL as u32;
@@ -32,26 +31,24 @@ fn same_bytes(s: &[u8], a: usize, b: usize, size: usize) -> bool
     requires { (a + size ≤ length s.now) × (b + size ≤ length s.now) }
     ensures { result ≡ same_bytes (contents s.now a size) (contents s.now b size) }
 {
-    let mut i = 0;
-    while i < size {
+    for i in 0..size {
         if s[a + i] != s[b + i] {
             return false;
         }
-        i += 1;
     }
     true
 }
 
 // Whether a part of the input and a sound string are the same.
-fn same_name(s: &[u8], nodes: &[u32], used: u32, place: u32, size: u32, name: u32) -> bool
-    requires { (place + size ≤ length s.now) × (string_at s.now nodes.now used name ≡ true) }
-    ensures { result ≡ same_as s.now nodes.now name place size }
+fn same_name(lent: &Lent, place: u32, size: u32, name: u32) -> bool
+    requires { (place + size ≤ length lent.now.input.now) × StringAt lent.now name }
+    ensures { result ≡ same_as lent.now.input.now lent.now.nodes.now name place size }
 {
-    let n = stores::node_at(nodes, name);
+    let n = stores::node_at(lent.nodes, name);
     if size != n.size {
         return false;
     }
-    same_bytes(s, place as usize, n.place as usize, size as usize)
+    same_bytes(lent.input, place as usize, n.place as usize, size as usize)
 }
 
 fn has(bit: u32, kind: u8) -> bool
@@ -62,51 +59,40 @@ fn has(bit: u32, kind: u8) -> bool
 }
 
 // Whether a name of a kind is Local and the same as a part of the input.
-fn local_is(s: &[u8], nodes: &[u32], used: u32, kind: u8, name: u32, place: u32, size: u32) -> bool
-    requires { (place + size ≤ length s.now) × (string_at s.now nodes.now used name ≡ true) }
-    ensures { result ≡ (Kind.has Kind.local_bit kind && same_as s.now nodes.now name place size) }
+fn local_is(lent: &Lent, kind: u8, name: u32, place: u32, size: u32) -> bool
+    requires { (place + size ≤ length lent.now.input.now) × StringAt lent.now name }
+    ensures { result ≡ (Kind.has Kind.local_bit kind && same_as lent.now.input.now lent.now.nodes.now name place size) }
 {
     if !has(LOCAL, kind) {
         return false;
     }
-    same_name(s, nodes, used, place, size, name)
+    same_name(lent, place, size, name)
 }
 
 // Whether a name equals a Local name.
-fn is_local(s: &[u8], nodes: &[u32], entries: &[u32], used: Used, locals: Locals, node: u32) -> bool
-    requires { Listed (lent s.now nodes.now entries.now used) locals × (string_at s.now nodes.now used.nodes node ≡ true) }
-    ensures { result ≡ is_local (lent s.now nodes.now entries.now used) locals node }
+fn is_local(lent: &Lent, locals: Locals, node: u32) -> bool
+    requires { Listed (lent_of lent.now) locals × StringAt lent.now node }
+    ensures { result ≡ is_local (lent_of lent.now) locals node }
 {
-    let own = stores::node_at(nodes, node);
+    let own = stores::node_at(lent.nodes, node);
     let kinds = locals.kinds as usize;
     let count = locals.count;
     let mut e = locals.first;
-    let mut i = 0u32;
-    while i < count {
-        let kind = s[kinds + i as usize];
-        let name = stores::child_at(entries, e);
-        if local_is(s, nodes, used.nodes, kind, name, own.place, own.size) {
+    for i in 0..count {
+        let kind = lent.input[kinds + i as usize];
+        let name = stores::child_at(lent.entries, e);
+        if local_is(lent, kind, name, own.place, own.size) {
             return true;
         }
-        e = stores::next_at(entries, e);
-        i += 1;
+        e = stores::next_at(lent.entries, e);
     }
     false
 }
 
 // Whether a name of a kind stands in the group of a bit.
-pub fn belongs(
-    s: &[u8],
-    nodes: &[u32],
-    entries: &[u32],
-    used: Used,
-    locals: Locals,
-    bit: u32,
-    kind: u8,
-    node: u32,
-) -> bool
-    requires { Listed (lent s.now nodes.now entries.now used) locals × (string_at s.now nodes.now used.nodes node ≡ true) × (0 < bit) }
-    ensures { result ≡ is_member (lent s.now nodes.now entries.now used) locals bit kind node }
+pub fn belongs(lent: &Lent, locals: Locals, bit: u32, kind: u8, node: u32) -> bool
+    requires { Listed (lent_of lent.now) locals × StringAt lent.now node × (0 < bit) }
+    ensures { result ≡ is_member (lent_of lent.now) locals bit kind node }
 {
     if !has(bit, kind) {
         return false;
@@ -114,5 +100,5 @@ pub fn belongs(
     if bit != CELL {
         return true;
     }
-    !is_local(s, nodes, entries, used, locals, node)
+    !is_local(lent, locals, node)
 }

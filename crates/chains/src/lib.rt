@@ -21,8 +21,7 @@ fn straight(entries: &[u32], room: u32, first: u32, steps: u32) -> u32
     ensures { Straight entries.now room first steps result }
 {
     let mut e = first;
-    let mut i = 0u32;
-    while i < steps {
+    for i in 0..steps {
         if room <= e {
             return i;
         }
@@ -30,9 +29,8 @@ fn straight(entries: &[u32], room: u32, first: u32, steps: u32) -> u32
             return i;
         }
         e += 1;
-        i += 1;
     }
-    i
+    steps
 }
 
 // Whether so many entries are linked from one on. More steps than there are entries can only go round, and are not taken.
@@ -43,13 +41,11 @@ pub fn linked(entries: &[u32], used: u32, first: u32, count: u32) -> bool
     let steps = stores::at_most(count as usize, room + 1);
     let ahead = straight(entries, room, first, steps);
     let mut e = first + ahead;
-    let mut i = ahead;
-    while i < steps {
+    for _ in ahead..steps {
         if room <= e {
             return false;
         }
         e = stores::next_at(entries, e);
-        i += 1;
     }
     true
 }

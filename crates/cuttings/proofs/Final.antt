@@ -7,7 +7,10 @@ use native.Mathlib.Omega.{arith}
 use lib.ListN.{length, replicate, get_or, drop, length-append, length-replicate, drop_of_length-le}
 use lib.Seq.{sets}
 use lib.Dec.{eqb}
-use Rattle.refusals.specs.Numbers.{number_range}
+use Rattle.refusals.specs.declared.Refusal.{Refusal}
+use Rattle.std.specs.Prelude.{Err}
+use Rattle.refusals.specs.Faults.{number_of, fault}
+use Rattle.refusals.specs.declared.Refusal.TheVariants.{NumberRange}
 use Rattle.grammar.specs.Input.{Bytes}
 use Rattle.clearing.specs.Lent.{zeros}
 use Rattle.clearing.proofs.Laws.{sets-padded}
@@ -25,14 +28,14 @@ use Rattle.rows.proofs.Chains.{rowed, chain-upto}
 use Rattle.piecestate.specs.declared.Kept.{Kept}
 use Rattle.piecestate.specs.declared.Gate.TheVariants.{Open, Shut}
 use Rattle.piecestate.specs.State.{kept_at}
-use Rattle.piecestate.specs.Answers.{Left, told, shut, stuck}
+use Rattle.piecestate.specs.Answers.{Left, shut, stuck}
 use Rattle.pieces.specs.Facts.{Entered}
 use Rattle.pieces.specs.Piece.{overrun, shown_of}
 use Rattle.pieces.proofs.Fronts.{length-locations}
 use Rattle.pieces.proofs.Short.{Goes}
 use Rattle.pieces.proofs.Shown.{held_out}
 use Rattle.pieces.specs.Calls.{finished, by_held, end_by, end}
-use Rattle.cuttings.specs.Promised.{as_call}
+use Rattle.cuttings.specs.Promised.{said, as_call}
 use Rattle.pieces.proofs.Gates.{by_gate}
 use Rattle.pieces.proofs.Closes.{end_over, end_placed, end_held_by}
 use Rattle.cuttings.proofs.Sound.{held_covers, bytes_drop}
@@ -41,7 +44,7 @@ use Rattle.cuttings.proofs.Steps.{going_enters, over_enters, gate_open, gate-shu
 
 -- a call's answer and records are those of a reading
 pub record Reaches (n : ℕ) (x : Reading) (y : Left) : Type 0 where
-  pub answers : y.answer ≡ as_call x
+  pub answers : said y.answer ≡ as_call x
   pub fills : y.records ≡ records_of n x
 
 module _ (n : ℕ) (s rs : List ℕ) where
@@ -57,10 +60,10 @@ module _ (n : ℕ) (s rs : List ℕ) where
             ∙ sets-padded n (numbers (ls ++ ms)) (omega (arith, length-numbers (ls ++ ms))) ∙ sym (ap (records_of n) e);
       }
 
-  ends-refused : (x : Reading) (number place at : ℕ) → x ≡ refused number place → at ≡ place → length rs ≡ n → Reaches n x (stuck s rs number at)
+  ends-refused : (x : Reading) (why : Refusal) (place at : ℕ) → x ≡ refused (number_of why) place → at ≡ place → length rs ≡ n → Reaches n x (stuck s rs (fault why at))
   unfolding records_of
-  ends-refused x number place at e q w =
-      record { answers = ap (λ i. told number i 0 false) q ∙ sym (ap as_call e); fills = ap zeros w ∙ sym (ap (records_of n) e) }
+  ends-refused x why place at e q w =
+      record { answers = ap (λ i. said (Err (fault why i))) q ∙ sym (ap as_call e); fills = ap zeros w ∙ sym (ap (records_of n) e) }
 
 module _ (first count n : ℕ) (u : List ℕ) (x : Left) (g : Stands first count n u x) (room : count ≤ n / 4) (b : Bytes u) where
   abbrev s : List ℕ
@@ -188,7 +191,7 @@ module _ (first count n : ℕ) (u : List ℕ) (x : Left) (g : Stands first count
         let d = rowed u first 0 count in
         let o = held_out u (line_after first es) p m r.ending (chain-upto u first 0 es (omega arith) d.chain) d.ends e in
         subst (Reaches n reading) (sym (on_is OutOfRange o.1))
-        (ends-refused n s rs reading number_range p (get_or s 4 0) (reads_by out_of_range e) (ap (λ k. k.start) a.keeps) g.wide)
+        (ends-refused n s rs reading NumberRange p (get_or s 4 0) (reads_by out_of_range e) (ap (λ k. k.start) a.keeps) g.wide)
 
   final_on : (y : Ending) → r.ending ≡ y → Goes u (line_after first es) p y → Ends u (line_after first es) p m y → GoingAs first count n u es (drop p u) x → Reaches n reading (end s rs)
   final_on placed_all e k d a = elim k [ ]
@@ -262,7 +265,7 @@ module _ (first count n : ℕ) (u : List ℕ) (x : Left) (g : Stands first count
   final_gone : r.ending ≡ out_of_range → GoneAs n p x → Reaches n reading (end s rs)
   unfolding end records_of
   final_gone e a =
-      let is : end s rs ≡ shut s rs number_range p = by_gate s rs g.long (end_by s rs (kept_at s)) (Shut number_range p) (gate-shut first count n u x g room p a) in
+      let is : end s rs ≡ shut s rs (fault NumberRange p) = by_gate s rs g.long (end_by s rs (kept_at s)) (Shut (fault NumberRange p)) (gate-shut first count n u x g room p a) in
       let q = reads_by out_of_range e in
       subst (Reaches n reading) (sym is) (record { answers = sym (ap as_call q); fills = ap zeros g.wide ∙ sym (ap (records_of n) q) })
 

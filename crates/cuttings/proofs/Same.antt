@@ -6,7 +6,9 @@ use Prim.Native.Nat.{ℕ, ◌+◌, ◌-◌, ◌*◌, ◌/◌, ◌≤◌}
 use native.Mathlib.Omega.{arith}
 use lib.ListN.{length, get_or, take, drop, length-drop, take-append-drop, drop_of_length-le}
 use lib.Seq.{sets, sets-eq, set-get_or}
-use Rattle.refusals.specs.Numbers.{number_range}
+use Rattle.std.specs.Prelude.{Err}
+use Rattle.refusals.specs.Faults.{fault}
+use Rattle.refusals.specs.declared.Refusal.TheVariants.{NumberRange}
 use Rattle.refusals.specs.Limits.{most_bytes}
 use Rattle.grammar.specs.Input.{Bytes}
 use Rattle.clearing.specs.Lent.{zeros}
@@ -53,7 +55,7 @@ module _ (held : List ℕ) (start bytes line placed_now count : ℕ) (s rs : Lis
   quiet_by table_end (none e) = goes_same [] (sym e)
   quiet_by (cut_short x) cut = goes_same held refl
   quiet_by out_of_range (unsure_yet l) =
-      ap (λ c. cond c (stuck s rs number_range (start + 0)) (onward s rs line (count - (n - 0)) (start + 0) bytes going held)) l ∙ goes_same held refl
+      ap (λ c. cond c (stuck s rs (fault NumberRange (start + 0))) (onward s rs line (count - (n - 0)) (start + 0) bytes going held)) l ∙ goes_same held refl
 
   quiet : (y : Ending) → Quiet held line y → row held line 0 n ≡ alone y → walked held start bytes line placed_now count s rs ≡ onward s rs line placed_now start bytes going held
   unfolding walked
@@ -106,8 +108,8 @@ module _ (first count n : ℕ) (u : List ℕ) (x : Left) (g : Stands first count
         ∙ ap (λ t. walked t p (length (u ++ [])) (line_after first es) (total es) count s ys) (append-nil held)
         ∙ ap (λ t. walked held p (length t) (line_after first es) (total es) count s ys) (append-nil u)
         ∙ quiet held p (length u) (line_after first es) (total es) count s ys (rowed u first 0 count).within y q e
-        ∙ ap (λ t. left (told 0 0 (total es) false) t ys) state_same
-        ∙ ap (λ t. left (told 0 0 (total es) false) s t) (sym a.fills)
+        ∙ ap (λ t. left (told (total es) false) t ys) state_same
+        ∙ ap (λ t. left (told (total es) false) s t) (sym a.fills)
         ∙ ap (λ t. left t s rs) (sym a.answers)
 
   same_on : (y : Ending) → Goes u (line_after first r.entries) p y → Ends u (line_after first r.entries) p (count - total r.entries) y → GoingAs first count n u r.entries (drop p u) x → piece [] s rs ≡ x
@@ -129,15 +131,15 @@ module _ (first count n : ℕ) (u : List ℕ) (x : Left) (g : Stands first count
   same_over a =
       let z : get_or s 5 0 + 0 ≡ get_or s 5 0 = omega arith in
       over-piece first count n u x g room [] small_yet a
-      ∙ ap (λ i. left (told 0 0 (get_or s 3 0) false) (sets s 5 (i ∷ [])) rs) z
-      ∙ ap (λ t. left (told 0 0 (get_or s 3 0) false) t rs) (set-get_or s 5 0)
-      ∙ ap (λ i. left (told 0 0 i false) s rs) a.keeps_placed
+      ∙ ap (λ i. left (told (get_or s 3 0) false) (sets s 5 (i ∷ [])) rs) z
+      ∙ ap (λ t. left (told (get_or s 3 0) false) t rs) (set-get_or s 5 0)
+      ∙ ap (λ i. left (told i false) s rs) a.keeps_placed
       ∙ ap (λ t. left t s rs) (sym a.answers)
 
   same_gone : GoneAs n p x → piece [] s rs ≡ x
   same_gone a =
       gone_piece first count n u x g room [] p a
-      ∙ ap (λ t. left (told number_range p 0 false) s t) (ap zeros g.wide ∙ sym a.fills)
+      ∙ ap (λ t. left (Err (fault NumberRange p)) s t) (ap zeros g.wide ∙ sym a.fills)
       ∙ ap (λ t. left t s rs) (sym a.answers)
 
   pub nothing_new : piece [] s rs ≡ x

@@ -9,6 +9,8 @@ use lib.ListN.{length, get_or, take, drop, length-drop, get_or-append, get_or-eq
 use lib.Seq.{sets, get_or-drop, get_or-append-add}
 use lib.Dec.{ltb, eqb}
 use borrow.Author.Tests.{le-ltb, le-leb, ltb-true, ltb-false, eqb-false}
+use Rattle.refusals.specs.Faults.{fault}
+use Rattle.refusals.specs.declared.Refusal.TheVariants.{NumberRange}
 use Rattle.refusals.specs.Numbers.{number_range}
 use Rattle.refusals.specs.Limits.{most_bytes}
 use Rattle.grammar.specs.Input.{Bytes}
@@ -147,7 +149,7 @@ module _ (s : List ℕ) (long : 40 ≤ length s) where
   by_sound t start bytes count ys line p n (cut_short x) e small within b h d short =
       going-sound line (count - n) (start + p) bytes (drop p t) (omega arith) small (omega (arith, length-drop p t)) (short incomplete) (bytes_drop t p b) (goes_open t line p n (cut_short x) h d incomplete)
   by_sound t start bytes count ys line p n out_of_range e small within b h d short = on (lost (drop p t) line) refl where
-    on : (c : Bool) → lost (drop p t) line ≡ c → sound (cond c (stuck s ys number_range (start + p)) (onward s ys line (count - n) (start + p) bytes going (drop p t))).state ≡ true
+    on : (c : Bool) → lost (drop p t) line ≡ c → sound (cond c (stuck s ys (fault NumberRange (start + p))) (onward s ys line (count - n) (start + p) bytes going (drop p t))).state ≡ true
     on true l = refused-sound number_range (start + p) refl
     on false l =
         going-sound line (count - n) (start + p) bytes (drop p t) (omega arith) small (omega (arith, length-drop p t)) (short (unsure l)) (bytes_drop t p b) (goes_open t line p n out_of_range h d (unsure l))

@@ -7,6 +7,9 @@ use Prim.Native.Nat.{ℕ, ◌+◌, ◌-◌, ◌≤◌}
 use native.Mathlib.Omega.{arith}
 use lib.ListN.{length, replicate, get_or, take, drop, length-append, length-replicate, drop_of_length-le}
 use lib.Seq.{sets, length-sets}
+use Rattle.std.specs.Prelude.{Err}
+use Rattle.refusals.specs.Faults.{fault}
+use Rattle.refusals.specs.declared.Refusal.TheVariants.{NumberRange}
 use Rattle.refusals.specs.Numbers.{number_range}
 use Rattle.refusals.specs.Limits.{most_bytes}
 use Rattle.grammar.specs.Input.{Bytes}
@@ -31,14 +34,14 @@ kept_of a b c d e f g h i j = record { first = a; count = b; line = c; placed = 
 
 -- it goes on: complete entries are placed, and bytes are held
 pub record GoingAs (first count n : ℕ) (u : List ℕ) (es : List Span) (held : List ℕ) (x : Left) : Type 0 where
-  pub answers : x.answer ≡ told 0 0 (total es) false
+  pub answers : x.answer ≡ told (total es) false
   pub keeps : kept_at x.state ≡ kept_of first count (line_after first es) (total es) (place_after 0 es) (length u) going (get_or x.state 7 0) (get_or x.state 8 0) (length held)
   pub raw : take (length held) (drop 10 x.state) ≡ held
   pub fills : x.records ≡ sets (zeros n) 0 (numbers (locations es))
 
 -- nothing more is read
 pub record OverAs (first count n : ℕ) (u : List ℕ) (r : Row) (x : Left) : Type 0 where
-  pub answers : x.answer ≡ told 0 0 (length (shown_of count r)) false
+  pub answers : x.answer ≡ told (length (shown_of count r)) false
   pub keeps_first : get_or x.state 0 0 ≡ first
   pub keeps-count : get_or x.state 1 0 ≡ count
   pub keeps_placed : get_or x.state 3 0 ≡ length (shown_of count r)
@@ -48,7 +51,7 @@ pub record OverAs (first count n : ℕ) (u : List ℕ) (r : Row) (x : Left) : Ty
 
 -- it was refused 18
 pub record GoneAs (n place : ℕ) (x : Left) : Type 0 where
-  pub answers : x.answer ≡ told number_range place 0 false
+  pub answers : x.answer ≡ Err (fault NumberRange place)
   pub keeps-refused : get_or x.state 6 0 ≡ refusing
   pub keeps-number : get_or x.state 7 0 ≡ number_range
   pub keeps-place : get_or x.state 8 0 ≡ place
@@ -78,7 +81,7 @@ module _ (first count n : ℕ) (t s : List ℕ) (long : 40 ≤ length s) (is_fir
   going_as es held ys placed start p q short f =
       let z = advanced_is s long (line_after first es) placed start (length t) going held in
       record {
-        answers = ap (λ i. told 0 0 i false) p;
+        answers = ap (λ i. told i false) p;
         keeps =
             ap kept_at z
             ∙ ap (λ a. kept_of a (get_or s 1 0) (line_after first es) placed start (length t) going (get_or s 7 0) (get_or s 8 0) (length held)) is_first
@@ -95,7 +98,7 @@ module _ (first count n : ℕ) (t s : List ℕ) (long : 40 ≤ length s) (is_fir
   over_as r line placed start p =
       let z = advanced_is s long line placed start (length t) over [] in
       record {
-        answers = ap (λ i. told 0 0 i false) p;
+        answers = ap (λ i. told i false) p;
         keeps_first = ap (λ y. get_or y 0 0) z ∙ is_first;
         keeps-count = ap (λ y. get_or y 1 0) z ∙ is_count;
         keeps_placed = ap (λ y. get_or y 3 0) z ∙ p;
@@ -104,7 +107,7 @@ module _ (first count n : ℕ) (t s : List ℕ) (long : 40 ≤ length s) (is_fir
         fills = refl;
       }
 
-  gone_as : (ys : List ℕ) (place : ℕ) → length ys ≡ n → GoneAs n place (stuck s ys number_range place)
+  gone_as : (ys : List ℕ) (place : ℕ) → length ys ≡ n → GoneAs n place (stuck s ys (fault NumberRange place))
   gone_as ys place e =
       let z = refused_is s long number_range place in
       record {
@@ -152,10 +155,10 @@ module _ (first count n : ℕ) (t s : List ℕ) (long : 40 ≤ length s) (is_fir
     ys = sets (zeros n) 0 (numbers (shown_of count r))
 
     which : (c : Bool) → lost (drop (place_after 0 r.entries) t) (line_after first r.entries) ≡ c
-        → Way first count n t r (cond c (stuck s ys number_range (0 + place_after 0 r.entries)) (onward s ys (line_after first r.entries) (count - (count - total r.entries)) (0 + place_after 0 r.entries) (length t) going (drop (place_after 0 r.entries) t)))
+        → Way first count n t r (cond c (stuck s ys (fault NumberRange (0 + place_after 0 r.entries))) (onward s ys (line_after first r.entries) (count - (count - total r.entries)) (0 + place_after 0 r.entries) (length t) going (drop (place_after 0 r.entries) t)))
     which true l =
         let z : 0 + place_after 0 r.entries ≡ place_after 0 r.entries = omega arith in
-        gone e l (subst (λ p. GoneAs n p (stuck s ys number_range (0 + place_after 0 r.entries))) z (gone_as ys (0 + place_after 0 r.entries) (length-sets (zeros n) 0 (numbers (shown_of count r)) ∙ length-replicate {A = ℕ} n 0)))
+        gone e l (subst (λ p. GoneAs n p (stuck s ys (fault NumberRange (0 + place_after 0 r.entries)))) z (gone_as ys (0 + place_after 0 r.entries) (length-sets (zeros n) 0 (numbers (shown_of count r)) ∙ length-replicate {A = ℕ} n 0)))
     which false l =
         on (subst (Goes t (line_after first r.entries) (place_after 0 r.entries)) (sym e) (unsure l))
         (going_as r.entries (drop (place_after 0 r.entries) t) ys (count - (count - total r.entries)) (0 + place_after 0 r.entries) (omega arith) (omega arith) (short (unsure l)) (ap (λ y. sets (zeros n) 0 (numbers y)) (shows_none r out_of_range e (λ m. refl))))
@@ -166,8 +169,8 @@ module _ (first count n : ℕ) (t s : List ℕ) (long : 40 ≤ length s) (is_fir
     kept : (line placed at status : ℕ) (held : List ℕ) → length (advanced s line placed at bytes status held) ≡ length s
     kept line placed at status held = length-sets (sets s 2 (line ∷ placed ∷ at ∷ bytes ∷ status ∷ [])) 9 (length held ∷ held) ∙ length-sets s 2 (line ∷ placed ∷ at ∷ bytes ∷ status ∷ [])
 
-    which : (c : Bool) → (length (cond c (stuck s ys number_range (start + p)) (onward s ys line (count - n) (start + p) bytes going (drop p t))).state ≡ length s)
-        × (length (cond c (stuck s ys number_range (start + p)) (onward s ys line (count - n) (start + p) bytes going (drop p t))).records ≡ length ys)
+    which : (c : Bool) → (length (cond c (stuck s ys (fault NumberRange (start + p))) (onward s ys line (count - n) (start + p) bytes going (drop p t))).state ≡ length s)
+        × (length (cond c (stuck s ys (fault NumberRange (start + p))) (onward s ys line (count - n) (start + p) bytes going (drop p t))).records ≡ length ys)
     which true = (length-sets s 6 (refusing ∷ number_range ∷ (start + p) ∷ []), length-replicate {A = ℕ} (length ys) 0)
     which false = (kept line (count - n) (start + p) going (drop p t), refl)
 

@@ -6,7 +6,8 @@ use Prim.Native.Nat.{ℕ, ◌+◌, ◌-◌, ◌*◌, ◌/◌, ◌≤◌, ◌<◌
 use native.Mathlib.Omega.{arith}
 use lib.ListN.{length, get_or, drop, length-append, length-replicate}
 use lib.Seq.{sets, length-sets, drop-append-le}
-use Rattle.refusals.specs.Numbers.{number_range}
+use Rattle.refusals.specs.Faults.{fault}
+use Rattle.refusals.specs.declared.Refusal.TheVariants.{NumberRange}
 use Rattle.refusals.specs.Limits.{most_bytes}
 use Rattle.grammar.specs.Input.{Bytes}
 use Rattle.clearing.specs.Lent.{zeros}
@@ -21,7 +22,7 @@ use Rattle.lostentry.proofs.Losing.{lost-refuses}
 use Rattle.lostentry.proofs.Heals.{refuses-lost}
 use Rattle.piecestate.specs.declared.Kept.{Kept}
 use Rattle.piecestate.specs.declared.Gate.TheVariants.{Open, Shut}
-use Rattle.piecestate.specs.State.{kept_at, low, held_in, held_at}
+use Rattle.piecestate.specs.State.{kept_at, low, held_in, held_at, kept_why}
 use Rattle.piecestate.specs.Answers.{Left, left, told, shut, gate}
 use Rattle.pieces.specs.Facts.{Entered}
 use Rattle.pieces.specs.Piece.{walked, piece_by}
@@ -70,9 +71,9 @@ module _ (first count n : ℕ) (u : List ℕ) (x : Left) (g : Stands first count
   pub gate_open : Entered (kept_at s) s rs → gate s (kept_at s) (length rs / 4) ≡ Open
   gate_open e = open_gate s (kept_at s) (length rs / 4) e.sounds e.stands e.lasts (omega (arith, e.room))
 
-  pub gate-shut : (place : ℕ) → GoneAs n place x → gate s (kept_at s) (length rs / 4) ≡ Shut number_range place
+  pub gate-shut : (place : ℕ) → GoneAs n place x → gate s (kept_at s) (length rs / 4) ≡ Shut (fault NumberRange place)
   gate-shut place a =
-      refused-gate s (kept_at s) (length rs / 4) g.sounds a.keeps-refused ∙ ap (λ i. Shut i (get_or s 8 0)) a.keeps-number ∙ ap (λ i. Shut number_range i) a.keeps-place
+      refused-gate s (kept_at s) (length rs / 4) g.sounds a.keeps-refused ∙ ap (λ i. Shut (fault (kept_why i) (get_or s 8 0))) a.keeps-number ∙ ap (λ i. Shut (fault NumberRange i)) a.keeps-place
 
   pub held_is : (es : List Span) (held : List ℕ) → GoingAs first count n u es held x → Bytes held → held_at s ≡ held
   unfolding held_at
@@ -95,15 +96,15 @@ module _ (first count n : ℕ) (u : List ℕ) (x : Left) (g : Stands first count
       ∙ ap (λ i. walked (held ++ v) (place_after 0 es) i (line_after first es) (total es) count s rs) (sym (length-append u v))
       ∙ ap (λ ys. walked (held ++ v) (place_after 0 es) (length (u ++ v)) (line_after first es) (total es) count s ys) a.fills
 
-  pub over-piece : (v : List ℕ) → length (u ++ v) ≤ most_bytes → OverAs first count n u r x → piece v s rs ≡ left (told 0 0 (get_or s 3 0) false) (sets s 5 ((get_or s 5 0 + length v) ∷ [])) rs
+  pub over-piece : (v : List ℕ) → length (u ++ v) ≤ most_bytes → OverAs first count n u r x → piece v s rs ≡ left (told (get_or s 3 0) false) (sets s 5 ((get_or s 5 0 + length v) ∷ [])) rs
   over-piece v small a =
       let e = over_enters a in
       let by : get_or s 5 0 ≡ length u = a.keeps-bytes in
       piece_is v e ∙ piece-over (kept_at s) s rs e v (omega (arith, length-append u v)) a.keeps-over
 
-  pub gone_piece : (v : List ℕ) (place : ℕ) → GoneAs n place x → piece v s rs ≡ shut s rs number_range place
+  pub gone_piece : (v : List ℕ) (place : ℕ) → GoneAs n place x → piece v s rs ≡ shut s rs (fault NumberRange place)
   unfolding piece
-  gone_piece v place a = by_gate s rs g.long (piece_by v s rs (kept_at s)) (Shut number_range place) (gate-shut place a)
+  gone_piece v place a = by_gate s rs g.long (piece_by v s rs (kept_at s)) (Shut (fault NumberRange place)) (gate-shut place a)
 
   module _ (v : List ℕ) (b : Bytes (u ++ v)) (small : length (u ++ v) ≤ most_bytes) where
     -- the bytes behind the complete entries come to what all come to
@@ -154,10 +155,10 @@ module _ (first count n : ℕ) (u : List ℕ) (x : Left) (g : Stands first count
           sounds = counted-sound s g.long (get_or s 5 0 + length v) a.keeps-over (all_counts (kept_at s) s rs e).few (omega arith);
           wide = g.wide;
           way =
-              subst (λ y. Way first count n (u ++ v) y (left (told 0 0 (get_or s 3 0) false) (sets s 5 ((get_or s 5 0 + length v) ∷ [])) rs)) (sym same)
+              subst (λ y. Way first count n (u ++ v) y (left (told (get_or s 3 0) false) (sets s 5 ((get_or s 5 0 + length v) ∷ [])) rs)) (sym same)
               (stopped k
               (record {
-                answers = ap (λ i. told 0 0 i false) a.keeps_placed;
+                answers = ap (λ i. told i false) a.keeps_placed;
                 keeps_first = ap (λ y. get_or y 0 0) z ∙ a.keeps_first;
                 keeps-count = ap (λ y. get_or y 1 0) z ∙ a.keeps-count;
                 keeps_placed = ap (λ y. get_or y 3 0) z ∙ a.keeps_placed;
@@ -185,7 +186,7 @@ module _ (first count n : ℕ) (u : List ℕ) (x : Left) (g : Stands first count
           sounds = g.sounds;
           wide = length-replicate {A = ℕ} (length rs) 0 ∙ g.wide;
           way =
-              subst (λ y. Way first count n (u ++ v) y (shut s rs number_range p)) (sym same)
+              subst (λ y. Way first count n (u ++ v) y (shut s rs (fault NumberRange p))) (sym same)
               (gone e (ap (λ t. lost t line) far ∙ l')
               (record { answers = refl; keeps-refused = a.keeps-refused; keeps-number = a.keeps-number; keeps-place = a.keeps-place; fills = ap zeros g.wide }));
         })

@@ -7,6 +7,7 @@ ghost use Rattle.std.proofs.lemmas.List.Edits.{sets};
 ghost use Rattle.decimals.specs.Decimal.{decimal};
 
 // How many digits a number takes.
+// The loop divides a number and counts no index.
 pub fn digit_count(n: u64) -> usize
     ensures { (result ≡ length (decimal n)) × (1 ≤ result) × (result ≤ 20) }
 {
@@ -25,12 +26,10 @@ pub fn put_decimal(out: &mut [u8], at: usize, n: u64) -> usize
     ensures { (result ≡ at + length (decimal n)) × (out.new ≡ sets out.old at (decimal n)) }
 {
     let end = at + digit_count(n);
-    let mut i = end - 1;
     let mut above = n / 10;
-    out[i] = 0x30 + (n % 10) as u8;
-    while at < i {
-        i -= 1;
-        out[i] = 0x30 + (above % 10) as u8;
+    out[end - 1] = b'0' + (n % 10) as u8;
+    for i in (at..end - 1).rev() {
+        out[i] = b'0' + (above % 10) as u8;
         above /= 10;
     }
     end

@@ -9,7 +9,8 @@ use lib.Dec.{ltb, eqb}
 use lib.ListN.{length, take, drop, length-append, length-drop, get_or-append}
 use lib.Seq.{take-append-le, drop-append-le, take-length, drop-length}
 use borrow.Author.Tests.{le-ltb, ne_eqb, eqb-true, ltb-false}
-use Rattle.refusals.specs.Numbers.{data_too_short}
+use Rattle.refusals.specs.declared.Fault.{Fault}
+use Rattle.refusals.specs.declared.Refusal.TheVariants.{DataTooShort}
 use Rattle.taggedfields.specs.Fields.{reading}
 use Rattle.taggedfields.proofs.Parts.{none-some}
 use Rattle.editions.specs.Archive.{Saved, Archive, ended, stopped, with_file, if_sound, le32, archive_from, archive_of, bytes32, record_of}
@@ -23,10 +24,10 @@ unfolding archive_from
 front bound at bytes h k =
     let behind = archive_from bound (at + 4 + le32 bytes) (drop (le32 bytes) (drop 4 bytes)) in
     let this = if_sound (record { start = at + 4; file = take (le32 bytes) (drop 4 bytes) }) (reading (take (le32 bytes) (drop 4 bytes))).fault behind in
-    ap (λ t. cond t ended (cond (ltb (length bytes) 4) (stopped data_too_short at) (cond (ltb (length (drop 4 bytes)) (le32 bytes)) (stopped data_too_short at) this)))
+    ap (λ t. cond t ended (cond (ltb (length bytes) 4) (stopped DataTooShort at) (cond (ltb (length (drop 4 bytes)) (le32 bytes)) (stopped DataTooShort at) this)))
     (ne_eqb (length bytes) 0 (λ z. omega arith))
-    ∙ ap (λ t. cond t (stopped data_too_short at) (cond (ltb (length (drop 4 bytes)) (le32 bytes)) (stopped data_too_short at) this)) (le-ltb (length bytes) 4 h)
-    ∙ ap (λ t. cond t (stopped data_too_short at) this) (le-ltb (length (drop 4 bytes)) (le32 bytes) k)
+    ∙ ap (λ t. cond t (stopped DataTooShort at) (cond (ltb (length (drop 4 bytes)) (le32 bytes)) (stopped DataTooShort at) this)) (le-ltb (length bytes) 4 h)
+    ∙ ap (λ t. cond t (stopped DataTooShort at) this) (le-ltb (length (drop 4 bytes)) (le32 bytes) k)
 
 -- the archive of one file
 one_file : (bound at : ℕ) (file : List ℕ) → length (record_of file) ≤ bound → length file < 4294967296 → (reading file).fault ≡ none
@@ -83,7 +84,7 @@ no_cut bound at bytes h z = go (eqb (length bytes) 0) refl (ltb (length bytes) 4
         (archive_from bound (at + 4 + le32 bytes) (drop (le32 bytes) (drop 4 bytes)))
 
     go : (p : Bool) → eqb (length bytes) 0 ≡ p → (q : Bool) → ltb (length bytes) 4 ≡ q → (r : Bool) → ltb (length (drop 4 bytes)) (le32 bytes) ≡ r
-        → (cond p ended (cond q (stopped data_too_short at) (cond r (stopped data_too_short at) this))).fault ≡ none → (4 ≤ length bytes) × (le32 bytes ≤ length (drop 4 bytes))
+        → (cond p ended (cond q (stopped DataTooShort at) (cond r (stopped DataTooShort at) this))).fault ≡ none → (4 ≤ length bytes) × (le32 bytes ≤ length (drop 4 bytes))
     go true d q c r k e = absurd (omega (arith, eqb-true (length bytes) 0 d))
     go false d true c r k e = absurd (none-some (sym e))
     go false d false c true k e = absurd (none-some (sym e))
@@ -126,7 +127,7 @@ grown-from (suc b) (suc b') at (x ∷ bytes) file h k w e z =
     whole : 4 ≤ length all → le32 all ≤ length (drop 4 all) → Behind → archive_from (suc b') at (all ++ record_of file) ≡ with (archive_from (suc b) at all).files (at + length all + 4) file
     whole p q again = on (reading this.file).fault refl
       where
-        on : (o : Option (ℕ × ℕ)) → (reading this.file).fault ≡ o → archive_from (suc b') at (all ++ record_of file) ≡ with (archive_from (suc b) at all).files (at + length all + 4) file
+        on : (o : Option Fault) → (reading this.file).fault ≡ o → archive_from (suc b') at (all ++ record_of file) ≡ with (archive_from (suc b) at all).files (at + length all + 4) file
         on (some y) d = absurd (none-some (sym z ∙ ap (λ r. r.fault) (front b at all p q ∙ ap (λ o. if_sound this o behind) d)))
         on none d =
             let was : archive_from (suc b) at all ≡ with_file this behind = front b at all p q ∙ ap (λ o. if_sound this o behind) d in

@@ -9,6 +9,7 @@ use lib.Dec.{ltb, eqb}
 use lib.ListN.{length, take, drop, length-drop}
 use lib.Seq.{length-take-le}
 use borrow.Author.Tests.{ltb-true, ltb-false, eqb-true, eq-eqb}
+use Rattle.refusals.specs.declared.Fault.{Fault}
 use Rattle.taggedfields.specs.Fields.{Field, reading}
 use Rattle.taggedfields.proofs.Parts.{none-some}
 use Rattle.editions.specs.Archive.{Saved, Archive, with_file, if_sound, archive_from, archive_of, same, is_field, is_edition, find_edition}
@@ -31,7 +32,7 @@ data Step (archive : List ℕ) (at bound : ℕ) : Type 0 where
 step : (archive : List ℕ) (at bound : ℕ) → Step archive at bound
 step archive at bound = bytes (ltb at (length archive)) refl
   where
-    sound : at + 4 + length_in archive at ≤ length archive → (o : Option (ℕ × ℕ)) → (reading (saved_at archive at).file).fault ≡ o → Step archive at bound
+    sound : at + 4 + length_in archive at ≤ length archive → (o : Option Fault) → (reading (saved_at archive at).file).fault ≡ o → Step archive at bound
     sound h none e = goes h e (from-file archive at bound h ∙ ap (λ o. if_sound (saved_at archive at) o (from bound archive (at + 4 + length_in archive at))) e)
     sound h (some y) e = stops (ap (λ r. r.files) (from-file archive at bound h ∙ ap (λ o. if_sound (saved_at archive at) o (from bound archive (at + 4 + length_in archive at))) e))
 

@@ -2,7 +2,10 @@
 -- Its first fault, record by record: a length or a file past the end is 2 at the record; a fault of a saved file has its place in the archive.
 use Rattle.std.specs.Prelude.{ℕ, zero, suc, ◌+◌, ◌*◌, ◌/◌, ◌%◌, Bool, true, false, cond, List, [], ◌∷◌, ◌++◌, ltb, eqb, length, get_or, take, drop}
 use Rattle.std.proofs.Math.Option.{Option, none, some}
-use Rattle.refusals.specs.Numbers.{data_too_short}
+use Rattle.refusals.specs.declared.Refusal.{Refusal}
+use Rattle.refusals.specs.declared.Fault.{Fault}
+use Rattle.refusals.specs.declared.Refusal.TheVariants.{DataTooShort}
+use Rattle.refusals.specs.Faults.{fault}
 use Rattle.taggedfields.specs.Fields.{Field, reading, field_in}
 
 -- a saved file: where its bytes start in the archive, and they themselves
@@ -13,21 +16,21 @@ pub record Saved : Type 0 where
 -- the files that are whole and have no fault, in order, and the first fault
 pub record Archive : Type 0 where
   pub files : List Saved
-  pub fault : Option (ℕ × ℕ)
+  pub fault : Option Fault
 
 abbrev pub ended : Archive
 ended = record { files = []; fault = none }
 
-abbrev pub stopped : ℕ → ℕ → Archive
-stopped number place = record { files = []; fault = some (number, place) }
+abbrev pub stopped : Refusal → ℕ → Archive
+stopped why place = record { files = []; fault = some (fault why place) }
 
 abbrev pub with_file : Saved → Archive → Archive
 with_file s a = record { files = s ∷ a.files; fault = a.fault }
 
 -- a file with its fault, if it has one, and what is behind it
-abbrev pub if_sound : Saved → Option (ℕ × ℕ) → Archive → Archive
+abbrev pub if_sound : Saved → Option Fault → Archive → Archive
 if_sound s none behind = with_file s behind
-if_sound s (some x) behind = stopped x.0 (s.start + x.1)
+if_sound s (some x) behind = stopped x.refusal (s.start + x.place)
 
 -- a length in four bytes, little-endian
 abbrev pub le32 : List ℕ → ℕ
@@ -36,7 +39,7 @@ le32 bytes = get_or bytes 0 0 + 256 * (get_or bytes 1 0 + 256 * (get_or bytes 2 
 -- a file of so many bytes, behind its length
 abbrev pub sized : ℕ → ℕ → List ℕ → (ℕ → List ℕ → Archive) → Archive
 sized at size rest k =
-    cond (ltb (length rest) size) (stopped data_too_short at)
+    cond (ltb (length rest) size) (stopped DataTooShort at)
     (if_sound (record { start = at + 4; file = take size rest }) (reading (take size rest)).fault (k (at + 4 + size) (drop size rest)))
 
 -- the bytes that are left, from a place on. The first argument only bounds the recursion: each record takes a byte.
@@ -44,7 +47,7 @@ unfoldable pub archive_from : ℕ → ℕ → List ℕ → Archive
 archive_from zero at bytes = ended
 archive_from (suc bound) at bytes =
     cond (eqb (length bytes) 0) ended
-    (cond (ltb (length bytes) 4) (stopped data_too_short at) (sized at (le32 bytes) (drop 4 bytes) (archive_from bound)))
+    (cond (ltb (length bytes) 4) (stopped DataTooShort at) (sized at (le32 bytes) (drop 4 bytes) (archive_from bound)))
 
 unfoldable pub archive_of : List ℕ → Archive
 unfolding archive_from

@@ -8,9 +8,12 @@ use native.Mathlib.Nat.{add-zero, min-le_left}
 use native.Mathlib.Omega.{arith}
 use borrow.Author.Tests.{ltb-false, lt-ltb, le-ltb}
 use lib.Dec.{ltb}
-use lib.ListN.{length, get_or, set, length-append, length-replicate}
+use lib.ListN.{length, get_or, set, length-append}
 use lib.Seq.{sets, length-sets}
-use Rattle.refusals.specs.Numbers.{no_room, number_range}
+use Rattle.std.specs.Prelude.{Result, Ok, Err}
+use Rattle.refusals.specs.Faults.{fault, refused}
+use Rattle.refusals.specs.declared.Refusal.TheVariants.{NoRoom, NumberRange}
+use Rattle.refusals.specs.declared.Fault.{Fault}
 use Rattle.refusals.specs.Limits.{nothing}
 use Rattle.clearing.specs.Lent.{zeros}
 use Rattle.clearing.proofs.Laws.{sets-padded}
@@ -19,8 +22,6 @@ use Rattle.varint.proofs.Groups.{size}
 use Rattle.varint.proofs.Bytes.{length_big, length_big_with_start}
 use Rattle.exceptiontable.specs.Entry.{Entry, entry_in, entries_in}
 use Rattle.exceptiontable.specs.Writing.{code_of, bytes_of, table_of, encoded_from, held, encoded_of}
-use Rattle.exceptiontable.specs.declared.Encoded.{Encoded}
-use Rattle.exceptiontable.specs.declared.Encoded.TheVariants as encoded
 
 -- how many bytes an entry takes
 abbrev pub entry_size : Entry → ℕ
@@ -61,15 +62,15 @@ module _ (out : List ℕ) (used : ℕ) (e : Entry) {a b c d : List ℕ} {i j k l
       ∙ rw y (sets-append (sets (sets out used (big_endian_with_start e.start)) i (big_endian e.size)) j (big_endian e.target) _ ∙ rw z))))
 
 -- what the entries still to come make, over an output that holds so many bytes
-abbrev pub onto : ℕ → List ℕ → ℕ → List Entry → Encoded → Encoded × List ℕ
-onto room out used es (encoded.Done count) = (encoded.Done count, sets out used (table_of es))
-onto room out used es (encoded.Refused number place) = (encoded.Refused number place, zeros room)
+abbrev pub onto : ℕ → List ℕ → ℕ → List Entry → Result ℕ Fault → Result ℕ Fault × List ℕ
+onto room out used es (Ok count) = (Ok count, sets out used (table_of es))
+onto room out used es (Err why) = (Err why, zeros room)
 
 joined : (n : ℕ) (e : Entry) (es : List Entry) → n + length (bytes_of e) + length (table_of es) ≡ n + length (bytes_of e ++ table_of es)
 joined n e es = rw length-append (omega arith)
 
 -- an accepted writing ends behind its bytes, within the room
-done-fits : (most used : ℕ) (es : List Entry) (count : ℕ) → used ≤ most → encoded_from most used es ≡ encoded.Done count
+done-fits : (most used : ℕ) (es : List Entry) (count : ℕ) → used ≤ most → encoded_from most used es ≡ Ok count
     → (count ≡ used + length (table_of es)) × (count ≤ most)
 unfolding encoded_from table_of
 done-fits most used [] count h e =
@@ -79,8 +80,8 @@ done-fits most used (x ∷ es) count h e =
     go (ltb x.depth (2 ^ 31)) (ltb x.last 2) (ltb most (used + length (bytes_of x))) refl e (done-fits most (used + length (bytes_of x)) es count)
   where
     go : (s t f : Bool) → ltb most (used + length (bytes_of x)) ≡ f
-        → cond (s && t) (cond f (encoded.Refused no_room most) (encoded_from most (used + length (bytes_of x)) es)) (encoded.Refused number_range 0) ≡ encoded.Done count
-        → (used + length (bytes_of x) ≤ most → encoded_from most (used + length (bytes_of x)) es ≡ encoded.Done count
+        → cond (s && t) (cond f (refused NoRoom most) (encoded_from most (used + length (bytes_of x)) es)) (refused NumberRange 0) ≡ Ok count
+        → (used + length (bytes_of x) ≤ most → encoded_from most (used + length (bytes_of x)) es ≡ Ok count
         → (count ≡ used + length (bytes_of x) + length (table_of es)) × (count ≤ most))
         → (count ≡ used + length (bytes_of x ++ table_of es)) × (count ≤ most)
     go true true false d e i =
@@ -102,17 +103,15 @@ pub record EncodedSoFar (store : List ℕ) (room : ℕ) (out : List ℕ) (at use
 start_onto : (room : ℕ) (es : List Entry) → onto room (zeros room) 0 es (encoded_from (min room nothing) 0 es) ≡ held room (table_of es) (encoded_from (min room nothing) 0 es)
 start_onto room es = go (encoded_from (min room nothing) 0 es) refl
   where
-    go : (x : Encoded) → encoded_from (min room nothing) 0 es ≡ x → onto room (zeros room) 0 es x ≡ held room (table_of es) x
-    go (encoded.Done count) e =
+    go : (x : Result ℕ Fault) → encoded_from (min room nothing) 0 es ≡ x → onto room (zeros room) 0 es x ≡ held room (table_of es) x
+    go (Ok count) e =
         let f = done-fits (min room nothing) 0 es count (omega arith) e in
         rw (sets-padded room (table_of es) (omega (arith, f.0, f.1, min-le_left room nothing)))
-    go (encoded.Refused number place) e = refl
+    go (Err why) e = refl
 
-pub encoded_start : (store lent : List ℕ) {out : List ℕ} → out ≡ zeros (length lent) → EncodedSoFar store (length out) out 0 0 (length store / 5)
+pub encoded_start : (store out : List ℕ) → out ≡ zeros (length out) → EncodedSoFar store (length out) out 0 0 (length store / 5)
 unfolding encoded_of
-encoded_start store lent {out} clear =
-    let l : length out ≡ length lent = rw clear (length-replicate (length lent) 0) in
-    let z : out ≡ zeros (length out) = clear ∙ ap zeros (sym l) in
+encoded_start store out z =
     let es = entries_in store 0 (length store / 5) in
     record {
       comes =
@@ -145,36 +144,36 @@ module _ {store : List ℕ} {room : ℕ} {out : List ℕ} {at used left : ℕ} (
       go (suc n) z = let e : suc n - 1 ≡ n = omega arith in rw e
 
   -- "a depth of 2^31 or more when writing 18", or a bit above 1
-  encoded_range : {last : List ℕ} → 0 < left → ltb (get_or store (at + 3) 0) (2 ^ 31) && ltb (get_or store (at + 4) 0) 2 ≡ false
-      → last ≡ zeros (length out) → (encoded.Refused number_range 0, last) ≡ encoded_of store room
+  encoded_range : {why : Fault} → 0 < left → ltb (get_or store (at + 3) 0) (2 ^ 31) && ltb (get_or store (at + 4) 0) 2 ≡ false
+      → why ≡ fault NumberRange 0 → (Err why, zeros (length out)) ≡ encoded_of store room
   unfolding encoded_from
-  encoded_range h w clear = rw (clear, k.same) (rw (next_entries h, w) at k.comes)
+  encoded_range h w f = rw (f, k.same) (rw (next_entries h, w) at k.comes)
 
-  pub encoded_deep : {last : List ℕ} → 0 < left → 2 ^ 31 ≤ get_or store (at + 3) 0 → last ≡ zeros (length out)
-      → (encoded.Refused number_range 0, last) ≡ encoded_of store room
-  encoded_deep h d clear = encoded_range h (deep (get_or store (at + 3) 0) (get_or store (at + 4) 0) d) clear
+  pub encoded_deep : {why : Fault} → 0 < left → 2 ^ 31 ≤ get_or store (at + 3) 0 → why ≡ fault NumberRange 0
+      → (Err why, zeros (length out)) ≡ encoded_of store room
+  encoded_deep h d f = encoded_range h (deep (get_or store (at + 3) 0) (get_or store (at + 4) 0) d) f
 
-  pub encoded_no_bit : {last : List ℕ} → 0 < left → 2 ≤ get_or store (at + 4) 0 → last ≡ zeros (length out)
-      → (encoded.Refused number_range 0, last) ≡ encoded_of store room
-  encoded_no_bit h b clear = encoded_range h (no_bit (get_or store (at + 3) 0) (get_or store (at + 4) 0) b) clear
+  pub encoded_no_bit : {why : Fault} → 0 < left → 2 ≤ get_or store (at + 4) 0 → why ≡ fault NumberRange 0
+      → (Err why, zeros (length out)) ≡ encoded_of store room
+  encoded_no_bit h b f = encoded_range h (no_bit (get_or store (at + 3) 0) (get_or store (at + 4) 0) b) f
 
-  pub encoded_full : {last : List ℕ} → 0 < left → get_or store (at + 3) 0 < 2 ^ 31 → get_or store (at + 4) 0 < 2
-      → min room nothing < used + length (bytes_of (entry_in store at)) → last ≡ zeros (length out)
-      → (encoded.Refused no_room (min room nothing), last) ≡ encoded_of store room
+  pub encoded_full : {why : Fault} → 0 < left → get_or store (at + 3) 0 < 2 ^ 31 → get_or store (at + 4) 0 < 2
+      → min room nothing < used + length (bytes_of (entry_in store at)) → why ≡ fault NoRoom (min room nothing)
+      → (Err why, zeros (length out)) ≡ encoded_of store room
   unfolding encoded_from
-  encoded_full h d l f clear =
-      rw (clear, k.same)
+  encoded_full h d l f w =
+      rw (w, k.same)
       (rw (next_entries h, lt-ltb _ _ d, lt-ltb _ _ l, lt-ltb (min room nothing) (used + length (bytes_of (entry_in store at))) f) at k.comes)
 
   pub encoded_turn : {out' : List ℕ} {used' : ℕ} → 0 < left → get_or store (at + 3) 0 < 2 ^ 31 → get_or store (at + 4) 0 < 2
       → used + length (bytes_of (entry_in store at)) ≤ min room nothing
       → used' ≡ used + length (bytes_of (entry_in store at)) → out' ≡ sets out used (bytes_of (entry_in store at))
-      → EncodedSoFar store room out' (at + 5) used' (left - 1)
+      → {at' left' : ℕ} → at' ≡ at + 5 → left' ≡ left - 1 → EncodedSoFar store room out' at' used' left'
   unfolding encoded_from table_of
-  encoded_turn {out'} {used'} h d l f u o =
+  encoded_turn {out'} {used'} h d l f u o {at'} {left'} p q =
       let e = entry_in store at in
       let es = entries_in store (at + 5) (left - 1) in
-      record {
+      rw (p, q) (record {
         comes =
             ap (λ (r : List ℕ). onto room r used' es (encoded_from (min room nothing) used' es)) o
             ∙ ap (λ (n : ℕ). onto room (sets out used (bytes_of e)) n es (encoded_from (min room nothing) n es)) u
@@ -183,19 +182,15 @@ module _ {store : List ℕ} {room : ℕ} {out : List ℕ} {at used left : ℕ} (
         place = omega (arith, k.place);
         within = omega (arith, u);
         same = rw o (length-sets out used (bytes_of e) ∙ k.same);
-      }
+      })
     where
-      go : (x : Encoded) → onto room out used (entry_in store at ∷ entries_in store (at + 5) (left - 1)) x ≡ encoded_of store room
+      go : (x : Result ℕ Fault) → onto room out used (entry_in store at ∷ entries_in store (at + 5) (left - 1)) x ≡ encoded_of store room
           → onto room (sets out used (bytes_of (entry_in store at))) (used + length (bytes_of (entry_in store at))) (entries_in store (at + 5) (left - 1)) x
           ≡ encoded_of store room
-      go (encoded.Done count) c =
-          ap (λ (o : List ℕ). (encoded.Done count, o)) (sym (sets-append out used (bytes_of (entry_in store at)) (table_of (entries_in store (at + 5) (left - 1))))) ∙ c
-      go (encoded.Refused number place) c = c
+      go (Ok count) c =
+          ap (λ (o : List ℕ). (Ok count, o)) (sym (sets-append out used (bytes_of (entry_in store at)) (table_of (entries_in store (at + 5) (left - 1))))) ∙ c
+      go (Err why) c = c
 
-  pub encoded_end : left ≡ 0 → (encoded.Done used, out) ≡ encoded_of store room
+  pub encoded_end : left ≡ 0 → (Ok used, out) ≡ encoded_of store room
   unfolding entries_in encoded_from table_of
   encoded_end e = rw e at k.comes
-
-pub encoded_as_lem : (store : List ℕ) (held room : ℕ) {r s : Encoded} {left : List ℕ} → held ≡ room → r ≡ s → (s, left) ≡ encoded_of store held
-    → (r, left) ≡ encoded_of store room
-encoded_as_lem store held room e d k = rw d (k ∙ ap (encoded_of store) e)

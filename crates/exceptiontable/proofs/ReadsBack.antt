@@ -10,24 +10,23 @@ use native.Mathlib.Omega.{arith}
 use borrow.Author.Tests.{lt-ltb, le-ltb}
 use lib.Dec.{ltb}
 use lib.ListN.{length, length-append}
-use Rattle.refusals.specs.Numbers.{data_too_short, no_marker}
+use Rattle.std.specs.Prelude.{Result, Ok, Err, Some, None}
+use Rattle.refusals.specs.Faults.{fault}
+use Rattle.refusals.specs.declared.Refusal.TheVariants.{DataTooShort, NoMarker}
+use Rattle.refusals.specs.declared.Fault.{Fault}
 use Rattle.varint.specs.Writing.{big_endian, big_endian_with_start}
-use Rattle.varintread.specs.Reading.{read_varint, read_varint_with_start}
+use Rattle.varintread.specs.Reading.{Reading, read_varint, read_varint_with_start}
 use Rattle.varintread.specs.declared.Found.{Found}
-use Rattle.varintread.specs.declared.Found.TheVariants as found
 use Rattle.varint.proofs.Groups.{size, size-some}
 use Rattle.varint.proofs.Bytes.{length_big, length_big_with_start}
 use Rattle.varint.proofs.ReadsBack.{big_endian-reads_back, with_start_reads_back}
 use Rattle.varint.proofs.Shortest.{big_endian-shortest, with_start_shortest}
 use Rattle.exceptiontable.specs.Entry.{Entry}
-use Rattle.exceptiontable.specs.Reading.{taken_as, first_number, later_number, and_then, code_from, target_from, size_from, entry_at, Run, ended, go_on, run_from}
+use Rattle.exceptiontable.specs.Reading.{entry_of, taken_as, first_number, later_number, and_then, code_from, target_from, size_from, entry_at, Run, ended, go_on, run_from}
 use Rattle.exceptiontable.specs.Writing.{code_of, bytes_of, table_of, encoded_from}
 use Rattle.exceptiontable.specs.Promised.{Fit, AllFit}
-use Rattle.exceptiontable.specs.declared.Taken.{Taken}
-use Rattle.exceptiontable.specs.declared.Taken.TheVariants as taken
 use Rattle.exceptiontable.specs.declared.Handler.{Handler}
-use Rattle.exceptiontable.specs.declared.Handler.TheVariants as handler
-use Rattle.exceptiontable.specs.declared.Encoded.TheVariants as encoded
+use Rattle.exceptiontable.proofs.OneByte.{number}
 use Rattle.exceptiontable.proofs.Places.{Placed, entry-placed}
 use Rattle.exceptiontable.proofs.Encoding.{entry_size, length-bytes}
 
@@ -35,18 +34,18 @@ use Rattle.exceptiontable.proofs.Encoding.{entry_size, length-bytes}
 
 -- a number that stands in a table, wherever
 later_back : (table before : List ℕ) (at n : ℕ) (after : List ℕ) → table ≡ before ++ (big_endian n ++ after) → at ≡ length before → n < 2 ^ 32
-    → later_number table at ≡ taken.Number n (at + length (big_endian n))
+    → later_number table at ≡ number n (at + length (big_endian n))
 unfolding later_number
 later_back table before at n after t a f = rw (t, a, big_endian-reads_back before n after f)
 
 first_back : (table before : List ℕ) (at n : ℕ) (after : List ℕ) → table ≡ before ++ (big_endian_with_start n ++ after) → at ≡ length before → n < 2 ^ 32
-    → first_number table at ≡ taken.Number n (at + length (big_endian_with_start n))
+    → first_number table at ≡ number n (at + length (big_endian_with_start n))
 unfolding first_number
 first_back table before at n after t a f = rw (t, a, with_start_reads_back before n after f)
 
 -- an entry that stands in a table, wherever
 entry_back : (table before : List ℕ) (at : ℕ) (e : Entry) (after : List ℕ) → Fit e → table ≡ before ++ (bytes_of e ++ after) → at ≡ length before
-    → entry_at table at ≡ handler.Whole e.start e.size e.target e.depth e.last (at + length (bytes_of e))
+    → entry_at table at ≡ Ok (record { start = e.start; size = e.size; target = e.target; depth = e.depth; last = e.last; next = at + length (bytes_of e) })
 unfolding entry_at size_from target_from code_from bytes_of
 entry_back table before at e after f t a =
     let A = big_endian_with_start e.start in
@@ -102,42 +101,41 @@ table_reads_back es f = run_back (length (table_of es)) (table_of es) [] 0 es f 
 -- ---- the shortest form
 
 -- An entry whose four numbers, written after a place, would end where the reading did or before, but for so many bytes.
-abbrev Short : ℕ → ℕ → Handler → Type 0
-Short at over (handler.Whole start size' target depth last next) =
-    at + (size start + size size' + size target + size (depth * 2 + last)) ≤ next + over
-Short at over (handler.Refused number place) = Unit {0}
+abbrev Short : ℕ → ℕ → Result Handler Fault → Type 0
+Short at over (Ok h) = at + entry_size (entry_of h) ≤ h.next + over
+Short at over (Err why) = Unit {0}
 
-short_less : (at over at' over' : ℕ) (h : Handler) → at + over' ≤ at' + over → Short at' over' h → Short at over h
-short_less at over at' over' (handler.Whole start size' target depth last next) l k = omega arith
-short_less at over at' over' (handler.Refused number place) l k = tt
+short_less : (at over at' over' : ℕ) (r : Result Handler Fault) → at + over' ≤ at' + over → Short at' over' r → Short at over r
+short_less at over at' over' (Ok h) l k = omega arith
+short_less at over at' over' (Err why) l k = tt
 
 -- a number is no shorter than it is written
-abbrev NoLonger : ℕ → Taken → Type 0
-NoLonger at (taken.Number value next) = at + size value ≤ next
-NoLonger at (taken.Refused number place) = Unit {0}
+abbrev NoLonger : ℕ → Result Found Fault → Type 0
+NoLonger at (Ok f) = at + size f.value ≤ f.next
+NoLonger at (Err why) = Unit {0}
 
 later_short : (table : List ℕ) (at : ℕ) → NoLonger at (later_number table at)
 unfolding later_number
 later_short table at = go (read_varint table at) refl
   where
-    go : (f : Found) → read_varint table at ≡ f → NoLonger at (taken_as data_too_short (length table) f)
-    go (found.Number value next) e = omega (arith, big_endian-shortest table at value next e, length_big value)
-    go found.Nothing e = tt
-    go (found.Refused n p) e = tt
+    go : (r : Reading) → read_varint table at ≡ r → NoLonger at (taken_as (fault DataTooShort (length table)) r)
+    go (Ok (Some f)) e = omega (arith, big_endian-shortest table at f.value f.next e, length_big f.value)
+    go (Ok None) e = tt
+    go (Err why) e = tt
 
 first_short : (table : List ℕ) (at : ℕ) → NoLonger at (first_number table at)
 unfolding first_number
 first_short table at = go (read_varint_with_start table at) refl
   where
-    go : (f : Found) → read_varint_with_start table at ≡ f → NoLonger at (taken_as no_marker at f)
-    go (found.Number value next) e = omega (arith, with_start_shortest table at value next e, length_big_with_start value)
-    go found.Nothing e = tt
-    go (found.Refused n p) e = tt
+    go : (r : Reading) → read_varint_with_start table at ≡ r → NoLonger at (taken_as (fault NoMarker at) r)
+    go (Ok (Some f)) e = omega (arith, with_start_shortest table at f.value f.next e, length_big_with_start f.value)
+    go (Ok None) e = tt
+    go (Err why) e = tt
 
-then-short : (at over : ℕ) (t : Taken) (k : ℕ → ℕ → Handler) → NoLonger at t
+then-short : (at over : ℕ) (t : Result Found Fault) (k : ℕ → ℕ → Result Handler Fault) → NoLonger at t
     → ((value next : ℕ) → at + size value ≤ next → Short at over (k value next)) → Short at over (and_then t k)
-then-short at over (taken.Number value next) k n f = f value next n
-then-short at over (taken.Refused number place) k n f = tt
+then-short at over (Ok x) k n f = f x.value x.next n
+then-short at over (Err why) k n f = tt
 
 module _ (table : List ℕ) where
   code-short : (at start size' target : ℕ) → Short at (size start + size size' + size target) (code_from table at start size' target)
@@ -181,19 +179,18 @@ module _ (table : List ℕ) where
   run-told zero at es h e = subst (λ (l : List Entry). (at + length (table_of l) ≤ length table) × AllFit l) (ap (λ (r : Run). r.entries) e) (none_short at h, tt)
   run-told (suc bound) at es h e = go (ltb at (length table)) refl e (run-told bound)
     where
-      whole : (x : Handler) → Short at 0 x → Placed (length table) at x
+      whole : (x : Result Handler Fault) → Short at 0 x → Placed (length table) at x
           → ((i : ℕ) (l : List Entry) → i ≤ length table → run_from bound table i ≡ record { entries = l; stopped = none }
           → (i + length (table_of l) ≤ length table) × AllFit l)
           → go_on x (run_from bound table) ≡ record { entries = es; stopped = none } → (at + length (table_of es) ≤ length table) × AllFit es
-      whole (handler.Whole start size' target depth last next) short placed i c =
-          let r = run_from bound table next in
+      whole (Ok h) short placed i c =
+          let r = run_from bound table h.next in
           let stop : r.stopped ≡ none = ap (λ (q : Run). q.stopped) c in
-          let told = i next r.entries placed.1 (ap (λ (o : Option (ℕ × ℕ)). record { entries = r.entries; stopped = o }) stop) in
-          let added : Entry = record { start = start; size = size'; target = target; depth = depth; last = last } in
+          let told = i h.next r.entries placed.1 (ap (λ (o : Option Fault). record { entries = r.entries; stopped = o }) stop) in
           subst (λ (l : List Entry). (at + length (table_of l) ≤ length table) × AllFit l) (ap (λ (q : Run). q.entries) c)
-          (more_short at next added r.entries (omega (arith, short)) told.0, (placed.2, told.1))
-      whole (handler.Refused number place) short placed i c =
-          let stop : ◌≡◌ {A = Option (ℕ × ℕ)} (some (number, place)) none = ap (λ (q : Run). q.stopped) c in
+          (more_short at h.next (entry_of h) r.entries (omega (arith, short)) told.0, (placed.2, told.1))
+      whole (Err why) short placed i c =
+          let stop : ◌≡◌ {A = Option Fault} (some why) none = ap (λ (q : Run). q.stopped) c in
           let z : ◌≡◌ {A = ℕ} 0 1 = cc in
           absurd (omega arith)
 
@@ -216,11 +213,11 @@ module _ (table : List ℕ) where
 
 -- entries that fit are written where there is room
 pub fit_written : (most used : ℕ) (es : List Entry) → AllFit es → used + length (table_of es) ≤ most
-    → encoded_from most used es ≡ encoded.Done (used + length (table_of es))
+    → encoded_from most used es ≡ Ok (used + length (table_of es))
 unfolding encoded_from table_of
 fit_written most used [] f h = rw add-zero
 fit_written most used (e ∷ es) f h =
     let l : length (bytes_of e ++ table_of es) ≡ length (bytes_of e) + length (table_of es) = length-append (bytes_of e) (table_of es) in
     let n : used + length (bytes_of e) + length (table_of es) ≡ used + length (bytes_of e ++ table_of es) = omega (arith, l) in
     rw (lt-ltb e.depth (2 ^ 31) f.0.depth, lt-ltb e.last 2 f.0.last, le-ltb most (used + length (bytes_of e)) (omega (arith, l)))
-    (fit_written most (used + length (bytes_of e)) es f.1 (omega (arith, l)) ∙ ap encoded.Done n)
+    (fit_written most (used + length (bytes_of e)) es f.1 (omega (arith, l)) ∙ ap Ok n)

@@ -1,10 +1,9 @@
 -- What 02's K1 promises of exception tables, each sentence a field. `proofs/Promised` has the theorem.
-use Rattle.std.specs.Prelude.{◌≡◌, List, [], ◌∷◌, ℕ, ◌^◌, ◌≤◌, ◌<◌, length}
+use Rattle.std.specs.Prelude.{◌≡◌, List, [], ◌∷◌, ℕ, ◌^◌, ◌≤◌, ◌<◌, length, Ok}
 use Rattle.std.proofs.Math.Option.{none}
 use Rattle.exceptiontable.specs.Entry.{Entry}
 use Rattle.exceptiontable.specs.Reading.{run_from}
 use Rattle.exceptiontable.specs.Writing.{table_of, encoded_from}
-use Rattle.exceptiontable.specs.declared.Encoded.TheVariants as encoded
 
 -- An entry that can be written: each of its four numbers fits in 32 bits, and the bit is one.
 pub record Fit (e : Entry) : Type 0 where
@@ -30,4 +29,4 @@ pub record Promised : Type 0 where
   -- what is read can be written again, and reads the same
   pub again : (table : List ℕ) (es : List Entry) → ReadsAs table es → AllFit es × ReadsAs (table_of es) es
   -- what can be written is written wherever there is room
-  pub written : (room : ℕ) (es : List Entry) → AllFit es → length (table_of es) ≤ room → encoded_from room 0 es ≡ encoded.Done (length (table_of es))
+  pub written : (room : ℕ) (es : List Entry) → AllFit es → length (table_of es) ≤ room → encoded_from room 0 es ≡ Ok (length (table_of es))

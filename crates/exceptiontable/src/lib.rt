@@ -2,134 +2,97 @@
 // numbers an entry. Reading takes varints as K5 has them; writing puts each number behind the last, over a cleared output.
 #![tactic(auto)]
 
-ghost use Rattle.std.specs.Prelude.{◌≡◌, [], ◌∷◌, ◌+◌, ◌≤◌, ◌<◌, min, length, get_or};
+ghost use Rattle.std.specs.Prelude.{◌≡◌, ◌+◌, ◌≤◌, ◌<◌, length, get_or, IfErr};
 ghost use Rattle.std.proofs.lemmas.List.Edits.{sets};
-ghost use Rattle.refusals.specs.Limits.{most_bytes, nothing};
+ghost use Rattle.refusals.specs.Limits.{most_bytes};
 ghost use Rattle.clearing.specs.Lent.{zeros};
-ghost use Rattle.exceptiontable.specs.declared.Encoded.TheVariants as Encoded;
-ghost use Rattle.exceptiontable.specs.Entry.{entry_in};
-ghost use Rattle.exceptiontable.specs.Reading.{first_number, later_number, code_from, target_from, size_from, entry_at, decoded_of};
+ghost use Rattle.clearing.specs.Refused.{unless_refused};
+ghost use Rattle.exceptiontable.specs.Entry.{entry_in, numbers};
+ghost use Rattle.exceptiontable.specs.Reading.{first_number, later_number, taken_as, entry_of, entry_at, decoded_of};
 ghost use Rattle.exceptiontable.specs.Writing.{bytes_of, encoded_of};
 
-use varintread::Found;
+use refusals::{Fault, Refusal};
+use varintread::{Found, Unread};
 
-// A number of a table and the place behind it, or a refusal's number and place.
-#[derive(Clone, Copy)]
-pub enum Taken {
-    Number(u32, usize),
-    Refused(u32, u32),
+// An entry that was read, and the place behind it.
+#[derive(Clone, Copy, Debug, PartialEq, Eq)]
+pub struct Handler {
+    pub start: u32,
+    pub size: u32,
+    pub target: u32,
+    pub depth: u32,
+    pub last: u32,
+    pub next: usize,
 }
 
-// An entry and the place behind it, or a refusal's number and place.
-#[derive(Clone, Copy)]
-pub enum Handler {
-    Whole {
-        start: u32,
-        size: u32,
-        target: u32,
-        depth: u32,
-        last: u32,
-        next: usize,
-    },
-    Refused {
-        number: u32,
-        place: u32,
-    },
-}
-
-// A reading's answer: how many entries there are, or a refusal's number and place.
-#[derive(Clone, Copy)]
-pub enum Decoded {
-    Done(u32),
-    Refused(u32, u32),
-}
-
-// A writing's answer: how many bytes were written, or a refusal's number and place.
-#[derive(Clone, Copy)]
-pub enum Encoded {
-    Done(u32),
-    Refused(u32, u32),
-}
-
-// Reads every entry of a table into the lent store, five numbers an entry.
-pub fn decode_exception_table(table: &[u8], entries: &mut [u32]) -> Decoded
+// Reads every entry of a table into the lent store, five numbers an entry; the answer is how many there are.
+// `encode_exception_table` is alike but for the kind of store and the function it calls: a closure for that would be longer than both.
+pub fn decode_exception_table(table: &[u8], entries: &mut [u32]) -> Result<u32, Fault>
     ensures { (result, entries.new) ≡ decoded_of table.now (length entries.old) }
 {
     clearing::clear_words(entries);
+    let decoded = read_entries(table, entries);
+    if decoded.is_err() {
+        clearing::clear_words(entries);
+    }
+    decoded
+}
+
+// Writes the whole groups of five numbers of a store as a table, in the shortest form; the answer is how many bytes it takes.
+pub fn encode_exception_table(entries: &[u32], out: &mut [u8]) -> Result<u32, Fault>
+    ensures { (result, out.new) ≡ encoded_of entries.now (length out.old) }
+{
+    clearing::clear_bytes(out);
+    let encoded = write_entries(entries, out);
+    if encoded.is_err() {
+        clearing::clear_bytes(out);
+    }
+    encoded
+}
+
+// The entries over a cleared store, which a refusal leaves as far as they were read.
+// The loop goes from entry to entry and counts no index.
+fn read_entries(table: &[u8], entries: &mut [u32]) -> Result<u32, Fault>
+    requires { entries.old ≡ zeros (length entries.old) }
+    ensures { (result, unless_refused result entries.new) ≡ decoded_of table.now (length entries.old) }
+{
     if (refusals::MOST_BYTES as usize) < table.len() {
-        return Decoded::Refused(refusals::INPUT_TOO_LONG, 0);
+        return Err(Refusal::InputTooLong.at(0));
     }
     let mut at = 0;
     let mut count = 0;
     while at < table.len() {
-        match read_entry(table, at) {
-            Handler::Refused { number, place } => {
-                clearing::clear_words(entries);
-                return Decoded::Refused(number, place);
-            }
-            Handler::Whole {
-                start,
-                size,
-                target,
-                depth,
-                last,
-                next,
-            } => {
-                if entries.len() / 5 <= count {
-                    clearing::clear_words(entries);
-                    return Decoded::Refused(refusals::NO_ROOM, count as u32);
-                }
-                store_entry(entries, 5 * count, start, size, target, depth, last);
-                count += 1;
-                at = next;
-            }
+        let handler = read_entry(table, at)?;
+        if entries.len() / 5 <= count {
+            return Err(Refusal::NoRoom.at(count as u32));
         }
+        store_entry(entries, 5 * count, &handler);
+        count += 1;
+        at = handler.next;
     }
-    Decoded::Done(count as u32)
+    Ok(count as u32)
 }
 
-// Writes the whole groups of five numbers of a store as a table, in the shortest form.
-pub fn encode_exception_table(entries: &[u32], out: &mut [u8]) -> Encoded
-    ensures { (result, out.new) ≡ encoded_of entries.now (length out.old) }
+// The entries' bytes over a cleared output, which a refusal leaves as far as they were written.
+fn write_entries(entries: &[u32], out: &mut [u8]) -> Result<u32, Fault>
+    requires { out.old ≡ zeros (length out.old) }
+    ensures { (result, unless_refused result out.new) ≡ encoded_of entries.now (length out.old) }
 {
-    clearing::clear_bytes(out);
-    let room = at_most_32_bits(out.len());
-    let mut at = 0;
+    let room = out.len().min(refusals::NOTHING as usize);
     let mut used = 0;
-    let mut left = entries.len() / 5;
-    while 0 < left {
-        if 0x8000_0000 <= entries[at + 3] {
-            return refuse(out, refusals::NUMBER_RANGE, 0);
+    for i in 0..entries.len() / 5 {
+        if 0x8000_0000 <= entries[5 * i + 3] {
+            return Err(Refusal::NumberRange.at(0));
         }
-        if 2 <= entries[at + 4] {
-            return refuse(out, refusals::NUMBER_RANGE, 0);
+        if 2 <= entries[5 * i + 4] {
+            return Err(Refusal::NumberRange.at(0));
         }
-        if room < used + entry_size(entries, at) {
-            return refuse(out, refusals::NO_ROOM, room as u32);
+        if room < used + entry_size(entries, 5 * i) {
+            return Err(Refusal::NoRoom.at(room as u32));
         }
-        used = put_entry(out, used, entries, at);
-        at += 5;
-        left -= 1;
+        used = put_entry(out, used, entries, 5 * i);
     }
-    Encoded::Done(used as u32)
-}
-
-// An output's length, which counts as at most 4,294,967,295.
-fn at_most_32_bits(len: usize) -> usize
-    ensures { (result ≡ min len nothing) × (result ≤ len) × (result ≤ 4294967295) }
-{
-    if len < 4294967295 {
-        return len;
-    }
-    4294967295
-}
-
-// A refusal leaves the whole output zero.
-fn refuse(out: &mut [u8], number: u32, place: u32) -> Encoded
-    ensures { (result ≡ Encoded.Refused number place) × (out.new ≡ zeros (length out.old)) }
-{
-    clearing::clear_bytes(out);
-    Encoded::Refused(number, place)
+    Ok(used as u32)
 }
 
 // How many bytes an entry of the store takes.
@@ -156,120 +119,99 @@ fn put_entry(out: &mut [u8], used: usize, entries: &[u32], at: usize) -> usize
 }
 
 // The number that an entry starts with, which has the marker. Most are of one byte.
-fn first_number(table: &[u8], at: usize) -> Taken
+fn first_number(table: &[u8], at: usize) -> Result<Found, Fault>
     requires { (length table.now ≤ most_bytes) × (at ≤ length table.now) }
     ensures { result ≡ first_number table.now at }
 {
     if at < table.len() {
         let byte = table[at];
         if byte / 0x40 == 2 {
-            return Taken::Number((byte % 64) as u32, at + 1);
+            return Ok(Found {
+                value: (byte % 64) as u32,
+                next: at + 1,
+            });
         }
     }
     any_first_number(table, at)
 }
 
 // A later number of an entry. Most are of one byte.
-fn later_number(table: &[u8], at: usize) -> Taken
+fn later_number(table: &[u8], at: usize) -> Result<Found, Fault>
     requires { length table.now ≤ most_bytes }
     ensures { result ≡ later_number table.now at }
 {
     if at < table.len() {
         let byte = table[at];
         if byte / 0x40 % 2 == 0 {
-            return Taken::Number((byte % 64) as u32, at + 1);
+            return Ok(Found {
+                value: (byte % 64) as u32,
+                next: at + 1,
+            });
         }
     }
     any_later_number(table, at)
 }
 
 // The same, of any number of bytes.
-fn any_first_number(table: &[u8], at: usize) -> Taken
+fn any_first_number(table: &[u8], at: usize) -> Result<Found, Fault>
     requires { (length table.now ≤ most_bytes) × (at ≤ length table.now) }
     ensures { result ≡ first_number table.now at }
 {
-    match varintread::read_varint_with_start(table, at) {
-        Found::Number { value, next } => Taken::Number(value, next),
-        Found::Nothing => Taken::Refused(refusals::NO_MARKER, at as u32),
-        Found::Refused { number, place } => Taken::Refused(number, place as u32),
-    }
+    taken(
+        varintread::read_varint_with_start(table, at),
+        Refusal::NoMarker.at(at as u32),
+    )
 }
 
-fn any_later_number(table: &[u8], at: usize) -> Taken
+fn any_later_number(table: &[u8], at: usize) -> Result<Found, Fault>
     requires { length table.now ≤ most_bytes }
     ensures { result ≡ later_number table.now at }
 {
-    match varintread::read_varint(table, at) {
-        Found::Number { value, next } => Taken::Number(value, next),
-        Found::Nothing => Taken::Refused(refusals::DATA_TOO_SHORT, table.len() as u32),
-        Found::Refused { number, place } => Taken::Refused(number, place as u32),
+    taken(
+        varintread::read_varint(table, at),
+        Refusal::DataTooShort.at(table.len() as u32),
+    )
+}
+
+// A number that was read; where there is none, the refusal that says so.
+fn taken(read: Result<Option<Found>, Unread>, missing: Fault) -> Result<Found, Fault>
+    requires { IfErr read (λ why. why.place ≤ most_bytes) }
+    ensures { result ≡ taken_as missing read }
+{
+    match read {
+        Ok(Some(found)) => Ok(found),
+        Ok(None) => Err(missing),
+        Err(why) => Err(why.refusal.at(why.place as u32)),
     }
 }
 
 // One entry.
-fn read_entry(table: &[u8], at: usize) -> Handler
+fn read_entry(table: &[u8], at: usize) -> Result<Handler, Fault>
     requires { (length table.now ≤ most_bytes) × (at ≤ length table.now) }
     ensures { result ≡ entry_at table.now at }
 {
-    match first_number(table, at) {
-        Taken::Number(start, next) => read_size(table, next, start),
-        Taken::Refused(number, place) => Handler::Refused { number, place },
-    }
+    let start = first_number(table, at)?;
+    let size = later_number(table, start.next)?;
+    let target = later_number(table, size.next)?;
+    let code = later_number(table, target.next)?;
+    Ok(Handler {
+        start: start.value,
+        size: size.value,
+        target: target.value,
+        depth: code.value / 2,
+        last: code.value % 2,
+        next: code.next,
+    })
 }
 
-fn read_size(table: &[u8], at: usize, start: u32) -> Handler
-    requires { length table.now ≤ most_bytes }
-    ensures { result ≡ size_from table.now at start }
-{
-    match later_number(table, at) {
-        Taken::Number(size, next) => read_target(table, next, start, size),
-        Taken::Refused(number, place) => Handler::Refused { number, place },
-    }
-}
-
-fn read_target(table: &[u8], at: usize, start: u32, size: u32) -> Handler
-    requires { length table.now ≤ most_bytes }
-    ensures { result ≡ target_from table.now at start size }
-{
-    match later_number(table, at) {
-        Taken::Number(target, next) => read_code(table, next, start, size, target),
-        Taken::Refused(number, place) => Handler::Refused { number, place },
-    }
-}
-
-fn read_code(table: &[u8], at: usize, start: u32, size: u32, target: u32) -> Handler
-    requires { length table.now ≤ most_bytes }
-    ensures { result ≡ code_from table.now at start size target }
-{
-    match later_number(table, at) {
-        Taken::Number(code, next) => Handler::Whole {
-            start,
-            size,
-            target,
-            depth: code / 2,
-            last: code % 2,
-            next,
-        },
-        Taken::Refused(number, place) => Handler::Refused { number, place },
-    }
-}
-
-// Five numbers into the store, from a place on.
-fn store_entry(
-    entries: &mut [u32],
-    at: usize,
-    start: u32,
-    size: u32,
-    target: u32,
-    depth: u32,
-    last: u32,
-)
+// An entry's five numbers into the store, from a place on.
+fn store_entry(entries: &mut [u32], at: usize, handler: &Handler)
     requires { at + 5 ≤ length entries.old }
-    ensures { entries.new ≡ sets entries.old at (start ∷ size ∷ target ∷ depth ∷ last ∷ []) }
+    ensures { entries.new ≡ sets entries.old at (numbers (entry_of handler.now)) }
 {
-    entries[at] = start;
-    entries[at + 1] = size;
-    entries[at + 2] = target;
-    entries[at + 3] = depth;
-    entries[at + 4] = last;
+    entries[at] = handler.start;
+    entries[at + 1] = handler.size;
+    entries[at + 2] = handler.target;
+    entries[at + 3] = handler.depth;
+    entries[at + 4] = handler.last;
 }

@@ -11,7 +11,11 @@ use lib.Dec.{eqb, ltb, leb}
 use lib.ListN.{length, get_or, take, drop}
 use lib.Seq.{take-nil, drop-nil}
 use borrow.Author.Tests.{ne_eqb, leb-true, leb-false, le-leb, lt-leb, lt-ltb, le-ltb}
+use Rattle.std.specs.Prelude.{Result, Ok, Err}
 use Rattle.refusals.specs.Numbers.{unknown_type, data_too_short, invalid_bytecode, invalid_utf8}
+use Rattle.refusals.specs.Faults.{number_of, refused}
+use Rattle.refusals.specs.declared.Fault.{Fault}
+use Rattle.refusals.specs.declared.Refusal.TheVariants.{DataTooShort, InvalidBytecode, InvalidUtf8}
 use Rattle.wtf8.specs.Forms.{well_formed}
 use Rattle.grammar.specs.Reading.{Answer, stops}
 use Rattle.grammar.specs.Letters as letter
@@ -19,10 +23,7 @@ use Rattle.grammar.specs.Letters.{Class, keeps, contains, refuses, found}
 use Rattle.grammar.specs.Fields.{Fields, field, span, items, size32, string, contents, le16, le32, digits, last_digit, numbers, digit_count, pylong, fields, contained}
 use Rattle.fields.specs.Behind.{Judges, Reads, fields_of}
 use Rattle.fields.specs.declared.Behind.{Behind}
-use Rattle.fields.specs.declared.Behind.TheVariants as behind
 use Rattle.fields.specs.declared.Kids.TheVariants as kids
-use Rattle.fields.specs.declared.Judged.{Judged}
-use Rattle.fields.specs.declared.Judged.TheVariants as judged
 
 -- The letter is none of these: as a `match` with an arm for each tells it, one fact after another.
 abbrev pub Absent : Type 0 → ℕ → List (ℕ × Class) → Type 0
@@ -55,12 +56,12 @@ pub record Passed (s : List ℕ) (end : ℕ) (test : Answer Fields → Answer Fi
   pub within : end ≤ length s
   pub exact : (rest : Answer Fields) → rest ≡ test rest
 
-pub passed : {s : List ℕ} {end : ℕ} {test : Answer Fields → Answer Fields} {r : Judged} → Judges s end test r → r ≡ judged.Fine → Passed s end test
-passed {s} {end} {test} {r} j e =
+pub passed : {s : List ℕ} {end : ℕ} {test : Answer Fields → Answer Fields} {r : Result (Unit {0}) Fault} → Judges s end test r → {u : Unit {0}} → r ≡ Ok u → Passed s end test
+passed {s} {end} {test} {r} j {u} e =
     record { within = rw e at j.within; exact = λ rest. rw e at (j.exact rest) }
 
-pub failed : {s : List ℕ} {end : ℕ} {test : Answer Fields → Answer Fields} {r : Judged} {number place : ℕ} → Judges s end test r
-    → r ≡ judged.Refused number place → (rest : Answer Fields) → stops number place ≡ test rest
+pub failed : {s : List ℕ} {end : ℕ} {test : Answer Fields → Answer Fields} {r : Result (Unit {0}) Fault} {f : Fault} → Judges s end test r
+    → r ≡ Err f → (rest : Answer Fields) → stops (number_of f.refusal) f.place ≡ test rest
 failed j e rest = rw e at (j.exact rest)
 
 -- One law for every field of a fixed size.
@@ -122,19 +123,19 @@ module _ (s : List ℕ) (at size : ℕ) {t : Bool} (here : at + size ≤ length 
       let formed : t ≡ well_formed (contents s at size) = is ∙ ap well_formed (part s at size) in
       rw formed (field_in s at size _ here)
 
-  pub string-bad : t ≡ false → Judges s (at + size) (string s at size) (judged.Refused invalid_utf8 at)
+  pub string-bad : t ≡ false → Judges s (at + size) (string s at size) (refused InvalidUtf8 at)
   string-bad no_form = record { within = tt; exact = λ rest. rw no_form at (string_is rest) }
 
-  pub string_in : t ≡ true → Judges s (at + size) (string s at size) judged.Fine
+  pub string_in : t ≡ true → Judges s (at + size) (string s at size) (Ok tt)
   string_in form = record { within = here; exact = λ rest. rw form at (string_is rest) }
 
 -- Contents behind a length.
 module _ {s : List ℕ} {at size : ℕ} (fine : Passed s (at + 4) (size32 s at)) (is : size ≡ le32 s at) where
-  pub bytes_cut : length s < at + 4 + size → Reads s (contains letter.bytes) at (behind.Refused data_too_short (at + 4))
+  pub bytes_cut : length s < at + 4 + size → Reads s (contains letter.bytes) at (refused DataTooShort (at + 4))
   unfolding fields_of contained
   bytes_cut h = record { ahead = tt; exact = field_cut s (at + 4) (le32 s at) _ (rw is at h) ∙ fine.exact _ }
 
-  pub bytes_in_lem : at + 4 + size ≤ length s → Reads s (contains letter.bytes) at (behind.Span (at + 4) size (kids.Items 0))
+  pub bytes_in_lem : at + 4 + size ≤ length s → Reads s (contains letter.bytes) at (Ok (record { place = (at + 4); size = size; kids = kids.Items 0 }))
   unfolding fields_of contained
   bytes_in_lem h =
       record {
@@ -142,23 +143,23 @@ module _ {s : List ℕ} {at size : ℕ} (fine : Passed s (at + 4) (size32 s at))
         exact = rw is (field_in s (at + 4) (le32 s at) _ (rw is at h) ∙ fine.exact _);
       }
 
-  pub text-bad : {number place : ℕ} → ((rest : Answer Fields) → stops number place ≡ string s (at + 4) size rest)
-      → Reads s (contains letter.text) at (behind.Refused number place)
+  pub text-bad : {f : Fault} → ((rest : Answer Fields) → stops (number_of f.refusal) f.place ≡ string s (at + 4) size rest)
+      → Reads s (contains letter.text) at (Err f)
   unfolding fields_of contained
   text-bad bad = record { ahead = tt; exact = (rw is at (bad (span (at + 4) size (items 0)))) ∙ fine.exact _ }
 
-  pub text_in : Passed s (at + 4 + size) (string s (at + 4) size) → Reads s (contains letter.text) at (behind.Span (at + 4) size (kids.Items 0))
+  pub text_in : Passed s (at + 4 + size) (string s (at + 4) size) → Reads s (contains letter.text) at (Ok (record { place = (at + 4); size = size; kids = kids.Items 0 }))
   unfolding fields_of contained
   text_in good =
       record { ahead = (omega arith, good.within); exact = rw is ((rw is at (good.exact (span (at + 4) size (items 0)))) ∙ fine.exact _) }
 
 module _ {s : List ℕ} {at size : ℕ} (here : at + 1 ≤ length s) (is : size ≡ get_or s at 0) where
-  pub short-bad : {number place : ℕ} → ((rest : Answer Fields) → stops number place ≡ string s (at + 1) size rest)
-      → Reads s (contains letter.short) at (behind.Refused number place)
+  pub short-bad : {f : Fault} → ((rest : Answer Fields) → stops (number_of f.refusal) f.place ≡ string s (at + 1) size rest)
+      → Reads s (contains letter.short) at (Err f)
   unfolding fields_of contained
   short-bad bad = record { ahead = tt; exact = (rw is at (bad (span (at + 1) size (items 0)))) ∙ field_in s at 1 _ here }
 
-  pub short_in : Passed s (at + 1 + size) (string s (at + 1) size) → Reads s (contains letter.short) at (behind.Span (at + 1) size (kids.Items 0))
+  pub short_in : Passed s (at + 1 + size) (string s (at + 1) size) → Reads s (contains letter.short) at (Ok (record { place = (at + 1); size = size; kids = kids.Items 0 }))
   unfolding fields_of contained
   short_in good =
       record { ahead = (omega arith, good.within); exact = rw is ((rw is at (good.exact (span (at + 1) size (items 0)))) ∙ field_in s at 1 _ here) }
@@ -185,14 +186,14 @@ pub record Judging (s : List ℕ) (count at left place : ℕ) : Type 0 where
   pub comes : (rest : Answer Fields) → digits s left place rest ≡ digits s count at rest
 
 module _ {s : List ℕ} {count at left place : ℕ} (so : Judging s count at left place) where
-  pub all_judged : left ≤ 0 → Judges s (at + 2 * count) (digits s count at) judged.Fine
+  pub all_judged : left ≤ 0 → Judges s (at + 2 * count) (digits s count at) (Ok tt)
   unfolding digits
   all_judged h =
       let none : left ≡ 0 = omega arith in
       record { within = omega (arith, so.stands, so.within); exact = λ rest. rw none at (so.comes rest) }
 
   module _ (more : 0 < left) where
-    pub digit-cut : length s < place + 2 → Judges s (at + 2 * count) (digits s count at) (judged.Refused data_too_short place)
+    pub digit-cut : length s < place + 2 → Judges s (at + 2 * count) (digits s count at) (refused DataTooShort place)
     digit-cut h =
         record {
           within = tt;
@@ -203,7 +204,7 @@ module _ {s : List ℕ} {count at left place : ℕ} (so : Judging s count at lef
       judging : (rest : Answer Fields) → cond (ltb d 32768) (digits s (left - 1) (place + 2) rest) (stops invalid_bytecode place) ≡ digits s count at rest
       judging rest = rw is (field_in s place 2 _ here ∙ sym (digit s left place rest more) ∙ so.comes rest)
 
-      pub digit-bad : 32768 ≤ d → Judges s (at + 2 * count) (digits s count at) (judged.Refused invalid_bytecode place)
+      pub digit-bad : 32768 ≤ d → Judges s (at + 2 * count) (digits s count at) (refused InvalidBytecode place)
       digit-bad h = record { within = tt; exact = λ rest. rw (le-ltb d 32768 h) at (judging rest) }
 
       pub digit-fine : d < 32768 → Judging s count at (left - 1) (place + 2)
@@ -222,22 +223,22 @@ unfolding fields_of fields
 long_is s at count here is = ap (pylong s at) is ∙ field_in s at 4 (pylong s at (digit_count (le32 s at))) here
 
 module _ {s : List ℕ} {at count : ℕ} (here : at + 4 ≤ length s) (is : count ≡ digit_count (le32 s at)) where
-  pub long-digits : {number place : ℕ} → ((rest : Answer Fields) → stops number place ≡ digits s count (at + 4) rest)
-      → Reads s (keeps letter.long) at (behind.Refused number place)
+  pub long-digits : {f : Fault} → ((rest : Answer Fields) → stops (number_of f.refusal) f.place ≡ digits s count (at + 4) rest)
+      → Reads s (keeps letter.long) at (Err f)
   unfolding pylong
   long-digits bad = record { ahead = tt; exact = bad _ ∙ long_is s at count here is }
 
   module _ (fine : Passed s (at + 4 + 2 * count) (digits s count (at + 4))) where
-    pub long_last : {number place : ℕ} → ((rest : Answer Fields) → stops number place ≡ last_digit s count (at + 4) rest)
-        → Reads s (keeps letter.long) at (behind.Refused number place)
+    pub long_last : {f : Fault} → ((rest : Answer Fields) → stops (number_of f.refusal) f.place ≡ last_digit s count (at + 4) rest)
+        → Reads s (keeps letter.long) at (Err f)
     unfolding pylong
     long_last bad = record { ahead = tt; exact = bad _ ∙ fine.exact _ ∙ long_is s at count here is }
 
-    pub long_in : Passed s 0 (last_digit s count (at + 4)) → Reads s (keeps letter.long) at (behind.Span at (4 + 2 * count) (kids.Items 0))
+    pub long_in : Passed s 0 (last_digit s count (at + 4)) → Reads s (keeps letter.long) at (Ok (record { place = at; size = (4 + 2 * count); kids = kids.Items 0 }))
     unfolding pylong
     long_in good =
         record { ahead = (omega arith, omega (arith, fine.within)); exact = good.exact _ ∙ fine.exact _ ∙ long_is s at count here is }
 
 -- The class is the one that its number names.
-pub of_class : {s : List ℕ} {at : ℕ} {class class' : Class} {r : Behind} → class ≡ class' → Reads s class' at r → Reads s class at r
+pub of_class : {s : List ℕ} {at : ℕ} {class class' : Class} {r : Result Behind Fault} → class ≡ class' → Reads s class' at r → Reads s class at r
 of_class is reads = rw is reads

@@ -1,15 +1,14 @@
 -- No export and no promise rests on this page.
 -- What stands behind a header, for any class that is kept, and what the code's answers say of it.
-use Rattle.std.specs.Prelude.{◌≡◌, ℕ, ◌+◌, ◌≤◌, List, length}
+use Rattle.std.specs.Prelude.{◌≡◌, ℕ, ◌+◌, ◌≤◌, List, length, Result, Ok, Err}
+use Rattle.refusals.specs.Faults.{number_of}
+use Rattle.refusals.specs.declared.Fault.{Fault}
 use Rattle.grammar.specs.Reading.{Answer, stops}
 use Rattle.grammar.specs.Letters.{Class, refers, keeps, contains, codes, refuses}
 use Rattle.grammar.specs.Fields.{Fields, Children, items, pairs, parts, span, fields, contained, code_fields}
 use Rattle.fields.specs.declared.Kids.{Kids}
 use Rattle.fields.specs.declared.Kids.TheVariants as kids
 use Rattle.fields.specs.declared.Behind.{Behind}
-use Rattle.fields.specs.declared.Behind.TheVariants as behind
-use Rattle.fields.specs.declared.Judged.{Judged}
-use Rattle.fields.specs.declared.Judged.TheVariants as judged
 
 -- 01, 'Reading a value': "then the fields", from the byte after the header on. A header that is no node has none: it is refused before,
 -- or is a reference, of which nothing is asked here.
@@ -26,29 +25,29 @@ children_of (kids.Items count) = items count
 children_of kids.Pairs = pairs
 children_of kids.Parts = parts
 
-abbrev pub behind_of : Behind → Answer Fields
-behind_of (behind.Span place size children) = span place size (children_of children)
-behind_of (behind.Refused number place) = stops number place
+abbrev pub behind_of : Result Behind Fault → Answer Fields
+behind_of (Ok b) = span b.place b.size (children_of b.kids)
+behind_of (Err f) = stops (number_of f.refusal) f.place
 
 -- The fields lie in the input, from the byte after the header on.
-abbrev pub Ahead : List ℕ → ℕ → Behind → Type 0
-Ahead s at (behind.Span place size children) = (at ≤ place) × (place + size ≤ length s)
-Ahead s at (behind.Refused number place) = Unit
+abbrev pub Ahead : List ℕ → ℕ → Result Behind Fault → Type 0
+Ahead s at (Ok b) = (at ≤ b.place) × (b.place + b.size ≤ length s)
+Ahead s at (Err f) = Unit
 
-pub record Reads (s : List ℕ) (class : Class) (at : ℕ) (r : Behind) : Type 0 where
+pub record Reads (s : List ℕ) (class : Class) (at : ℕ) (r : Result Behind Fault) : Type 0 where
   pub ahead : Ahead s at r
   pub exact : behind_of r ≡ fields_of s class at
 
 -- A test in front of the rest: the rest, or a refusal instead of it.
-abbrev pub or_else : Judged → Answer Fields → Answer Fields
-or_else judged.Fine rest = rest
-or_else (judged.Refused number place) rest = stops number place
+abbrev pub or_else : Result (Unit {0}) Fault → Answer Fields → Answer Fields
+or_else (Ok fine) rest = rest
+or_else (Err f) rest = stops (number_of f.refusal) f.place
 
-abbrev pub Within : List ℕ → ℕ → Judged → Type 0
-Within s end judged.Fine = end ≤ length s
-Within s end (judged.Refused number place) = Unit
+abbrev pub Within : List ℕ → ℕ → Result (Unit {0}) Fault → Type 0
+Within s end (Ok fine) = end ≤ length s
+Within s end (Err f) = Unit
 
 -- where the test is passed, the input reaches to `end`; and the test is `then` in the words of the grammar
-pub record Judges (s : List ℕ) (end : ℕ) (test : Answer Fields → Answer Fields) (r : Judged) : Type 0 where
+pub record Judges (s : List ℕ) (end : ℕ) (test : Answer Fields → Answer Fields) (r : Result (Unit {0}) Fault) : Type 0 where
   pub within : Within s end r
   pub exact : (rest : Answer Fields) → or_else r rest ≡ test rest

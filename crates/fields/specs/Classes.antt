@@ -2,7 +2,10 @@
 -- The classes of 01's letters ('Reading a value', as grammar's Letters has them) by number, so that a header's class can be carried as one.
 -- 0 to 8 are the forms whose place is the byte after the header, 9 to 11 those whose place is their contents, 12 is the code, 13 the
 -- reference, and 14 + n is refused with n.
-use Rattle.std.specs.Prelude.{ℕ, ◌-◌, List, [], ◌∷◌, get_or}
+use Rattle.std.specs.Prelude.{ℕ, ◌+◌, ◌-◌, cond, eqb, List, [], ◌∷◌, get_or}
+use Rattle.refusals.specs.Numbers.{null_object, not_carried}
+use Rattle.refusals.specs.declared.Refusal.{Refusal}
+use Rattle.refusals.specs.declared.Refusal.TheVariants.{NullObject, NotCarried, UnknownType}
 use Rattle.grammar.specs.Letters.{Class, refers, keeps, contains, codes, refuses, single, fixed, double, long, sequence, few, slice, dict, bytes, text, short}
 
 unfoldable pub classes : List Class
@@ -28,3 +31,9 @@ refused_from = 14
 
 unfoldable pub class_at : ℕ → Class
 class_at class = get_or classes class (refuses (class - refused_from))
+
+-- why a letter is refused, by its class
+abbrev pub refusal_of : ℕ → Refusal
+refusal_of class =
+    cond (eqb class (refused_from + null_object)) NullObject
+    (cond (eqb class (refused_from + not_carried)) NotCarried UnknownType)

@@ -6,11 +6,15 @@ ghost use Rattle.std.specs.Prelude.{◌≡◌, ◌+◌, ◌*◌, ◌%◌, ◌≤
 ghost use Rattle.refusals.specs.Limits.{most_bytes};
 ghost use Rattle.grammar.specs.Letters.{class_of, keeps, contains, codes, fixed, double, long, bytes, text, short, sequence, few};
 ghost use Rattle.grammar.specs.Fields;
-ghost use Rattle.wtf8.specs.Leads.{lead_table};
-ghost use Rattle.fields.specs.Classes.{class_at, form_classes, kept_classes};
-ghost use Rattle.fields.specs.Headers.{header_table};
+ghost use Rattle.fields.specs.Classes.{class_at, form_classes, kept_classes, refusal_of};
 ghost use Rattle.fields.specs.Behind.{Reads, Judges};
 
+use byte_tables::ByteTables;
+use cursor::Cursor;
+use refusals::{Fault, Refusal};
+
+pub mod byte_tables;
+pub mod cursor;
 pub mod header_bytes;
 
 // The children to come: so many values, pairs up to the null in a key's place, or the parts of a code.
@@ -21,21 +25,16 @@ pub enum Kids {
     Parts,
 }
 
-// What the fields say: place, size and children; or a refusal with its place.
+// What the fields say: place, size and children.
 #[derive(Clone, Copy)]
-pub enum Behind {
-    Span(u32, u32, Kids),
-    Refused(u32, u32),
-}
-
-// A test in front of the rest.
-#[derive(Clone, Copy)]
-pub enum Judged {
-    Fine,
-    Refused(u32, u32),
+pub struct Behind {
+    pub place: u32,
+    pub size: u32,
+    pub kids: Kids,
 }
 
 // The number of each class, as `specs/Classes` counts them. From REFUSED_CLASS on, a class is its refusal's number above REFUSED_CLASS.
+// They stay numbers, as the table of header bytes holds them: a header's class is then one load.
 pub const SINGLE_CLASS: u32 = 0;
 
 pub const FIXED4_CLASS: u32 = 1;
@@ -65,6 +64,12 @@ pub const CODE_CLASS: u32 = 12;
 pub const REFERENCE_CLASS: u32 = 13;
 
 pub const REFUSED_CLASS: u32 = 14;
+
+pub const UNKNOWN_CLASS: u32 = REFUSED_CLASS + refusals::UNKNOWN_TYPE;
+
+pub const NULL_CLASS: u32 = REFUSED_CLASS + refusals::NULL_OBJECT;
+
+pub const TEXT_NUMBER_CLASS: u32 = REFUSED_CLASS + refusals::NOT_CARRIED;
 
 fn word(byte: u8) -> u32
     ensures { (result ≡ byte) × (result < 256) }
@@ -143,151 +148,176 @@ pub fn class_of(letter: u32) -> u32
         grammar::DICT_LETTER => DICT_CLASS,
         grammar::CODE_LETTER => CODE_CLASS,
         grammar::REFERENCE_LETTER => REFERENCE_CLASS,
-        grammar::NULL_LETTER => REFUSED_CLASS + refusals::NULL_OBJECT,
-        grammar::TEXT_FLOAT_LETTER => REFUSED_CLASS + refusals::NOT_CARRIED,
-        grammar::TEXT_COMPLEX_LETTER => REFUSED_CLASS + refusals::NOT_CARRIED,
-        _ => REFUSED_CLASS + refusals::UNKNOWN_TYPE,
+        grammar::NULL_LETTER => NULL_CLASS,
+        grammar::TEXT_FLOAT_LETTER => TEXT_NUMBER_CLASS,
+        grammar::TEXT_COMPLEX_LETTER => TEXT_NUMBER_CLASS,
+        _ => UNKNOWN_CLASS,
     }
 }
 
-// The class of a header byte's letter, by the table of header bytes, which is lent. A letter of a record, which may be any number of 32
+// The class of a header byte's letter, by the table of header bytes. A letter of a record, which may be any number of 32
 // bits, is asked of `class_of`.
-pub fn class_at(classes: &[u8; 256], header: u32) -> u32
-    requires { (header < 256) × (classes.now ≡ header_table) }
+pub fn class_at(tables: &ByteTables, header: u32) -> u32
+    requires { header < 256 }
     ensures { class_at result ≡ class_of (header % 128) }
 {
-    word(classes[header as usize])
+    word(tables.classes[header as usize])
+}
+
+// Why a letter is refused, by its class, which is one from REFUSED_CLASS on.
+pub fn refusal_of(class: u32) -> Refusal
+    ensures { result ≡ refusal_of class }
+{
+    match class {
+        NULL_CLASS => Refusal::NullObject,
+        TEXT_NUMBER_CLASS => Refusal::NotCarried,
+        _ => Refusal::UnknownType,
+    }
 }
 
 // A field of a fixed size, and no children.
-pub fn read_fixed(s: &[u8], at: u32, size: u32) -> Behind
-    requires { (at ≤ length s.now) × (length s.now ≤ most_bytes) × (size ≤ most_bytes) }
-    ensures { Reads s.now (keeps (fixed size)) at result }
+pub fn read_fixed(from: Cursor, size: u32) -> Result<Behind, Fault>
+    requires { size ≤ most_bytes }
+    ensures { Reads from.entry.input.now (keeps (fixed size)) from.entry.at result }
 {
-    if s.len() < at as usize + size as usize {
-        return Behind::Refused(refusals::DATA_TOO_SHORT, at);
+    if from.input.len() < from.at as usize + size as usize {
+        return Err(Refusal::DataTooShort.at(from.at));
     }
-    Behind::Span(at, size, Kids::Items(0))
+    Ok(Behind {
+        place: from.at,
+        size,
+        kids: Kids::Items(0),
+    })
 }
 
 // Two fields of eight bytes: a cut second one is refused at its own start.
-fn read_double(s: &[u8], at: u32) -> Behind
-    requires { (at ≤ length s.now) × (length s.now ≤ most_bytes) }
-    ensures { Reads s.now (keeps double) at result }
+fn read_double(from: Cursor) -> Result<Behind, Fault>
+    ensures { Reads from.entry.input.now (keeps double) from.entry.at result }
 {
-    let p = at as usize;
-    if s.len() < p + 8 {
-        return Behind::Refused(refusals::DATA_TOO_SHORT, at);
+    let p = from.at as usize;
+    if from.input.len() < p + 8 {
+        return Err(Refusal::DataTooShort.at(from.at));
     }
-    if s.len() < p + 8 + 8 {
-        return Behind::Refused(refusals::DATA_TOO_SHORT, at + 8);
+    if from.input.len() < p + 8 + 8 {
+        return Err(Refusal::DataTooShort.at(from.at + 8));
     }
-    Behind::Span(at, 16, Kids::Items(0))
+    Ok(Behind {
+        place: from.at,
+        size: 16,
+        kids: Kids::Items(0),
+    })
 }
 
 // A signed 32-bit length that is there and is not negative.
-fn read_len(s: &[u8], at: u32) -> Judged
-    requires { (at ≤ length s.now) × (length s.now ≤ most_bytes) }
-    ensures { Judges s.now (at + 4) (Fields.size32 s.now at) result }
+fn read_len(from: Cursor) -> Result<(), Fault>
+    ensures { Judges from.entry.input.now (from.entry.at + 4) (Fields.size32 from.entry.input.now from.entry.at) result }
 {
-    let p = at as usize;
-    if s.len() < p + 4 {
-        return Judged::Refused(refusals::DATA_TOO_SHORT, at);
+    let p = from.at as usize;
+    if from.input.len() < p + 4 {
+        return Err(Refusal::DataTooShort.at(from.at));
     }
-    if 0x8000_0000 <= le32(s, p) {
-        return Judged::Refused(refusals::BAD_SIZE, at);
+    if 0x8000_0000 <= le32(from.input, p) {
+        return Err(Refusal::BadSize.at(from.at));
     }
-    Judged::Fine
+    Ok(())
 }
 
 // A length, and so many values.
-fn read_sequence(s: &[u8], at: u32) -> Behind
-    requires { (at ≤ length s.now) × (length s.now ≤ most_bytes) }
-    ensures { Reads s.now (keeps sequence) at result }
+fn read_sequence(from: Cursor) -> Result<Behind, Fault>
+    ensures { Reads from.entry.input.now (keeps sequence) from.entry.at result }
 {
-    match read_len(s, at) {
-        Judged::Refused(number, place) => Behind::Refused(number, place),
-        Judged::Fine => Behind::Span(at, 4, Kids::Items(le32(s, at as usize))),
-    }
+    read_len(from)?;
+    Ok(Behind {
+        place: from.at,
+        size: 4,
+        kids: Kids::Items(le32(from.input, from.at as usize)),
+    })
 }
 
 // A one-byte length, and so many values.
-fn read_few(s: &[u8], at: u32) -> Behind
-    requires { (at ≤ length s.now) × (length s.now ≤ most_bytes) }
-    ensures { Reads s.now (keeps few) at result }
+fn read_few(from: Cursor) -> Result<Behind, Fault>
+    ensures { Reads from.entry.input.now (keeps few) from.entry.at result }
 {
-    let p = at as usize;
-    if s.len() < p + 1 {
-        return Behind::Refused(refusals::DATA_TOO_SHORT, at);
+    let p = from.at as usize;
+    if from.input.len() < p + 1 {
+        return Err(Refusal::DataTooShort.at(from.at));
     }
-    Behind::Span(at, 1, Kids::Items(word(s[p])))
+    Ok(Behind {
+        place: from.at,
+        size: 1,
+        kids: Kids::Items(word(from.input[p])),
+    })
 }
 
 // A length, and so many bytes.
-pub fn read_bytes(s: &[u8], at: u32) -> Behind
-    requires { (at ≤ length s.now) × (length s.now ≤ most_bytes) }
-    ensures { Reads s.now (contains bytes) at result }
+pub fn read_bytes(from: Cursor) -> Result<Behind, Fault>
+    ensures { Reads from.entry.input.now (contains bytes) from.entry.at result }
 {
-    match read_len(s, at) {
-        Judged::Refused(number, place) => Behind::Refused(number, place),
-        Judged::Fine => {
-            let p = at as usize;
-            let size = le32(s, p);
-            if s.len() < p + 4 + size as usize {
-                return Behind::Refused(refusals::DATA_TOO_SHORT, at + 4);
-            }
-            Behind::Span(at + 4, size, Kids::Items(0))
-        }
+    read_len(from)?;
+    let p = from.at as usize;
+    let size = le32(from.input, p);
+    if from.input.len() < p + 4 + size as usize {
+        return Err(Refusal::DataTooShort.at(from.at + 4));
     }
+    Ok(Behind {
+        place: from.at + 4,
+        size,
+        kids: Kids::Items(0),
+    })
 }
 
 // So many bytes that are UTF-8 with surrogates allowed.
-fn read_wtf8(s: &[u8], at: u32, size: u32, leads: &[u8; 256]) -> Judged
-    requires { (at ≤ length s.now) × (length s.now ≤ most_bytes) × (leads.now ≡ lead_table) }
-    ensures { Judges s.now (at + size) (Fields.string s.now at size) result }
+fn read_wtf8(from: Cursor, size: u32, tables: &ByteTables) -> Result<(), Fault>
+    ensures { Judges from.entry.input.now (from.entry.at + size) (Fields.string from.entry.input.now from.entry.at size) result }
 {
-    let from = at as usize;
+    let start = from.at as usize;
     let count = size as usize;
-    if s.len() < from + count {
-        return Judged::Refused(refusals::DATA_TOO_SHORT, at);
+    if from.input.len() < start + count {
+        return Err(Refusal::DataTooShort.at(from.at));
     }
-    if !wtf8::is_wtf8_by_table(&s[from..from + count], leads) {
-        return Judged::Refused(refusals::INVALID_UTF8, at);
+    if !wtf8::is_wtf8_by_table(&from.input[start..start + count], &tables.leads) {
+        return Err(Refusal::InvalidUtf8.at(from.at));
     }
-    Judged::Fine
+    Ok(())
 }
 
 // A length, and a string of so many bytes.
-pub fn read_text(s: &[u8], at: u32, leads: &[u8; 256]) -> Behind
-    requires { (at ≤ length s.now) × (length s.now ≤ most_bytes) × (leads.now ≡ lead_table) }
-    ensures { Reads s.now (contains text) at result }
+pub fn read_text(from: Cursor, tables: &ByteTables) -> Result<Behind, Fault>
+    ensures { Reads from.entry.input.now (contains text) from.entry.at result }
 {
-    match read_len(s, at) {
-        Judged::Refused(number, place) => Behind::Refused(number, place),
-        Judged::Fine => {
-            let size = le32(s, at as usize);
-            match read_wtf8(s, at + 4, size, leads) {
-                Judged::Refused(number, place) => Behind::Refused(number, place),
-                Judged::Fine => Behind::Span(at + 4, size, Kids::Items(0)),
-            }
-        }
-    }
+    read_len(from)?;
+    let size = le32(from.input, from.at as usize);
+    let string = Cursor {
+        input: from.input,
+        at: from.at + 4,
+    };
+    read_wtf8(string, size, tables)?;
+    Ok(Behind {
+        place: from.at + 4,
+        size,
+        kids: Kids::Items(0),
+    })
 }
 
 // A one-byte length, and a string of so many bytes.
-pub fn read_short(s: &[u8], at: u32, leads: &[u8; 256]) -> Behind
-    requires { (at ≤ length s.now) × (length s.now ≤ most_bytes) × (leads.now ≡ lead_table) }
-    ensures { Reads s.now (contains short) at result }
+pub fn read_short(from: Cursor, tables: &ByteTables) -> Result<Behind, Fault>
+    ensures { Reads from.entry.input.now (contains short) from.entry.at result }
 {
-    let p = at as usize;
-    if s.len() < p + 1 {
-        return Behind::Refused(refusals::DATA_TOO_SHORT, at);
+    let p = from.at as usize;
+    if from.input.len() < p + 1 {
+        return Err(Refusal::DataTooShort.at(from.at));
     }
-    let size = word(s[p]);
-    match read_wtf8(s, at + 1, size, leads) {
-        Judged::Refused(number, place) => Behind::Refused(number, place),
-        Judged::Fine => Behind::Span(at + 1, size, Kids::Items(0)),
-    }
+    let size = word(from.input[p]);
+    let string = Cursor {
+        input: from.input,
+        at: from.at + 1,
+    };
+    read_wtf8(string, size, tables)?;
+    Ok(Behind {
+        place: from.at + 1,
+        size,
+        kids: Kids::Items(0),
+    })
 }
 
 // How many digits a signed count stands for: its sign is the number's.
@@ -302,70 +332,72 @@ pub fn digit_count(count: u32) -> u32
 }
 
 // So many digits, each judged as it is read.
-fn read_digits(s: &[u8], count: u32, at: u32) -> Judged
-    requires { (at ≤ length s.now) × (length s.now ≤ most_bytes) }
-    ensures { Judges s.now (at + 2 * count) (Fields.digits s.now count at) result }
+fn read_digits(from: Cursor, count: u32) -> Result<(), Fault>
+    ensures { Judges from.entry.input.now (from.entry.at + 2 * count) (Fields.digits from.entry.input.now count from.entry.at) result }
 {
-    let mut place = at;
-    let mut left = count;
-    while 0 < left {
+    for i in 0..count {
+        let place = from.at + 2 * i;
         let p = place as usize;
-        if s.len() < p + 2 {
-            return Judged::Refused(refusals::DATA_TOO_SHORT, place);
+        if from.input.len() < p + 2 {
+            return Err(Refusal::DataTooShort.at(place));
         }
-        if 0x8000 <= le16(s, p) {
-            return Judged::Refused(refusals::INVALID_BYTECODE, place);
+        if 0x8000 <= le16(from.input, p) {
+            return Err(Refusal::InvalidBytecode.at(place));
         }
-        place += 2;
-        left -= 1;
     }
-    Judged::Fine
+    Ok(())
 }
 
 // The last of so many digits is not zero.
-fn last_digit(s: &[u8], count: u32, at: u32) -> Judged
-    requires { (at + 2 * count ≤ length s.now) × (length s.now ≤ most_bytes) }
-    ensures { Judges s.now 0 (Fields.last_digit s.now count at) result }
+fn last_digit(from: Cursor, count: u32) -> Result<(), Fault>
+    requires { from.at + 2 * count ≤ length from.input.now }
+    ensures { Judges from.entry.input.now 0 (Fields.last_digit from.entry.input.now count from.entry.at) result }
 {
     if count == 0 {
-        return Judged::Fine;
+        return Ok(());
     }
-    let place = at + 2 * (count - 1);
-    if le16(s, place as usize) == 0 {
-        return Judged::Refused(refusals::INVALID_BYTECODE, place);
+    let place = from.at + 2 * (count - 1);
+    if le16(from.input, place as usize) == 0 {
+        return Err(Refusal::InvalidBytecode.at(place));
     }
-    Judged::Fine
+    Ok(())
 }
 
 // A signed count of digits, and the digits.
-fn read_pylong(s: &[u8], at: u32) -> Behind
-    requires { (at ≤ length s.now) × (length s.now ≤ most_bytes) }
-    ensures { Reads s.now (keeps long) at result }
+fn read_pylong(from: Cursor) -> Result<Behind, Fault>
+    ensures { Reads from.entry.input.now (keeps long) from.entry.at result }
 {
-    let p = at as usize;
-    if s.len() < p + 4 {
-        return Behind::Refused(refusals::DATA_TOO_SHORT, at);
+    let p = from.at as usize;
+    if from.input.len() < p + 4 {
+        return Err(Refusal::DataTooShort.at(from.at));
     }
-    let count = digit_count(le32(s, p));
-    match read_digits(s, count, at + 4) {
-        Judged::Refused(number, place) => Behind::Refused(number, place),
-        Judged::Fine => match last_digit(s, count, at + 4) {
-            Judged::Refused(number, place) => Behind::Refused(number, place),
-            Judged::Fine => Behind::Span(at, 4 + 2 * count, Kids::Items(0)),
-        },
-    }
+    let count = digit_count(le32(from.input, p));
+    let digits = Cursor {
+        input: from.input,
+        at: from.at + 4,
+    };
+    read_digits(digits, count)?;
+    last_digit(digits, count)?;
+    Ok(Behind {
+        place: from.at,
+        size: 4 + 2 * count,
+        kids: Kids::Items(0),
+    })
 }
 
 // Five numbers of 32 bits, each a field of its own.
-fn read_numbers(s: &[u8], at: u32) -> Behind
-    requires { (at ≤ length s.now) × (length s.now ≤ most_bytes) }
-    ensures { Reads s.now codes at result }
+fn read_numbers(from: Cursor) -> Result<Behind, Fault>
+    ensures { Reads from.entry.input.now codes from.entry.at result }
 {
-    let whole = (s.len() - at as usize) / 4;
+    let whole = (from.input.len() - from.at as usize) / 4;
     if whole < grammar::CODE_WORDS {
-        return Behind::Refused(refusals::DATA_TOO_SHORT, at + 4 * whole as u32);
+        return Err(Refusal::DataTooShort.at(from.at + 4 * whole as u32));
     }
-    Behind::Span(at, grammar::CODE_NUMBERS, Kids::Parts)
+    Ok(Behind {
+        place: from.at,
+        size: grammar::CODE_NUMBERS,
+        kids: Kids::Parts,
+    })
 }
 
 // The argument sum of the code whose numbers stand at a place.
@@ -380,35 +412,47 @@ pub fn argument_sum(s: &[u8], place: usize) -> u64
 }
 
 // The fields behind the header of a node whose place is the byte after the header.
-pub fn read_form(s: &[u8], class: u32, at: u32) -> Behind
-    requires { (class < form_classes) × (at ≤ length s.now) × (length s.now ≤ most_bytes) }
-    ensures { Reads s.now (class_at class) at result }
+pub fn read_form(from: Cursor, class: u32) -> Result<Behind, Fault>
+    requires { class < form_classes }
+    ensures { Reads from.entry.input.now (class_at class) from.entry.at result }
 {
     match class {
-        SINGLE_CLASS => Behind::Span(at, 0, Kids::Items(0)),
-        FIXED4_CLASS => read_fixed(s, at, 4),
-        FIXED8_CLASS => read_fixed(s, at, 8),
-        DOUBLE_CLASS => read_double(s, at),
-        LONG_CLASS => read_pylong(s, at),
-        SEQUENCE_CLASS => read_sequence(s, at),
-        FEW_CLASS => read_few(s, at),
-        SLICE_CLASS => Behind::Span(at, 0, Kids::Items(3)),
-        _ => Behind::Span(at, 0, Kids::Pairs),
+        SINGLE_CLASS => Ok(Behind {
+            place: from.at,
+            size: 0,
+            kids: Kids::Items(0),
+        }),
+        FIXED4_CLASS => read_fixed(from, 4),
+        FIXED8_CLASS => read_fixed(from, 8),
+        DOUBLE_CLASS => read_double(from),
+        LONG_CLASS => read_pylong(from),
+        SEQUENCE_CLASS => read_sequence(from),
+        FEW_CLASS => read_few(from),
+        SLICE_CLASS => Ok(Behind {
+            place: from.at,
+            size: 0,
+            kids: Kids::Items(3),
+        }),
+        _ => Ok(Behind {
+            place: from.at,
+            size: 0,
+            kids: Kids::Pairs,
+        }),
     }
 }
 
 // The fields behind the header of a node, from the byte after it on.
-pub fn read_fields(s: &[u8], class: u32, at: u32, leads: &[u8; 256]) -> Behind
-    requires { (class < kept_classes) × (at ≤ length s.now) × (length s.now ≤ most_bytes) × (leads.now ≡ lead_table) }
-    ensures { Reads s.now (class_at class) at result }
+pub fn read_fields(from: Cursor, class: u32, tables: &ByteTables) -> Result<Behind, Fault>
+    requires { class < kept_classes }
+    ensures { Reads from.entry.input.now (class_at class) from.entry.at result }
 {
     if class < BYTES_CLASS {
-        return read_form(s, class, at);
+        return read_form(from, class);
     }
     match class {
-        BYTES_CLASS => read_bytes(s, at),
-        TEXT_CLASS => read_text(s, at, leads),
-        SHORT_CLASS => read_short(s, at, leads),
-        _ => read_numbers(s, at),
+        BYTES_CLASS => read_bytes(from),
+        TEXT_CLASS => read_text(from, tables),
+        SHORT_CLASS => read_short(from, tables),
+        _ => read_numbers(from),
     }
 }

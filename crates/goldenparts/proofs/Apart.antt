@@ -1,5 +1,5 @@
 -- Each form taken apart: the ways out of the functions that read the two values, by the readings in front of them. Assumes nothing.
-use mathlib.Core.Path.{◌≡◌, sym, ap, subst, ◌∙◌}
+use mathlib.Core.Path.{◌≡◌, refl, sym, ap, subst, ◌∙◌}
 use mathlib.Core.Bool.{Bool, true, false, cond}
 use mathlib.Core.List.{List}
 use mathlib.Core.Option.{Option, none, some}
@@ -10,35 +10,38 @@ use lib.ListN.{length, take, drop, length-drop}
 use lib.Seq.{take-length}
 use Rattle.refusals.specs.Numbers.{bad_type, trailing_bytes}
 use Rattle.taggedfields.specs.Fields.{reading}
-use Rattle.taggedfields.specs.Looking.{told, fault_of}
-use Rattle.taggedfields.specs.declared.Fault.{Fault}
+use Rattle.taggedfields.specs.Looking.{told, fault_of, part_of}
+use Rattle.std.specs.Prelude.{Err}
+use Rattle.std.specs.Prelude as rust
+use Rattle.std.specs.Option.{ok_or}
+use Rattle.refusals.specs.declared.Refusal.TheVariants.{NoSuchField}
+use Rattle.grammar.specs.Numbered.{numbered}
+use Rattle.refusals.specs.declared.Fault.{Fault}
+use Rattle.refusals.specs.Faults.{number_of, fault}
+use Rattle.taggedfields.proofs.Looks.{its_fault}
 use Rattle.grammar.specs.Reading.{Answer, gives, stops}
-use Rattle.readalone.specs.declared.Alone.{Alone}
-use Rattle.readalone.specs.declared.Alone.TheVariants as read
-use Rattle.readalone.specs.Alone.{Room, alone, answer_of}
-use Rattle.readalone.proofs.Placing.{Ended, value-ends}
-use Rattle.goldenparts.specs.declared.Span.{Span}
+use Rattle.readalone.specs.Alone.{Room, alone}
+use Rattle.readalone.proofs.Placing.{Ended, alone-ends}
+use Rattle.taggedfields.specs.declared.Span.{Span}
 use Rattle.goldenparts.specs.declared.Spans.{Spans}
 use Rattle.goldenparts.specs.Forms.{Golden, next, is_code, judged, result_read, cut_at, old_parts, golden_fields, or_other, or_fault, in_fields, both_read}
-use Rattle.goldenparts.specs.Spans.{spans_of, spanned, part_in, golden_in, Standing, StandingIn}
-use Rattle.goldenparts.proofs.Judging.{part_length, part_bytes, next_refused, next_value}
+use Rattle.goldenparts.specs.Spans.{spans_of, spanned, spans_if, part_in, golden_in, Standing, StandingIn, StandingIf}
+use Rattle.goldenparts.proofs.Judging.{part_length}
 
--- what a part is read from, as the code names it
-abbrev pub cut : List ℕ → Span → List ℕ
-cut file s = take (s.start + s.size - s.start) (drop s.start file)
-
-same_part : (R : Room) (file : List ℕ) (s : Span) {a : Answer ℕ} → a ≡ alone R s.start (cut file s) → a ≡ alone R s.start (part_in file s).bytes
-same_part R file s e = e ∙ ap (alone R s.start) (part_bytes file s)
+-- what a part is read from
+same_part : (R : Room) (file : List ℕ) (s : Span) {part : List ℕ} → part ≡ part_of file s → {a : Answer ℕ} → a ≡ alone R s.start part → a ≡ alone R s.start (part_in file s).bytes
+same_part R file s p e = e ∙ ap (alone R s.start) p
 
 -- ---- the result
-module _ (R : Room) (file : List ℕ) (parts : Spans) (code : ℕ) {x : Alone} (e : answer_of x ≡ alone R parts.result.start (cut file parts.result)) where
-  pub result-refused : {number place : ℕ} → x ≡ read.Refused number place → stops number place ≡ spanned (result_read R (golden_in file parts) code)
+module _ (R : Room) (file : List ℕ) (parts : Spans) (code : ℕ) {part : List ℕ} (p : part ≡ part_of file parts.result) where
+  pub result-refused : {number place : ℕ} → stops number place ≡ alone R parts.result.start part → stops number place ≡ spanned (result_read R (golden_in file parts) code)
   unfolding result_read
-  result-refused q = ap spanned (sym (next_refused (judged (golden_in file parts) code) (same_part R file parts.result e) q))
+  result-refused e = ap (λ a. spanned (next a (judged (golden_in file parts) code))) (same_part R file parts.result p e)
 
-  pub result_value : {size : ℕ} {t : Answer Spans} → x ≡ read.Value size → t ≡ spanned (judged (golden_in file parts) code size) → t ≡ spanned (result_read R (golden_in file parts) code)
+  pub result_value : {size : ℕ} {t : Answer Spans} → gives size ≡ alone R parts.result.start part → t ≡ spanned (judged (golden_in file parts) code size)
+      → t ≡ spanned (result_read R (golden_in file parts) code)
   unfolding result_read
-  result_value q z = z ∙ ap spanned (sym (next_value (judged (golden_in file parts) code) (same_part R file parts.result e) q))
+  result_value e z = z ∙ ap (λ a. spanned (next a (judged (golden_in file parts) code))) (same_part R file parts.result p e)
 
 -- ---- the old form
 abbrev pub old_spans : ℕ → ℕ → Spans
@@ -62,32 +65,33 @@ old_golden file code =
     let e : take (length file - code) (drop code file) ≡ drop code file = ap (λ n. take n (drop code file)) (sym (length-drop code file)) ∙ take-length (drop code file) in
     ap (λ (b : List ℕ). record { code = record { start = 0; bytes = take code file }; result = record { start = code; bytes = b } }) e
 
-module _ (R : Room) (file : List ℕ) {x : Alone} (e : answer_of x ≡ alone R 0 file) where
-  pub old_refused : {number place : ℕ} → x ≡ read.Refused number place → stops number place ≡ spanned (old_parts R file)
+module _ (R : Room) (file : List ℕ) where
+  pub old_refused : {number place : ℕ} → stops number place ≡ alone R 0 file → stops number place ≡ spanned (old_parts R file)
   unfolding old_parts
-  old_refused q = ap spanned (sym (next_refused (λ size. result_read R (cut_at file size) size) e q))
+  old_refused e = ap (λ a. spanned (next a (λ size. result_read R (cut_at file size) size))) e
 
-  pub old_value : {code : ℕ} {R' : Room} {t : Answer Spans} → x ≡ read.Value code → R' ≡ R
+  pub old_value : {code : ℕ} {R' : Room} {t : Answer Spans} → gives code ≡ alone R 0 file → R' ≡ R
       → t ≡ spanned (result_read R' (golden_in file (old_spans code (length file - code))) code) → t ≡ spanned (old_parts R file)
   unfolding old_parts
-  old_value {code} q same z =
-      z ∙ ap (λ S. spanned (result_read S (golden_in file (old_spans code (length file - code))) code)) same ∙ ap (λ g. spanned (result_read R g code)) (old_golden file code) ∙ ap spanned (sym (next_value (λ size. result_read R (cut_at file size) size) e q))
+  old_value {code} e same z =
+      z ∙ ap (λ S. spanned (result_read S (golden_in file (old_spans code (length file - code))) code)) same ∙ ap (λ g. spanned (result_read R g code)) (old_golden file code)
+      ∙ ap (λ a. spanned (next a (λ size. result_read R (cut_at file size) size))) e
 
 -- ---- both values of a golden in fields
-module _ (R : Room) (file : List ℕ) (parts : Spans) {x : Alone} (e : answer_of x ≡ alone R parts.code.start (cut file parts.code)) where
-  pub code-some : parts.code.start + parts.code.size ≤ length file → {code : ℕ} → x ≡ read.Value code → 0 < parts.code.size
-  code-some h q =
-      let w = value-ends R parts.code.start (part_in file parts.code).bytes (same_part R file parts.code e) q in
+module _ (R : Room) (file : List ℕ) (parts : Spans) {part : List ℕ} (p : part ≡ part_of file parts.code) where
+  pub code-some : parts.code.start + parts.code.size ≤ length file → {code : ℕ} → gives code ≡ alone R parts.code.start part → 0 < parts.code.size
+  code-some h {code} e =
+      let w = alone-ends R parts.code.start (part_in file parts.code).bytes code (sym (same_part R file parts.code p e)) in
       omega (arith, w.some_bytes, w.inside, part_length file parts.code h)
 
-  pub both-refused : {number place : ℕ} → x ≡ read.Refused number place → stops number place ≡ spanned (both_read R (golden_in file parts))
+  pub both-refused : {number place : ℕ} → stops number place ≡ alone R parts.code.start part → stops number place ≡ spanned (both_read R (golden_in file parts))
   unfolding both_read
-  both-refused q = ap spanned (sym (next_refused (result_read R (golden_in file parts)) (same_part R file parts.code e) q))
+  both-refused e = ap (λ a. spanned (next a (result_read R (golden_in file parts)))) (same_part R file parts.code p e)
 
-  pub both-value : {code : ℕ} {R' : Room} {t : Answer Spans} → x ≡ read.Value code → R' ≡ R → t ≡ spanned (result_read R' (golden_in file parts) code)
+  pub both-value : {code : ℕ} {R' : Room} {t : Answer Spans} → gives code ≡ alone R parts.code.start part → R' ≡ R → t ≡ spanned (result_read R' (golden_in file parts) code)
       → t ≡ spanned (both_read R (golden_in file parts))
   unfolding both_read
-  both-value {code} q same z = z ∙ ap (λ S. spanned (result_read S (golden_in file parts) code)) same ∙ ap spanned (sym (next_value (result_read R (golden_in file parts)) (same_part R file parts.code e) q))
+  both-value {code} e same z = z ∙ ap (λ S. spanned (result_read S (golden_in file parts) code)) same ∙ ap (λ a. spanned (next a (result_read R (golden_in file parts)))) (same_part R file parts.code p e)
 
 -- ---- what is taken apart is the parts that were looked at
 judged_is : (g : Golden) (a b : ℕ) (P : Answer Golden → Type 0) → ((number place : ℕ) → P (stops number place)) → P (gives g) → P (judged g a b)
@@ -130,14 +134,21 @@ module _ (R : Room) (file : List ℕ) (parts : Spans) (st : Standing (length fil
   both_standing e = subst (StandingIn (length file)) (sym e) (both_is R (golden_in file parts) (λ a. StandingIn (length file) (spanned a)) (λ number place. tt) still)
 
 -- ---- the fields
-pub fields-fault : (file : List ℕ) {r : Fault} → r ≡ fault_of file → (r.refusal ≡ 0 → ⊥) → stops r.refusal r.place ≡ spanned (in_fields file)
+pub fields-fault : (file : List ℕ) {x : Fault} → Err x ≡ fault_of file → stops (number_of x.refusal) x.place ≡ spanned (in_fields file)
 unfolding in_fields
-fields-fault file {r} e k = go (reading file).fault e
-  where
-    go : (o : Option (ℕ × ℕ)) → r ≡ told o → stops r.refusal r.place ≡ spanned (or_fault o (or_other (golden_fields (reading file).fields)))
-    go none q = absurd (k (ap (λ y. y.refusal) q))
-    go (some f) q = ap (λ (y : Fault). stops y.refusal y.place) q
+fields-fault file {x} e = rw (its_fault file e) refl
 
-pub fields-sound : (file : List ℕ) {t : Answer Spans} → (reading file).fault ≡ none → t ≡ spanned (or_other (golden_fields (reading file).fields)) → t ≡ spanned (in_fields file)
+pub fields-sound : (file : List ℕ) {o : rust.Option Spans} → (reading file).fault ≡ none → o ≡ spans_if (golden_fields (reading file).fields)
+    → numbered (ok_or o (fault NoSuchField 0)) ≡ spanned (in_fields file)
 unfolding in_fields
-fields-sound file e z = z ∙ ap (λ o. spanned (or_fault o (or_other (golden_fields (reading file).fields)))) (sym e)
+fields-sound file {o} e z =
+    ap (λ (p : rust.Option Spans). numbered (ok_or p (fault NoSuchField 0))) z ∙ go (golden_fields (reading file).fields)
+    ∙ ap (λ f. spanned (or_fault f (or_other (golden_fields (reading file).fields)))) (sym e)
+  where
+    go : (g : Option Golden) → numbered (ok_or (spans_if g) (fault NoSuchField 0)) ≡ spanned (or_other g)
+    go none = refl
+    go (some g) = refl
+
+pub fields_standing : (len : ℕ) (o : rust.Option Spans) → StandingIf len o → StandingIn len (numbered (ok_or o (fault NoSuchField 0)))
+fields_standing len rust.None st = tt
+fields_standing len (rust.Some s) st = st

@@ -10,43 +10,55 @@ use lib.Dec.{ltb, eqb}
 use lib.ListN.{length, get_or, take, drop}
 use lib.Seq.{drop-cons}
 use borrow.Author.Tests.{lt-ltb, le-ltb, eq-eqb, ne_eqb, ltb-true, ltb-false, eqb-true, eqb-false}
-use Rattle.refusals.specs.Numbers.{no_such_field}
+use Rattle.std.specs.Prelude as rust
 use Rattle.taggedfields.specs.Fields.{Field, reading}
 use Rattle.taggedfields.specs.Looking.{size_in, field_at}
 use Rattle.taggedfields.proofs.Parts.{field_at-in}
 use Rattle.taggedfields.proofs.Unread.{Unread, rest, unread_start, unread_end, unread_next}
-use Rattle.grammar.specs.Reading.{Answer, gives, stops}
 use Rattle.goldenparts.specs.declared.Spans.{Spans}
-use Rattle.goldenparts.specs.Forms.{only_one, is_edition, part_of, golden_fields, or_other}
-use Rattle.goldenparts.specs.Spans.{spanned, Standing, behind_field}
+use Rattle.goldenparts.specs.Forms.{only_one, is_edition, part_of, golden_fields}
+use Rattle.goldenparts.specs.Spans.{spans_if, Standing, behind_field}
 
 -- ---- the place behind a field
 module _ (file : List ℕ) (at tag : ℕ) where
-  pub behind_none : length file ≤ at → 0 ≡ behind_field file at tag
+  pub behind_none : length file ≤ at → rust.None ≡ behind_field file at tag
   behind_none h = rw (le-ltb at (length file) h) refl
 
-  pub behind-other : at < length file → (get_or file at 0 ≡ tag → ⊥) → 0 ≡ behind_field file at tag
+  pub behind-other : at < length file → (get_or file at 0 ≡ tag → ⊥) → rust.None ≡ behind_field file at tag
   behind-other h k = rw (lt-ltb at (length file) h, ne_eqb (get_or file at 0) tag k) refl
 
-  pub behind-here : at < length file → get_or file at 0 ≡ tag → {n : ℕ} → n ≡ size_in file at → at + 3 + n ≡ behind_field file at tag
-  behind-here h k {n} e = rw (lt-ltb at (length file) h, eq-eqb (get_or file at 0) tag k) (ap (λ i. at + 3 + i) e)
+  pub behind-here : at < length file → get_or file at 0 ≡ tag → {n : ℕ} → n ≡ size_in file at → rust.Some (at + 3 + n) ≡ behind_field file at tag
+  behind-here h k {n} e = rw (lt-ltb at (length file) h, eq-eqb (get_or file at 0) tag k) (ap (λ i. rust.Some (at + 3 + i)) e)
 
   -- a field of this tag stands there, or there is none, or one of another tag
-  pub data Stands (r : ℕ) : Type 0 where
-    here : at < length file → get_or file at 0 ≡ tag → r ≡ at + 3 + size_in file at → Stands r
-    other : at < length file → (get_or file at 0 ≡ tag → ⊥) → r ≡ 0 → Stands r
-    away : length file ≤ at → r ≡ 0 → Stands r
+  pub data Stands (r : rust.Option ℕ) : Type 0 where
+    here : at < length file → get_or file at 0 ≡ tag → r ≡ rust.Some (at + 3 + size_in file at) → Stands r
+    other : at < length file → (get_or file at 0 ≡ tag → ⊥) → r ≡ rust.None → Stands r
+    away : length file ≤ at → r ≡ rust.None → Stands r
 
-  pub stands : {r : ℕ} → r ≡ behind_field file at tag → Stands r
+  pub stands : {r : rust.Option ℕ} → r ≡ behind_field file at tag → Stands r
   stands {r} e = go (ltb at (length file)) refl e
     where
-      tagged : at < length file → (b : Bool) → eqb (get_or file at 0) tag ≡ b → r ≡ cond b (at + 3 + size_in file at) 0 → Stands r
+      tagged : at < length file → (b : Bool) → eqb (get_or file at 0) tag ≡ b → r ≡ cond b (rust.Some (at + 3 + size_in file at)) rust.None → Stands r
       tagged h true q z = here h (eqb-true (get_or file at 0) tag q) z
       tagged h false q z = other h (eqb-false (get_or file at 0) tag q) z
 
-      go : (b : Bool) → ltb at (length file) ≡ b → r ≡ cond b (cond (eqb (get_or file at 0) tag) (at + 3 + size_in file at) 0) 0 → Stands r
+      go : (b : Bool) → ltb at (length file) ≡ b → r ≡ cond b (cond (eqb (get_or file at 0) tag) (rust.Some (at + 3 + size_in file at)) rust.None) rust.None → Stands r
       go true q z = tagged (ltb-true at (length file) q) (eqb (get_or file at 0) tag) refl z
       go false q z = away (ltb-false at (length file) q) z
+
+  -- a place that was found, and what was found nowhere
+  pub found : {r : ℕ} → rust.Some r ≡ behind_field file at tag → (at < length file) × (get_or file at 0 ≡ tag) × (r ≡ at + 3 + size_in file at)
+  found {r} e = go (stands e)
+    where
+      go : Stands (rust.Some r) → (at < length file) × (get_or file at 0 ≡ tag) × (r ≡ at + 3 + size_in file at)
+      go (here h t z) = (h, t, cc)
+      go (other h t z) = absurd (cc)
+      go (away h z) = absurd (cc)
+
+pub behind_within : (file : List ℕ) (at : ℕ) → at + 3 + size_in file at ≤ length file → {n : ℕ} → n ≡ size_in file at → n < 65536
+    → {end : ℕ} → rust.Some (at + 3 + n) ≡ rust.Some end → (end < at + 65539) × (end ≤ length file)
+behind_within file at w {n} is small {end} e = let same : at + 3 + n ≡ end = cc in (omega (arith, same, small), omega (arith, same, is, w))
 
 -- ---- lists of fields that are not a golden's
 no_edition : (e : Field) (fs : List Field) → is_edition e ≡ false → golden_fields (e ∷ fs) ≡ none
@@ -83,10 +95,10 @@ below a b h k = go (ltb a b) refl
 -- ---- the walk
 module _ (file : List ℕ) (clean : (reading file).fault ≡ none) where
   abbrev Refuses : Type 0
-  Refuses = stops no_such_field 0 ≡ spanned (or_other (golden_fields (reading file).fields))
+  Refuses = rust.None ≡ spans_if (golden_fields (reading file).fields)
 
   refuses : (fs : List Field) → (reading file).fields ≡ fs → golden_fields fs ≡ none → Refuses
-  refuses fs e q = sym (ap (λ l. spanned (or_other (golden_fields l))) e ∙ ap (λ o. spanned (or_other o)) q)
+  refuses fs e q = sym (ap (λ l. spans_if (golden_fields l)) e ∙ ap spans_if q)
 
   pub whole_first : 0 < length file → 0 + 3 + size_in file 0 ≤ length file
   whole_first h = (unread_next (unread_start file clean).0 h).whole
@@ -99,27 +111,23 @@ module _ (file : List ℕ) (clean : (reading file).fault ≡ none) where
     pub size : size_in file 0 ≡ 1
     pub long : 4 ≤ length file
 
-  pub first_field : {code : ℕ} → code ≡ behind_field file 0 1 → code ≡ 4 → First
-  first_field {code} e four = go (stands file 0 1 e)
-    where
-      go : Stands file 0 1 code → First
-      go (away h z) = absurd (omega (arith, z, four))
-      go (other h k z) = absurd (omega (arith, z, four))
-      go (here h t z) =
-          let u = unread_start file clean in
-          let n = unread_next u.0 h in
-          let p : 0 + 3 + size_in file 0 ≡ 4 = omega (arith, z, four) in
-          let split : (v : Unread file 4) × ((reading file).fields ≡ field_at file 0 ∷ rest v) =
-          subst (λ i. (v : Unread file i) × ((reading file).fields ≡ field_at file 0 ∷ rest v)) p (n.behind, sym u.1 ∙ n.splits) in
-          record { behind = split.0; splits = split.1; tag = t; size = omega (arith, p); long = omega (arith, p, n.whole) }
+  pub first_field : {code : ℕ} → rust.Some code ≡ behind_field file 0 1 → code ≡ 4 → First
+  first_field e four =
+      let w = found file 0 1 e in
+      let u = unread_start file clean in
+      let n = unread_next u.0 w.0 in
+      let p : 0 + 3 + size_in file 0 ≡ 4 = omega (arith, w.2, four) in
+      let split : (v : Unread file 4) × ((reading file).fields ≡ field_at file 0 ∷ rest v) =
+      subst (λ i. (v : Unread file i) × ((reading file).fields ≡ field_at file 0 ∷ rest v)) p (n.behind, sym u.1 ∙ n.splits) in
+      record { behind = split.0; splits = split.1; tag = w.1; size = omega (arith, p); long = omega (arith, p, n.whole) }
 
-  pub no_first : {code : ℕ} → code ≡ behind_field file 0 1 → (code ≡ 4 → ⊥) → Refuses
-  no_first {code} e k = go (stands file 0 1 e)
+  pub no_first : {r : rust.Option ℕ} → r ≡ behind_field file 0 1 → (r ≡ rust.Some 4 → ⊥) → Refuses
+  no_first {r} e k = go (stands file 0 1 e)
     where
       start : (u : Unread file 0) × (rest u ≡ (reading file).fields)
       start = unread_start file clean
 
-      go : Stands file 0 1 code → Refuses
+      go : Stands file 0 1 r → Refuses
       go (away h z) = refuses [] (sym start.1 ∙ unread_end start.0 h) refl
       go (other h t z) =
           let n = unread_next start.0 h in
@@ -127,7 +135,8 @@ module _ (file : List ℕ) (clean : (reading file).fault ≡ none) where
       go (here h t z) =
           let n = unread_next start.0 h in
           let l = (field_at-in file 0 n.whole).size in
-          let no : only_one (field_at file 0).contents ≡ false = not-one (field_at file 0).contents (λ q. k (omega (arith, z, l, q))) in
+          let no : only_one (field_at file 0).contents ≡ false = not-one (field_at file 0).contents
+          (λ q. let four : 0 + 3 + size_in file 0 ≡ 4 = omega (arith, l, q) in k (z ∙ ap rust.Some four)) in
           refuses (field_at file 0 ∷ rest n.behind) (sym start.1 ∙ n.splits)
           (no_edition (field_at file 0) (rest n.behind) (rw (no, and-false (eqb (get_or file 0 0) 1)) refl))
 
@@ -144,15 +153,15 @@ module _ (file : List ℕ) (clean : (reading file).fault ≡ none) where
     pub whole-second : 4 < length file → 4 + 3 + size_in file 4 ≤ length file
     whole-second h = (unread_next f.behind h).whole
 
-    pub no_second : {result : ℕ} → result ≡ behind_field file 4 2 → result ≡ 0 → Refuses
-    no_second {result} e zero = go (stands file 4 2 e)
+    pub no_second : rust.None ≡ behind_field file 4 2 → Refuses
+    no_second e = go (stands file 4 2 e)
       where
-        go : Stands file 4 2 result → Refuses
+        go : Stands file 4 2 rust.None → Refuses
         go (away h z) = refuses (field_at file 0 ∷ []) (f.splits ∙ ap (λ l. field_at file 0 ∷ l) (unread_end f.behind h)) refl
         go (other h t z) =
             let n = unread_next f.behind h in
             refuses (field_at file 0 ∷ field_at file 4 ∷ rest n.behind) (f.splits ∙ ap (λ l. field_at file 0 ∷ l) n.splits) (no_code (field_at file 0) (field_at file 4) (rest n.behind) t)
-        go (here h t z) = absurd (omega (arith, z, zero))
+        go (here h t z) = absurd (cc)
 
     pub record Second (result : ℕ) : Type 0 where
       pub behind : Unread file result
@@ -161,17 +170,13 @@ module _ (file : List ℕ) (clean : (reading file).fault ≡ none) where
       pub size : result ≡ 7 + size_in file 4
       pub whole : result ≤ length file
 
-    pub second-field : {result : ℕ} → result ≡ behind_field file 4 2 → (result ≡ 0 → ⊥) → Second result
-    second-field {result} e k = go (stands file 4 2 e)
-      where
-        go : Stands file 4 2 result → Second result
-        go (away h z) = absurd (k z)
-        go (other h t z) = absurd (k z)
-        go (here h t z) =
-            let n = unread_next f.behind h in
-            let split : (v : Unread file result) × ((reading file).fields ≡ field_at file 0 ∷ field_at file 4 ∷ rest v) =
-            subst (λ i. (v : Unread file i) × ((reading file).fields ≡ field_at file 0 ∷ field_at file 4 ∷ rest v)) (sym z) (n.behind, f.splits ∙ ap (λ l. field_at file 0 ∷ l) n.splits) in
-            record { behind = split.0; splits = split.1; tag = t; size = omega (arith, z); whole = omega (arith, z, n.whole) }
+    pub second-field : {result : ℕ} → rust.Some result ≡ behind_field file 4 2 → Second result
+    second-field {result} e =
+        let w = found file 4 2 e in
+        let n = unread_next f.behind w.0 in
+        let split : (v : Unread file result) × ((reading file).fields ≡ field_at file 0 ∷ field_at file 4 ∷ rest v) =
+        subst (λ i. (v : Unread file i) × ((reading file).fields ≡ field_at file 0 ∷ field_at file 4 ∷ rest v)) (sym w.2) (n.behind, f.splits ∙ ap (λ l. field_at file 0 ∷ l) n.splits) in
+        record { behind = split.0; splits = split.1; tag = w.1; size = omega (arith, w.2); whole = omega (arith, w.2, n.whole) }
 
     module _ {result : ℕ} (g : Second result) where
       pub whole-third : result < length file → result + 3 + size_in file result ≤ length file
@@ -180,10 +185,10 @@ module _ (file : List ℕ) (clean : (reading file).fault ≡ none) where
       front : {fs : List Field} → rest g.behind ≡ fs → (reading file).fields ≡ field_at file 0 ∷ field_at file 4 ∷ fs
       front e = g.splits ∙ ap (λ l. field_at file 0 ∷ field_at file 4 ∷ l) e
 
-      pub not_third : {end : ℕ} → end ≡ behind_field file result 3 → (end ≡ length file → ⊥) → Refuses
-      not_third {end} e k = go (stands file result 3 e)
+      pub not_third : {r : rust.Option ℕ} → r ≡ behind_field file result 3 → (r ≡ rust.Some (length file) → ⊥) → Refuses
+      not_third {r} e k = go (stands file result 3 e)
         where
-          go : Stands file result 3 end → Refuses
+          go : Stands file result 3 r → Refuses
           go (away h z) = refuses (field_at file 0 ∷ field_at file 4 ∷ []) (front (unread_end g.behind h)) refl
           go (other h t z) =
               let n = unread_next g.behind h in
@@ -192,52 +197,43 @@ module _ (file : List ℕ) (clean : (reading file).fault ≡ none) where
           go (here h t z) =
               let n = unread_next g.behind h in
               let at = result + 3 + size_in file result in
-              let m = unread_next n.behind (below at (length file) n.whole (λ q. k (z ∙ q))) in
+              let m = unread_next n.behind (below at (length file) n.whole (λ q. k (z ∙ ap rust.Some q))) in
               refuses (field_at file 0 ∷ field_at file 4 ∷ field_at file result ∷ field_at file at ∷ rest m.behind)
               (front (n.splits ∙ ap (λ l. field_at file result ∷ l) m.splits)) refl
 
-      -- exactly the three
-      pub third-field : {end : ℕ} → get_or file 3 0 ≡ 1 → end ≡ behind_field file result 3 → end ≡ length file
-          → gives (record { code = record { start = 7; size = result - 7 }; result = record { start = result + 3; size = end - result - 3 } })
-          ≡ spanned (or_other (golden_fields (reading file).fields))
-      third-field {end} b e q = go (stands file result 3 e)
-        where
-          named : ℕ → ℕ → Answer Spans
-          named c r = gives (record { code = record { start = 7; size = c }; result = record { start = result + 3; size = r } })
+      module _ {end : ℕ} (e : rust.Some end ≡ behind_field file result 3) (q : end ≡ length file) where
+        -- exactly the three
+        pub third-field : get_or file 3 0 ≡ 1
+            → rust.Some (record { code = record { start = 7; size = result - 7 }; result = record { start = result + 3; size = end - result - 3 } })
+            ≡ spans_if (golden_fields (reading file).fields)
+        third-field b =
+            let w = found file result 3 e in
+            let n = unread_next g.behind w.0 in
+            let last : rest n.behind ≡ [] = unread_end n.behind (omega (arith, w.2, q)) in
+            let c = (field_at-in file 4 (omega (arith, g.size, g.whole))).size in
+            let r = (field_at-in file result n.whole).size in
+            let cs : result - 7 ≡ length (field_at file 4).contents = omega (arith, c, g.size) in
+            let rs : end - result - 3 ≡ length (field_at file result).contents = omega (arith, r, w.2) in
+            let is : golden_fields (field_at file 0 ∷ field_at file 4 ∷ field_at file result ∷ []) ≡ some (record { code = part_of (field_at file 4); result = part_of (field_at file result) }) =
+            rw (edition_is ∙ eq-eqb (get_or file 3 0) 1 b, eq-eqb (get_or file 4 0) 2 g.tag, eq-eqb (get_or file result 0) 3 w.1) refl in
+            ap (λ i. named i (end - result - 3)) cs ∙ ap (named (length (field_at file 4).contents)) rs
+            ∙ sym (ap (λ l. spans_if (golden_fields l)) (front (n.splits ∙ ap (λ l. field_at file result ∷ l) last)) ∙ ap spans_if is)
+          where
+            named : ℕ → ℕ → rust.Option Spans
+            named c r = rust.Some (record { code = record { start = 7; size = c }; result = record { start = result + 3; size = r } })
 
-          go : Stands file result 3 end → named (result - 7) (end - result - 3) ≡ spanned (or_other (golden_fields (reading file).fields))
-          go (away h z) = absurd (omega (arith, z, q, f.long))
-          go (other h t z) = absurd (omega (arith, z, q, f.long))
-          go (here h t z) =
-              let n = unread_next g.behind h in
-              let last : rest n.behind ≡ [] = unread_end n.behind (omega (arith, z, q)) in
-              let c = (field_at-in file 4 (omega (arith, g.size, g.whole))).size in
-              let r = (field_at-in file result n.whole).size in
-              let cs : result - 7 ≡ length (field_at file 4).contents = omega (arith, c, g.size) in
-              let rs : end - result - 3 ≡ length (field_at file result).contents = omega (arith, r, z) in
-              let is : golden_fields (field_at file 0 ∷ field_at file 4 ∷ field_at file result ∷ []) ≡ some (record { code = part_of (field_at file 4); result = part_of (field_at file result) }) =
-              rw (edition_is ∙ eq-eqb (get_or file 3 0) 1 b, eq-eqb (get_or file 4 0) 2 g.tag, eq-eqb (get_or file result 0) 3 t) refl in
-              ap (λ i. named i (end - result - 3)) cs ∙ ap (named (length (field_at file 4).contents)) rs
-              ∙ sym (ap (λ l. spanned (or_other (golden_fields l))) (front (n.splits ∙ ap (λ l. field_at file result ∷ l) last)) ∙ ap (λ o. spanned (or_other o)) is)
+        -- and its numbers name parts of the file
+        pub third-after : result + 3 ≤ end
+        third-after = omega (arith, (found file result 3 e).2)
 
-      -- and its numbers name parts of the file
-      pub third-after : {end : ℕ} → end ≡ behind_field file result 3 → end ≡ length file → result + 3 ≤ end
-      third-after {end} e q = go (stands file result 3 e)
-        where
-          go : Stands file result 3 end → result + 3 ≤ end
-          go (away h z) = absurd (omega (arith, z, q, f.long))
-          go (other h t z) = absurd (omega (arith, z, q, f.long))
-          go (here h t z) = omega (arith, z)
-
-      pub third_standing : {end : ℕ} → end ≡ behind_field file result 3 → end ≡ length file → result < 65543 → end < result + 65539
-          → Standing (length file) (record { code = record { start = 7; size = result - 7 }; result = record { start = result + 3; size = end - result - 3 } })
-      third_standing {end} e q h k =
-          let a = third-after e q in
-          record {
-            code_in = omega (arith, g.size, g.whole);
-            result_in = omega (arith, a, q);
-            code_start = omega arith;
-            code-size = omega (arith, h);
-            result_start = omega (arith, h);
-            result-size = omega (arith, h, k);
-          }
+        pub third_standing : result < 65543 → end < result + 65539
+            → Standing (length file) (record { code = record { start = 7; size = result - 7 }; result = record { start = result + 3; size = end - result - 3 } })
+        third_standing h k =
+            record {
+              code_in = omega (arith, g.size, g.whole);
+              result_in = omega (arith, third-after, q);
+              code_start = omega arith;
+              code-size = omega (arith, h);
+              result_start = omega (arith, h);
+              result-size = omega (arith, h, k);
+            }

@@ -12,11 +12,10 @@ use Rattle.taggedfields.proofs.Parts.{In, field_found, none-some}
 use Rattle.grammar.specs.Reading.{Answer, gives, stops}
 use Rattle.grammar.proofs.Tests.{both_true, cond-some, same_some}
 use Rattle.readalone.specs.Alone.{Room}
+use Rattle.refusals.specs.declared.Fault.{Fault}
 use Rattle.goldenparts.specs.declared.Spans.{Spans}
-use Rattle.goldenparts.specs.declared.Taken.{Taken}
-use Rattle.goldenparts.specs.declared.Taken.TheVariants as taken
 use Rattle.goldenparts.specs.Forms.{Part, Golden, next, is_edition, only_one, part_of, golden_fields, or_other, or_fault, in_fields, both_read, new_parts}
-use Rattle.goldenparts.specs.Spans.{span_of, spans_of, spanned, taken_of, part_in, golden_in}
+use Rattle.goldenparts.specs.Spans.{span_of, spans_of, spanned, part_in, golden_in}
 
 -- the three fields that a golden has
 pub record Three (fs : List Field) (g : Golden) : Type 0 where
@@ -90,24 +89,24 @@ pub fielded : (file : List ℕ) (g : Golden) → in_fields file ≡ gives g → 
 unfolding in_fields
 fielded file g e = go (reading file).fault (golden_fields (reading file).fields) refl refl e
   where
-    go : (o : Option (ℕ × ℕ)) (f : Option Golden) → (reading file).fault ≡ o → golden_fields (reading file).fields ≡ f → or_fault o (or_other f) ≡ gives g → Fielded file g
+    go : (o : Option Fault) (f : Option Golden) → (reading file).fault ≡ o → golden_fields (reading file).fields ≡ f → or_fault o (or_other f) ≡ gives g → Fielded file g
     go (some x) f p q z = gives-stops z
     go none none p q z = gives-stops z
     go none (some h) p q z = record { clean = p; fields = q ∙ ap some (same_gives z) }
 
 -- ---- the ways out
-module _ (R : Room) (file : List ℕ) {x : Taken} (e : taken_of x ≡ spanned (in_fields file)) where
-  pub new_refused : {number place : ℕ} → x ≡ taken.Refused number place → stops number place ≡ spanned (new_parts R file)
+module _ (R : Room) (file : List ℕ) where
+  pub new_refused : {number place : ℕ} → stops number place ≡ spanned (in_fields file) → stops number place ≡ spanned (new_parts R file)
   unfolding new_parts
-  new_refused {number} {place} q = go (in_fields file) (sym (ap taken_of q) ∙ e)
+  new_refused {number} {place} e = go (in_fields file) e
     where
       go : (a : Answer Golden) → stops number place ≡ spanned a → stops number place ≡ spanned (next a (both_read R))
       go (gives g) z = gives-stops z
       go (stops n p) z = z
 
-  pub new_value : {parts : Spans} {R' : Room} {t : Answer Spans} → x ≡ taken.Apart parts → R' ≡ R → t ≡ spanned (both_read R' (golden_in file parts)) → t ≡ spanned (new_parts R file)
+  pub new_value : {parts : Spans} {R' : Room} {t : Answer Spans} → gives parts ≡ spanned (in_fields file) → R' ≡ R → t ≡ spanned (both_read R' (golden_in file parts)) → t ≡ spanned (new_parts R file)
   unfolding new_parts
-  new_value {parts} q same z = z ∙ ap (λ S. spanned (both_read S (golden_in file parts))) same ∙ go (in_fields file) refl (sym (ap taken_of q) ∙ e)
+  new_value {parts} e same z = z ∙ ap (λ S. spanned (both_read S (golden_in file parts))) same ∙ go (in_fields file) refl e
     where
       go : (a : Answer Golden) → in_fields file ≡ a → gives parts ≡ spanned a → spanned (both_read R (golden_in file parts)) ≡ spanned (next a (both_read R))
       go (gives g) d y = ap (λ s. spanned (both_read R (golden_in file s))) (same_gives y) ∙ ap (λ h. spanned (both_read R h)) (golden_parts file g (fielded file g d).fields)

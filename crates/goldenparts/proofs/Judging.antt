@@ -12,20 +12,15 @@ use Rattle.refusals.specs.Numbers.{bad_type, trailing_bytes}
 use Rattle.grammar.specs.Reading.{Answer, gives, stops}
 use Rattle.grammar.specs.LetterNames.{code_letter}
 use Rattle.grammar.specs.Letters.{letter_of}
-use Rattle.readalone.specs.declared.Alone.{Alone}
-use Rattle.readalone.specs.declared.Alone.TheVariants as read
-use Rattle.readalone.specs.Alone.{lent, answer_of}
-use Rattle.goldenparts.specs.declared.Span.{Span}
+use Rattle.readalone.specs.Alone.{lent}
+use Rattle.taggedfields.specs.declared.Span.{Span}
 use Rattle.goldenparts.specs.declared.Spans.{Spans}
 use Rattle.goldenparts.specs.Forms.{Golden, next, is_code, judged}
 use Rattle.goldenparts.specs.Spans.{spanned, part_in, golden_in, Standing}
 
--- a part has its size, and its bytes are those of the file
+-- a part has its size
 pub part_length : (file : List ℕ) (s : Span) → s.start + s.size ≤ length file → length (part_in file s).bytes ≡ s.size
 part_length file s h = length-take-le s.size (drop s.start file) (omega (arith, length-drop s.start file))
-
-pub part_bytes : (file : List ℕ) (s : Span) → take (s.start + s.size - s.start) (drop s.start file) ≡ (part_in file s).bytes
-part_bytes file s = let e : s.start + s.size - s.start ≡ s.size = omega arith in ap (λ n. take n (drop s.start file)) e
 
 header-byte : (file : List ℕ) (s : Span) → s.start + s.size ≤ length file → 0 < s.size → get_or (part_in file s).bytes 0 0 ≡ get_or file s.start 0
 header-byte file s h k =
@@ -74,14 +69,6 @@ module _ (file : List ℕ) (parts : Spans) (st : Standing (length file) parts) (
       let named : ℕ → ℕ → Answer Spans = λ c r. gives (record { code = record { start = parts.code.start; size = c }; result = record { start = parts.result.start; size = r } }) in
       ap (λ c. named c parts.result.size) (sym code-long) ∙ ap (named (length golden.code.bytes)) (sym result-long)
       ∙ rw (e, le-ltb code (length golden.code.bytes) (omega (arith, code-long)), le-ltb result (length golden.result.bytes) (omega (arith, result-long))) refl
-
--- the reading in front, refused or a value
-module _ {B : Type 0} (f : ℕ → Answer B) {a : Answer ℕ} {x : Alone} (e : answer_of x ≡ a) where
-  pub next_refused : {number place : ℕ} → x ≡ read.Refused number place → next a f ≡ stops number place
-  next_refused {number} {place} q = ap (λ y. next y f) (sym e) ∙ ap (λ y. next (answer_of y) f) q
-
-  pub next_value : {size : ℕ} → x ≡ read.Value size → next a f ≡ f size
-  next_value q = ap (λ y. next y f) (sym e) ∙ ap (λ y. next (answer_of y) f) q
 
 -- room of the same lengths
 pub lent_same : {a a' b b' c c' : ℕ} (nesting : ℕ) → a ≡ a' → b ≡ b' → c ≡ c' → lent a b c nesting ≡ lent a' b' c' nesting

@@ -3,6 +3,8 @@
 use Rattle.std.specs.Prelude.{ℕ, ◌+◌, Bool, false, cond, ◌&&◌, List, [], ◌∷◌, ltb, eqb, length, get_or, take, drop}
 use Rattle.std.proofs.Math.Option.{Option, none, some}
 use Rattle.refusals.specs.Numbers.{bad_type, no_such_field, trailing_bytes}
+use Rattle.refusals.specs.declared.Fault.{Fault}
+use Rattle.refusals.specs.Faults.{number_of}
 use Rattle.taggedfields.specs.Fields.{Field, start_of, reading}
 use Rattle.grammar.specs.Reading.{Answer, gives, stops}
 use Rattle.grammar.specs.LetterNames.{code_letter}
@@ -77,8 +79,8 @@ or_other none = stops no_such_field 0
 or_other (some g) = gives g
 
 -- "K8's own" come first
-abbrev pub or_fault : Option (ℕ × ℕ) → Answer Golden → Answer Golden
-or_fault (some x) rest = stops x.0 x.1
+abbrev pub or_fault : Option Fault → Answer Golden → Answer Golden
+or_fault (some x) rest = stops (number_of x.refusal) x.place
 or_fault none rest = rest
 
 unfoldable pub in_fields : List ℕ → Answer Golden

@@ -2,13 +2,13 @@
 -- No promise rests on this page.
 -- A golden's two parts as numbers: where each starts in the file, and its size.
 use Rattle.std.specs.Prelude.{ℕ, ◌+◌, ◌≤◌, cond, List, ltb, eqb, length, get_or, take, drop}
+use Rattle.std.specs.Prelude as rust
+use Rattle.std.proofs.Math.Option.{Option, none, some}
 use Rattle.taggedfields.specs.Looking.{size_in}
 use Rattle.grammar.specs.Reading.{Answer, gives, stops}
 use Rattle.goldenparts.specs.Forms.{Part, Golden}
-use Rattle.goldenparts.specs.declared.Span.{Span}
+use Rattle.taggedfields.specs.declared.Span.{Span}
 use Rattle.goldenparts.specs.declared.Spans.{Spans}
-use Rattle.goldenparts.specs.declared.Taken.{Taken}
-use Rattle.goldenparts.specs.declared.Taken.TheVariants as variant
 
 abbrev pub span_of : Part → Span
 span_of p = record { start = p.start; size = length p.bytes }
@@ -19,11 +19,6 @@ spans_of g = record { code = span_of g.code; result = span_of g.result }
 abbrev pub spanned : Answer Golden → Answer Spans
 spanned (gives g) = gives (spans_of g)
 spanned (stops number place) = stops number place
-
--- each case of the call's answer with its values
-abbrev pub taken_of : Taken → Answer Spans
-taken_of (variant.Apart parts) = gives parts
-taken_of (variant.Refused number place) = stops number place
 
 -- the parts that numbers name in a file
 abbrev pub part_in : List ℕ → Span → Part
@@ -46,6 +41,15 @@ abbrev pub StandingIn : ℕ → Answer Spans → Type 0
 StandingIn len (gives s) = Standing len s
 StandingIn len (stops number place) = Unit {0}
 
--- the place behind the field at a place, where one of this tag stands there; else 0
-abbrev pub behind_field : List ℕ → ℕ → ℕ → ℕ
-behind_field file at tag = cond (ltb at (length file)) (cond (eqb (get_or file at 0) tag) (at + 3 + size_in file at) 0) 0
+-- parts that are there or not, and that their numbers name parts of the file
+abbrev pub spans_if : Option Golden → rust.Option Spans
+spans_if none = rust.None
+spans_if (some g) = rust.Some (spans_of g)
+
+abbrev pub StandingIf : ℕ → rust.Option Spans → Type 0
+StandingIf len rust.None = Unit {0}
+StandingIf len (rust.Some s) = Standing len s
+
+-- the place behind the field at a place, where one of this tag stands there
+abbrev pub behind_field : List ℕ → ℕ → ℕ → rust.Option ℕ
+behind_field file at tag = cond (ltb at (length file)) (cond (eqb (get_or file at 0) tag) (rust.Some (at + 3 + size_in file at)) rust.None) rust.None

@@ -1,14 +1,13 @@
 -- 02, K13: "Move old to new and back; the old bytes return exactly, since references never cross the two values. Both are read before anything
 -- is written". What a move writes: the other form of the same two values, or the first refusal in 02's order.
 use Rattle.std.specs.Prelude.{ℕ, min, cond, List, [], ◌∷◌, ◌++◌, ltb, length}
-use Rattle.refusals.specs.Numbers.{accepted, no_room, value_too_long}
+use Rattle.refusals.specs.Numbers.{no_room, value_too_long}
 use Rattle.refusals.specs.Limits.{nothing}
 use Rattle.clearing.specs.Lent.{zeros, padded}
 use Rattle.taggedfields.specs.Fields.{Field, spelt}
 use Rattle.grammar.specs.Reading.{Answer, gives, stops}
 use Rattle.readalone.specs.Alone.{Room}
 use Rattle.goldenparts.specs.Forms.{Part, Golden, next, old_parts, new_parts}
-use Rattle.goldens.specs.declared.Moved.{Moved}
 
 -- a field to be written; where it will stand is said by those in front of it
 abbrev pub written : ℕ → List ℕ → Field
@@ -41,13 +40,13 @@ unfoldable pub to_plain : Room → List ℕ → Answer (List ℕ)
 to_plain R fields = next (new_parts R fields) (λ g. gives (old_form g))
 
 -- "no room 17", at the output's length, which counts as at most 4,294,967,295. Answer and output are one value.
-abbrev pub refused_as : ℕ → ℕ → ℕ → Moved × List ℕ
-refused_as number place len = (record { refusal = number; place = place; written = 0 }, zeros len)
+abbrev pub refused_as : ℕ → ℕ → ℕ → Answer ℕ × List ℕ
+refused_as number place len = (stops number place, zeros len)
 
-abbrev pub in_room : List ℕ → ℕ → Moved × List ℕ
+abbrev pub in_room : List ℕ → ℕ → Answer ℕ × List ℕ
 in_room bytes len =
-    cond (ltb (min len nothing) (length bytes)) (refused_as no_room (min len nothing) len) (record { refusal = accepted; place = 0; written = length bytes }, padded len bytes)
+    cond (ltb (min len nothing) (length bytes)) (refused_as no_room (min len nothing) len) (gives (length bytes), padded len bytes)
 
-unfoldable pub moved_as : Answer (List ℕ) → ℕ → Moved × List ℕ
+unfoldable pub moved_as : Answer (List ℕ) → ℕ → Answer ℕ × List ℕ
 moved_as (gives bytes) len = in_room bytes len
 moved_as (stops number place) len = refused_as number place len

@@ -2,22 +2,17 @@
 // zero afterwards, and a refused move leaves the output zero.
 #![tactic(auto)]
 
-ghost use Rattle.std.specs.Prelude.{◌≡◌, [], ◌∷◌, ◌++◌, ◌+◌, ◌/◌, ◌%◌, ◌≤◌, ◌<◌, min, length, take, drop};
+ghost use Rattle.std.specs.Prelude.{◌≡◌, [], ◌∷◌, ◌++◌, ◌+◌, ◌/◌, ◌%◌, ◌≤◌, ◌<◌, length, take, drop};
 ghost use Rattle.std.proofs.lemmas.List.Edits.{sets};
-ghost use Rattle.refusals.specs.Limits.{nothing};
 ghost use Rattle.clearing.specs.Lent.{zeros};
 ghost use Rattle.taggedfields.specs.Fields.{bytes_of};
+ghost use Rattle.grammar.specs.Numbered.{numbered};
 ghost use Rattle.readalone.specs.Alone.{lent};
-ghost use Rattle.goldenparts.specs.Spans.{golden_in, Standing};
+ghost use Rattle.goldenparts.specs.Spans.{golden_in};
 ghost use Rattle.goldens.specs.Moving.{written, new_form, old_form, fielded, to_fields, to_plain, in_room, moved_as};
 
-// A move's answer: a refusal's number and place, or how many bytes were written.
-#[derive(Clone, Copy)]
-pub struct Moved {
-    pub refusal: u32,
-    pub place: u32,
-    pub written: u32,
-}
+use goldenparts::Golden;
+use refusals::{Fault, Refusal};
 
 // The most bytes that a field's length can say.
 const MOST_CONTENTS: u32 = 65_535;
@@ -25,140 +20,97 @@ const MOST_CONTENTS: u32 = 65_535;
 // What stands in a new golden beside its two values: the edition's field, and two headers.
 const HEADERS: usize = 10;
 
-fn refused(number: u32, place: u32) -> Moved
-    ensures { result ≡ record { refusal = number; place = place; written = 0 } }
-{
-    Moved {
-        refusal: number,
-        place,
-        written: 0,
-    }
-}
-
-// An output's length, which counts as at most 4,294,967,295.
-fn room_of(len: usize) -> usize
-    ensures { (result ≡ min len nothing) × (result ≤ len) × (result ≤ 4294967295) }
-{
-    if len < 4294967295 {
-        return len;
-    }
-    4294967295
-}
-
 // The edition's field.
 fn put_edition(out: &mut [u8])
     requires { 4 ≤ length out.old }
     ensures { out.new ≡ sets out.old 0 (1 ∷ 1 ∷ 0 ∷ 1 ∷ []) }
 {
-    out[0] = 1;
-    out[1] = 1;
-    out[2] = 0;
-    out[3] = 1;
+    out[0..4].copy_from_slice(&[1, 1, 0, 1]);
 }
 
 // A field's tag and length.
-fn put_header(out: &mut [u8], at: usize, tag: u8, size: usize)
-    requires { (at + 3 ≤ length out.old) × (size < 65536) }
+fn put_header(out: &mut [u8], at: usize, tag: u8, size: u16)
+    requires { at + 3 ≤ length out.old }
     ensures { out.new ≡ sets out.old at (tag ∷ size % 256 ∷ size / 256 ∷ []) }
 {
     out[at] = tag;
-    out[at + 1] = (size % 256) as u8;
-    out[at + 2] = (size / 256) as u8;
+    out[at + 1..at + 3].copy_from_slice(&size.to_le_bytes());
 }
 
-// A field whose contents are a part of the file.
-fn put_field(out: &mut [u8], at: usize, tag: u8, file: &[u8], start: usize, size: usize)
-    requires { (at + 3 + size ≤ length out.old) × (start + size ≤ length file.now) × (size < 65536) }
-    ensures { out.new ≡ sets out.old at (bytes_of (written tag (take size (drop start file.now)))) }
+// A field.
+fn put_field(out: &mut [u8], at: usize, tag: u8, contents: &[u8])
+    requires { (at + 3 + length contents.now ≤ length out.old) × (length contents.now < 65536) }
+    ensures { out.new ≡ sets out.old at (bytes_of (written tag contents.now)) }
 {
-    put_header(out, at, tag, size);
-    copying::copy_bytes(out, at + 3, file, start, size);
+    put_header(out, at, tag, contents.len() as u16);
+    out[at + 3..at + 3 + contents.len()].copy_from_slice(contents);
 }
 
 // The whole new golden.
-fn put_fields(file: &[u8], parts: goldenparts::Spans, out: &mut [u8])
-    requires { Standing (length file.now) parts × (parts.code.size < 65536) × (parts.result.size < 65536)
-        × (10 + parts.code.size + parts.result.size ≤ length out.old) }
-    ensures { out.new ≡ sets out.old 0 (new_form (golden_in file.now parts)) }
+fn put_fields(golden: Golden, out: &mut [u8])
+    requires { (golden.parts.code.size < 65536) × (golden.parts.result.size < 65536)
+        × (10 + golden.parts.code.size + golden.parts.result.size ≤ length out.old) }
+    ensures { out.new ≡ sets out.old 0 (new_form (golden_in golden.entry.file.now golden.entry.parts)) }
 {
-    let code = parts.code;
-    let result = parts.result;
-    let size = code.size as usize;
+    let code = golden.parts.code.of(golden.file);
     put_edition(out);
-    put_field(out, 4, 2, file, code.start as usize, size);
-    put_field(
-        out,
-        7 + size,
-        3,
-        file,
-        result.start as usize,
-        result.size as usize,
-    );
+    put_field(out, 4, 2, code);
+    put_field(out, 7 + code.len(), 3, golden.parts.result.of(golden.file));
 }
 
 // The new golden, if there is room.
-fn fields_in_room(file: &[u8], parts: goldenparts::Spans, out: &mut [u8]) -> Moved
-    requires { Standing (length file.now) parts × (parts.code.size < 65536) × (parts.result.size < 65536) × (out.old ≡ zeros (length out.old)) }
-    ensures { (result, out.new) ≡ in_room (new_form (golden_in file.now parts)) (length out.old) }
+fn fields_in_room(golden: Golden, out: &mut [u8]) -> Result<u32, Fault>
+    requires { (golden.parts.code.size < 65536) × (golden.parts.result.size < 65536) × (out.old ≡ zeros (length out.old)) }
+    ensures { (numbered result, out.new) ≡ in_room (new_form (golden_in golden.entry.file.now golden.entry.parts)) (length out.old) }
 {
-    let room = room_of(out.len());
+    let parts = golden.parts;
     let total = HEADERS + parts.code.size as usize + parts.result.size as usize;
-    if room < total {
-        return refused(refusals::NO_ROOM, room as u32);
-    }
-    put_fields(file, parts, out);
-    Moved {
-        refusal: refusals::ACCEPTED,
-        place: 0,
-        written: total as u32,
-    }
+    let size = taggedfields::fitting(out.len(), total)?;
+    put_fields(golden, out);
+    Ok(size)
 }
 
 // The new golden, where a field can hold each value.
-fn write_fields(file: &[u8], parts: goldenparts::Spans, out: &mut [u8]) -> Moved
-    requires { Standing (length file.now) parts × (out.old ≡ zeros (length out.old)) }
-    ensures { (result, out.new) ≡ moved_as (fielded (golden_in file.now parts)) (length out.old) }
+fn write_fields(golden: Golden, out: &mut [u8]) -> Result<u32, Fault>
+    requires { out.old ≡ zeros (length out.old) }
+    ensures { (numbered result, out.new) ≡ moved_as (fielded (golden_in golden.entry.file.now golden.entry.parts)) (length out.old) }
 {
+    let parts = golden.parts;
     if MOST_CONTENTS < parts.code.size {
-        return refused(refusals::VALUE_TOO_LONG, parts.code.start);
+        return Err(Refusal::ValueTooLong.at(parts.code.start));
     }
     if MOST_CONTENTS < parts.result.size {
-        return refused(refusals::VALUE_TOO_LONG, parts.result.start);
+        return Err(Refusal::ValueTooLong.at(parts.result.start));
     }
-    fields_in_room(file, parts, out)
+    fields_in_room(golden, out)
 }
 
 // The whole old golden.
-fn put_plain(file: &[u8], parts: goldenparts::Spans, out: &mut [u8])
-    requires { Standing (length file.now) parts × (parts.code.size + parts.result.size ≤ length out.old) }
-    ensures { out.new ≡ sets out.old 0 (old_form (golden_in file.now parts)) }
+fn put_plain(golden: Golden, out: &mut [u8])
+    requires { golden.parts.code.size + golden.parts.result.size ≤ length out.old }
+    ensures { out.new ≡ sets out.old 0 (old_form (golden_in golden.entry.file.now golden.entry.parts)) }
 {
-    let code = parts.code;
-    let result = parts.result;
-    let size = code.size as usize;
-    copying::copy_bytes(out, 0, file, code.start as usize, size);
-    copying::copy_bytes(out, size, file, result.start as usize, result.size as usize);
+    let code = golden.parts.code.of(golden.file);
+    let result = golden.parts.result.of(golden.file);
+    let end = code.len();
+    out[0..end].copy_from_slice(code);
+    out[end..end + result.len()].copy_from_slice(result);
 }
 
 // The old golden, if there is room.
-fn write_plain(file: &[u8], parts: goldenparts::Spans, out: &mut [u8]) -> Moved
-    requires { Standing (length file.now) parts × (out.old ≡ zeros (length out.old)) }
-    ensures { (result, out.new) ≡ in_room (old_form (golden_in file.now parts)) (length out.old) }
+fn write_plain(golden: Golden, out: &mut [u8]) -> Result<u32, Fault>
+    requires { out.old ≡ zeros (length out.old) }
+    ensures { (numbered result, out.new) ≡ in_room (old_form (golden_in golden.entry.file.now golden.entry.parts)) (length out.old) }
 {
-    let room = room_of(out.len());
+    let parts = golden.parts;
     let total = parts.code.size as usize + parts.result.size as usize;
-    if room < total {
-        return refused(refusals::NO_ROOM, room as u32);
-    }
-    put_plain(file, parts, out);
-    Moved {
-        refusal: refusals::ACCEPTED,
-        place: 0,
-        written: total as u32,
-    }
+    let size = taggedfields::fitting(out.len(), total)?;
+    put_plain(golden, out);
+    Ok(size)
 }
 
-// Old to new.
+// Old to new: how many bytes were written. The three stores stand one by one for the reason beside readalone's `read_alone`.
+// `to_plain` is alike but for what takes the file apart and what writes: passing both as closures would be longer than the three lines.
 pub fn to_fields(
     plain: &[u8],
     nodes: &mut [u32],
@@ -166,20 +118,17 @@ pub fn to_fields(
     slots: &mut [u32],
     nesting: u32,
     out: &mut [u8],
-) -> Moved
-    ensures { ((result, out.new) ≡ moved_as (to_fields (lent (length nodes.old) (length entries.old)
+) -> Result<u32, Fault>
+    ensures { ((numbered result, out.new) ≡ moved_as (to_fields (lent (length nodes.old) (length entries.old)
         (length slots.old) nesting) plain.now) (length out.old))
         × (nodes.new ≡ zeros (length nodes.old)) × (entries.new ≡ zeros (length entries.old)) × (slots.new ≡ zeros (length slots.old)) }
 {
     clearing::clear_bytes(out);
-    let p = goldenparts::old_parts(plain, nodes, entries, slots, nesting);
-    match p {
-        goldenparts::Taken::Refused(number, place) => refused(number, place),
-        goldenparts::Taken::Apart(parts) => write_fields(plain, parts, out),
-    }
+    let parts = goldenparts::old_parts(plain, nodes, entries, slots, nesting)?;
+    write_fields(Golden { file: plain, parts }, out)
 }
 
-// New to old.
+// New to old: how many bytes were written.
 pub fn to_plain(
     fields: &[u8],
     nodes: &mut [u32],
@@ -187,15 +136,18 @@ pub fn to_plain(
     slots: &mut [u32],
     nesting: u32,
     out: &mut [u8],
-) -> Moved
-    ensures { ((result, out.new) ≡ moved_as (to_plain (lent (length nodes.old) (length entries.old)
+) -> Result<u32, Fault>
+    ensures { ((numbered result, out.new) ≡ moved_as (to_plain (lent (length nodes.old) (length entries.old)
         (length slots.old) nesting) fields.now) (length out.old))
         × (nodes.new ≡ zeros (length nodes.old)) × (entries.new ≡ zeros (length entries.old)) × (slots.new ≡ zeros (length slots.old)) }
 {
     clearing::clear_bytes(out);
-    let p = goldenparts::new_parts(fields, nodes, entries, slots, nesting);
-    match p {
-        goldenparts::Taken::Refused(number, place) => refused(number, place),
-        goldenparts::Taken::Apart(parts) => write_plain(fields, parts, out),
-    }
+    let parts = goldenparts::new_parts(fields, nodes, entries, slots, nesting)?;
+    write_plain(
+        Golden {
+            file: fields,
+            parts,
+        },
+        out,
+    )
 }

@@ -10,7 +10,7 @@ use lib.ListN.{length, take, drop, length-append, take-append-drop}
 use lib.Seq.{length-take-le, take-append_seam, drop-append_seam}
 use borrow.Author.Tests.{le-ltb, ltb-false, eqb-true}
 use Rattle.refusals.specs.Limits.{nothing}
-use Rattle.refusals.specs.Numbers.{accepted, no_room, value_too_long}
+use Rattle.refusals.specs.Numbers.{no_room, value_too_long}
 use Rattle.clearing.specs.Lent.{padded}
 use Rattle.taggedfields.specs.Fields.{Field, Reading, reading, among, bytes_of, spelt}
 use Rattle.taggedfields.specs.Looking.{size_in}
@@ -18,14 +18,13 @@ use Rattle.taggedfields.specs.Promised.{tags_of, laid}
 use Rattle.taggedfields.proofs.Promised.{fields_keep_their_promises}
 use Rattle.taggedfields.proofs.Spelt.{spelt-reading}
 use Rattle.grammar.specs.Input.{Bytes}
-use Rattle.grammar.specs.Reading.{gives, stops}
+use Rattle.grammar.specs.Reading.{Answer, gives, stops}
 use Rattle.grammar.proofs.Tests.{never}
 use Rattle.readalone.specs.Alone.{Room, within, alone}
 use Rattle.goldenparts.specs.Forms.{Golden, next, is_code, judged, result_read, cut_at, old_parts, only_one, golden_fields, or_other, or_fault, in_fields, both_read, new_parts}
 use Rattle.goldenparts.proofs.Fielded.{Three, three, code_in, result_in, fielded}
 use Rattle.goldens.specs.Moving as moving
 use Rattle.goldens.specs.Moving.{written, new_form, old_form, most_contents, to_fields, to_plain, refused_as, in_room, moved_as}
-use Rattle.goldens.specs.declared.Moved.{Moved}
 use Rattle.goldens.proofs.Taking.{gives-stops as none_gives, same_gives, next_gives, Old, old_told, New, new_told}
 use Rattle.goldentrips.specs.Promised.{Whole, Both, Promised}
 use Rattle.goldentrips.proofs.Parting.{cut_same, append_same, whole_told_lem, whole-alone, front-told, code_letter_lem, read-alone}
@@ -248,10 +247,10 @@ new-back R new old' b e =
 
 -- ---- room
 written_in : (bytes : List ℕ) (room : ℕ) → length bytes ≤ min room nothing
-    → moved_as (gives bytes) room ≡ (record { refusal = accepted; place = 0; written = length bytes }, padded room bytes)
+    → moved_as (gives bytes) room ≡ (gives (length bytes), padded room bytes)
 unfolding moved_as
 written_in bytes room l =
-    ap (λ b. cond {A = Moved × List ℕ} b (refused_as no_room (min room nothing) room) (record { refusal = accepted; place = 0; written = length bytes }, padded room bytes))
+    ap (λ b. cond {A = Answer ℕ × List ℕ} b (refused_as no_room (min room nothing) room) (gives (length bytes), padded room bytes))
     (le-ltb (min room nothing) (length bytes) l)
 
 pub goldens_keep_their_promises : Promised

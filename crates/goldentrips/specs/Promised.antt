@@ -1,7 +1,6 @@
 -- What 02's K13 promises of golden files. `proofs/Promised` has the theorem.
 -- "Move old to new and back; the old bytes return exactly, since references never cross the two values. Both are read before anything is written".
 use Rattle.std.specs.Prelude.{◌≡◌, List, [], ◌∷◌, ◌++◌, ℕ, ◌≤◌, min, length}
-use Rattle.refusals.specs.Numbers.{accepted}
 use Rattle.refusals.specs.Limits.{nothing}
 use Rattle.clearing.specs.Lent.{padded}
 use Rattle.taggedfields.specs.Fields.{spelt}
@@ -39,4 +38,4 @@ pub record Promised : Type 0 where
   pub new_returns : (R : Room) (new old : List ℕ) → Bytes new → to_plain R new ≡ gives old → to_fields R old ≡ gives new
   -- the call writes it wherever there is room
   pub written_out : (bytes : List ℕ) (room : ℕ) → length bytes ≤ min room nothing
-      → moved_as (gives bytes) room ≡ (record { refusal = accepted; place = 0; written = length bytes }, padded room bytes)
+      → moved_as (gives bytes) room ≡ (gives (length bytes), padded room bytes)

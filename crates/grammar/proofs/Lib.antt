@@ -18,3 +18,4 @@ pub mod Root
 pub mod Sheets
 pub mod Substance
 pub mod Vectors
+pub mod Numbered

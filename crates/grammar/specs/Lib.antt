@@ -11,3 +11,4 @@ pub mod Answer
 pub mod Counted
 pub mod Record
 pub mod Leaf
+pub mod Numbered

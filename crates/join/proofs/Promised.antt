@@ -8,7 +8,10 @@ use native.Mathlib.Omega.{arith}
 use lib.ListN.{length, length-append}
 use lib.Dec.{ltb}
 use borrow.Author.Tests.{lt-ltb, le-ltb, eqb-true, eq-eqb}
-use Rattle.refusals.specs.Numbers.{input_too_long, no_room, not_joined}
+use Rattle.std.specs.Prelude.{Result, Ok}
+use Rattle.refusals.specs.Faults.{refused as refused_as}
+use Rattle.refusals.specs.declared.Fault.{Fault}
+use Rattle.refusals.specs.declared.Refusal.TheVariants.{InputTooLong, NoRoom, NotJoined}
 use Rattle.refusals.specs.Limits.{most_bytes}
 use Rattle.clearing.specs.Lent.{zeros, padded}
 use Rattle.lineentry.specs.declared.Location.{Location}
@@ -18,7 +21,7 @@ use Rattle.rows.specs.Spells.{Spells}
 use Rattle.rows.proofs.Joins.{spells_join, spells_none, spells_complete, complete_spells}
 use Rattle.salvage.proofs.Kept.{spells_walk}
 use Rattle.join.specs.declared.Joined.{Joined}
-use Rattle.join.specs.Join.{meets, refused_with, joins, join_of}
+use Rattle.join.specs.Join.{meets, joins, join_of}
 use Rattle.join.specs.Promised.{Table, Whole, leaves, Shows, followed, nothing, Meet, Allowed, joining, Promised}
 use Rattle.join.proofs.Wholes.{both, whole_complete, complete_whole, spells_whole, spells_eights}
 
@@ -97,24 +100,24 @@ meet-meets t u m = rw (complete_whole m.former, eq-eqb (leaves t) u.first m.line
 
 module _ (t u : Table) (room : ℕ) where
   accepted_where : Allowed t u → length t.bytes + length u.bytes ≤ room
-      → joining t u room ≡ (joins (length t.bytes + length u.bytes) (t.count + u.count) (leaves u), padded room (t.bytes ++ u.bytes))
+      → joining t u room ≡ (Ok (joins (length t.bytes + length u.bytes) (t.count + u.count) (leaves u)), padded room (t.bytes ++ u.bytes))
   unfolding join_of
   accepted_where h k = rw (le-ltb most_bytes (length t.bytes + length u.bytes) h.short, meet-meets t u h.meet, le-ltb room (length t.bytes + length u.bytes) k)
 
-  long-refused : most_bytes < length t.bytes + length u.bytes → joining t u room ≡ (refused_with input_too_long 0, zeros room)
+  long-refused : most_bytes < length t.bytes + length u.bytes → joining t u room ≡ (refused_as InputTooLong 0, zeros room)
   unfolding join_of
   long-refused h = rw (lt-ltb most_bytes (length t.bytes + length u.bytes) h)
 
-  apart-refused : length t.bytes + length u.bytes ≤ most_bytes → (Meet t u → ⊥) → joining t u room ≡ (refused_with not_joined 0, zeros room)
+  apart-refused : length t.bytes + length u.bytes ≤ most_bytes → (Meet t u → ⊥) → joining t u room ≡ (refused_as NotJoined 0, zeros room)
   unfolding join_of
   apart-refused h other = rw (le-ltb most_bytes (length t.bytes + length u.bytes) h) (on (meets t.bytes t.first t.count u.bytes u.first u.count) refl) where
     on : (b : Bool) → meets t.bytes t.first t.count u.bytes u.first u.count ≡ b
-        → ◌≡◌ {A = Joined × List ℕ} (cond b (cond (ltb room (length t.bytes + length u.bytes)) (refused_with no_room (min room 4294967295), zeros room) (joins (length t.bytes + length u.bytes) (t.count + u.count) (leaves u), padded room (t.bytes ++ u.bytes))) (refused_with not_joined 0, zeros room))
-        (refused_with not_joined 0, zeros room)
+        → ◌≡◌ {A = Result Joined Fault × List ℕ} (cond b (cond (ltb room (length t.bytes + length u.bytes)) (refused_as NoRoom (min room 4294967295), zeros room) (Ok (joins (length t.bytes + length u.bytes) (t.count + u.count) (leaves u)), padded room (t.bytes ++ u.bytes))) (refused_as NotJoined 0, zeros room))
+        (refused_as NotJoined 0, zeros room)
     on true e = absurd (other (meets-meet t u e))
     on false e = refl
 
-  narrow-refused : Allowed t u → room < length t.bytes + length u.bytes → joining t u room ≡ (refused_with no_room (min room 4294967295), zeros room)
+  narrow-refused : Allowed t u → room < length t.bytes + length u.bytes → joining t u room ≡ (refused_as NoRoom (min room 4294967295), zeros room)
   unfolding join_of
   narrow-refused h k = rw (le-ltb most_bytes (length t.bytes + length u.bytes) h.short, meet-meets t u h.meet, lt-ltb room (length t.bytes + length u.bytes) k)
 

@@ -8,7 +8,11 @@ use native.Mathlib.Omega.{arith}
 use lib.ListN.{length}
 use lib.Dec.{leb, eqb}
 use borrow.Author.Tests.{lt-ltb, le-ltb, leb-true, leb-false}
-use Rattle.refusals.specs.Numbers.{input_too_long, number_range}
+use Rattle.std.specs.Prelude.{Result, Ok}
+use Rattle.refusals.specs.Faults.{number_of, refused as refused_as}
+use Rattle.refusals.specs.declared.Fault.{Fault}
+use Rattle.refusals.specs.declared.Refusal.{Refusal}
+use Rattle.refusals.specs.declared.Refusal.TheVariants.{InputTooLong, NumberRange}
 use Rattle.refusals.specs.Limits.{most_bytes}
 use Rattle.lineentry.specs.declared.Location.{Location}
 use Rattle.lineentry.specs.declared.Span.{Span}
@@ -21,7 +25,7 @@ use Rattle.rows.proofs.Extent.{entry_runs}
 use Rattle.rows.proofs.Chains.{rowed}
 use Rattle.rows.proofs.Walks.{walk-row}
 use Rattle.join.specs.declared.LineTold.{LineTold}
-use Rattle.join.specs.Whole.{all_placed, whole_for, end_line, line_of, refuses, no_line, told, line_told, Leaves, placed, stop, entry, beyond}
+use Rattle.join.specs.Whole.{all_placed, whole_for, end_line, line_of, refuses, told, line_told, Leaves, placed, stop, entry, beyond}
 use Rattle.join.specs.Promised.{LinePromised}
 
 -- ---- the line where the reading ends
@@ -63,14 +67,14 @@ leaves-row s first count es x d = on (refuses x) (leaves_end s (line_after first
       subst (λ n. Leaves s first 0 n (end_line (line_after first es) x)) z (leaves-chain s first 0 (count - total es) (end_line (line_after first es) x) es d.chain h)
 
 -- ---- what is told, of 01's reading
-abbrev Says : List ℕ → ℕ → ℕ → Reading → ℕ → LineTold → Type 0
-Says s first count (done ls k whole) line r = (r ≡ told whole line) × Leaves s first 0 count line
-Says s first count (refused number place) line r = r ≡ no_line number place
+abbrev Says : List ℕ → ℕ → ℕ → Reading → ℕ → Result LineTold Fault → Type 0
+Says s first count (done ls k whole) line r = (r ≡ Ok (told whole line)) × Leaves s first 0 count line
+Says s first count (refused number place) line r = (why : Refusal) × (number_of why ≡ number) × (r ≡ refused_as why place)
 
 module _ (s : List ℕ) (first count : ℕ) (at : Location) where
-  abbrev tells : List Span → Ending → LineTold
+  abbrev tells : List Span → Ending → Result LineTold Fault
   tells es x =
-      cond (refuses x) (no_line number_range (place_after 0 es)) (told (all_placed x && eqb (place_after 0 es) (length s)) (end_line (line_after first es) x))
+      cond (refuses x) (refused_as NumberRange (place_after 0 es)) (Ok (told (all_placed x && eqb (place_after 0 es) (length s)) (end_line (line_after first es) x)))
 
   says_row : (es : List Span) (x : Ending) → Rowed s first 0 count (record { entries = es; ending = x })
       → Says s first count (row_reads s at 0 count (record { entries = es; ending = x })) (end_line (line_after first es) x) (tells es x)
@@ -78,7 +82,7 @@ module _ (s : List ℕ) (first count : ℕ) (at : Location) where
   says_row es table_end d = (refl, leaves-row s first count es table_end d)
   says_row es stop_byte d = (refl, leaves-row s first count es stop_byte d)
   says_row es (cut_short e) d = (refl, leaves-row s first count es (cut_short e) d)
-  says_row es out_of_range d = refl
+  says_row es out_of_range d = (NumberRange, refl, refl)
   says_row es (past_count e) d = (refl, leaves-row s first count es (past_count e) d)
 
   says : length s ≤ most_bytes → Says s first count (walk count s at first 0 count) (line_of s first count) (line_told s first count)
@@ -87,7 +91,7 @@ module _ (s : List ℕ) (first count : ℕ) (at : Location) where
       subst (λ r. Says s first count r (line_of s first count) (line_told s first count)) (sym (walk-row s at first 0 count))
       (rw (le-ltb most_bytes (length s) h) (says_row (row s first 0 count).entries (row s first 0 count).ending (rowed s first 0 count)))
 
-told-long : (s : List ℕ) (first count : ℕ) → most_bytes < length s → line_told s first count ≡ no_line input_too_long 0
+told-long : (s : List ℕ) (first count : ℕ) → most_bytes < length s → line_told s first count ≡ refused_as InputTooLong 0
 unfolding line_told
 told-long s first count h = rw (lt-ltb most_bytes (length s) h)
 

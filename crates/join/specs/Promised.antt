@@ -1,14 +1,17 @@
 -- What 02's K12 promises of a join, each sentence a field. `proofs/Promised` has the theorem. Lines are kept plus 2^31, as everywhere.
-use Rattle.std.specs.Prelude.{◌≡◌, Bool, true, List, [], ◌++◌, ℕ, ◌+◌, ◌≤◌, ◌<◌, ◌^◌, min, length}
-use Rattle.refusals.specs.Numbers.{input_too_long, no_room, not_joined}
+use Rattle.std.specs.Prelude.{◌≡◌, Bool, true, List, [], ◌++◌, ℕ, ◌+◌, ◌≤◌, ◌<◌, ◌^◌, min, length, Result, Ok}
+use Rattle.refusals.specs.Faults.{number_of, refused as refused_as}
+use Rattle.refusals.specs.declared.Fault.{Fault}
+use Rattle.refusals.specs.declared.Refusal.{Refusal}
+use Rattle.refusals.specs.declared.Refusal.TheVariants.{InputTooLong, NoRoom, NotJoined}
 use Rattle.refusals.specs.Limits.{most_bytes}
 use Rattle.clearing.specs.Lent.{zeros, padded}
 use Rattle.lineentry.specs.declared.Location.{Location}
 use Rattle.linetable.specs.Walk.{done, refused, walk}
 use Rattle.linetable.specs.Complete.{Complete}
 use Rattle.join.specs.declared.Joined.{Joined}
-use Rattle.join.specs.Whole.{line_of, no_line, told, line_told, Leaves}
-use Rattle.join.specs.Join.{refused_with, joins, join_of}
+use Rattle.join.specs.Whole.{line_of, told, line_told, Leaves}
+use Rattle.join.specs.Join.{joins, join_of}
 
 -- a table, its first line and how many instructions it is for
 pub record Table : Type 0 where
@@ -48,7 +51,7 @@ pub record Allowed (t u : Table) : Type 0 where
   pub meet : Meet t u
 
 -- the call, with so much room
-abbrev pub joining : Table → Table → ℕ → Joined × List ℕ
+abbrev pub joining : Table → Table → ℕ → Result Joined Fault × List ℕ
 joining t u room = join_of t.bytes t.first t.count u.bytes u.first u.count room
 
 pub record Promised : Type 0 where
@@ -68,15 +71,15 @@ pub record Promised : Type 0 where
   pub sum : (t u : Table) → Allowed t u → t.count + u.count < 2 ^ 32
   -- What the call gives: an allowed join is written where there is room; "Joins outside these conditions are refused", in the request's order.
   pub accepts : (t u : Table) (room : ℕ) → Allowed t u → length t.bytes + length u.bytes ≤ room
-      → joining t u room ≡ (joins (length t.bytes + length u.bytes) (t.count + u.count) (leaves u), padded room (followed t u).bytes)
-  pub long : (t u : Table) (room : ℕ) → most_bytes < length t.bytes + length u.bytes → joining t u room ≡ (refused_with input_too_long 0, zeros room)
-  pub apart : (t u : Table) (room : ℕ) → length t.bytes + length u.bytes ≤ most_bytes → (Meet t u → ⊥) → joining t u room ≡ (refused_with not_joined 0, zeros room)
-  pub narrow : (t u : Table) (room : ℕ) → Allowed t u → room < length t.bytes + length u.bytes → joining t u room ≡ (refused_with no_room (min room 4294967295), zeros room)
+      → joining t u room ≡ (Ok (joins (length t.bytes + length u.bytes) (t.count + u.count) (leaves u)), padded room (followed t u).bytes)
+  pub long : (t u : Table) (room : ℕ) → most_bytes < length t.bytes + length u.bytes → joining t u room ≡ (refused_as InputTooLong 0, zeros room)
+  pub apart : (t u : Table) (room : ℕ) → length t.bytes + length u.bytes ≤ most_bytes → (Meet t u → ⊥) → joining t u room ≡ (refused_as NotJoined 0, zeros room)
+  pub narrow : (t u : Table) (room : ℕ) → Allowed t u → room < length t.bytes + length u.bytes → joining t u room ≡ (refused_as NoRoom (min room 4294967295), zeros room)
 
 -- What is promised of the running line: it is told where 01's walk reads the table, with the walk's whole; else the walk's refusal is.
 pub record LinePromised : Type 0 where
-  pub long : (s : List ℕ) (first count : ℕ) → most_bytes < length s → line_told s first count ≡ no_line input_too_long 0
+  pub long : (s : List ℕ) (first count : ℕ) → most_bytes < length s → line_told s first count ≡ refused_as InputTooLong 0
   pub refused : (s : List ℕ) (first count : ℕ) (at : Location) {number place : ℕ} → length s ≤ most_bytes
-      → walk count s at first 0 count ≡ refused number place → line_told s first count ≡ no_line number place
+      → walk count s at first 0 count ≡ refused number place → (why : Refusal) × (number_of why ≡ number) × (line_told s first count ≡ refused_as why place)
   pub read : (s : List ℕ) (first count : ℕ) (at : Location) {ls : List Location} {k : ℕ} {whole : Bool} → length s ≤ most_bytes
-      → walk count s at first 0 count ≡ done ls k whole → (line_told s first count ≡ told whole (line_of s first count)) × Leaves s first 0 count (line_of s first count)
+      → walk count s at first 0 count ≡ done ls k whole → (line_told s first count ≡ Ok (told whole (line_of s first count))) × Leaves s first 0 count (line_of s first count)

@@ -1,12 +1,13 @@
 -- 02, K12: what a join asks of one table, without its records: whether it is whole, and the running line that it leaves. Both are told of the
 -- row of its entries; `proofs/Reading` shows that they are what 01's walk says.
-use Rattle.std.specs.Prelude.{◌≡◌, Bool, true, false, cond, ◌&&◌, List, ℕ, ◌+◌, ◌<◌, length, ltb, eqb}
-use Rattle.refusals.specs.Numbers.{accepted, input_too_long, number_range}
+use Rattle.std.specs.Prelude.{◌≡◌, Bool, true, false, cond, ◌&&◌, List, ℕ, ◌+◌, ◌<◌, length, ltb, eqb, Result, Ok}
+use Rattle.refusals.specs.Faults.{refused}
+use Rattle.refusals.specs.declared.Fault.{Fault}
+use Rattle.refusals.specs.declared.Refusal.TheVariants.{InputTooLong, NumberRange}
 use Rattle.refusals.specs.Limits.{most_bytes}
 use Rattle.lineentry.specs.declared.Span.{Span}
 use Rattle.lineentry.specs.declared.Entry.{Entry}
 use Rattle.lineentry.specs.declared.Entry.TheVariants.{Covers, Stop, OutOfRange}
-use Rattle.lineentry.specs.Line.{origin}
 use Rattle.lineentry.specs.Entry.{entry_at}
 use Rattle.rows.specs.Row.{Ending, placed_all, table_end, stop_byte, cut_short, out_of_range, past_count, row, line_after, place_after}
 use Rattle.join.specs.declared.LineTold.{LineTold}
@@ -53,19 +54,15 @@ refuses (cut_short e) = false
 refuses out_of_range = true
 refuses (past_count e) = false
 
--- a refusal's numbers; the line is then 0
-abbrev pub no_line : ℕ → ℕ → LineTold
-no_line number place = record { refusal = number; place = place; whole = false; line = origin }
-
 abbrev pub told : Bool → ℕ → LineTold
-told whole line = record { refusal = accepted; place = 0; whole = whole; line = line }
+told whole line = record { whole = whole; line = line }
 
 -- What is told of a table: 14 at 0, then 18 at the "entry start", else whether it is whole and its line.
-unfoldable pub line_told : List ℕ → ℕ → ℕ → LineTold
+unfoldable pub line_told : List ℕ → ℕ → ℕ → Result LineTold Fault
 line_told s first count =
-    cond (ltb most_bytes (length s)) (no_line input_too_long 0)
-    (cond (refuses (row s first 0 count).ending) (no_line number_range (place_after 0 (row s first 0 count).entries))
-    (told (whole_for s first count) (line_of s first count)))
+    cond (ltb most_bytes (length s)) (refused InputTooLong 0)
+    (cond (refuses (row s first 0 count).ending) (refused NumberRange (place_after 0 (row s first 0 count).entries))
+    (Ok (told (whole_for s first count) (line_of s first count))))
 
 -- The running line said without the row, as linetable's `FromEntries` says which locations come from entries: from the place p on, with so many
 -- instructions to place, the reading ends at the line g. An entry moves the line, one of which bytes are missing too; one that has more

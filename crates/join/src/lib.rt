@@ -2,36 +2,42 @@
 // line of a table, without its records.
 #![tactic(auto)]
 
-ghost use Rattle.std.specs.Prelude.{◌≡◌, Bool, true, false, ◌++◌, ◌+◌, ◌≤◌, length, ltb};
+ghost use Rattle.std.specs.Prelude.{◌≡◌, Bool, true, false, ◌++◌, ◌+◌, ◌≤◌, length};
 ghost use Rattle.std.proofs.lemmas.List.Edits.{sets};
 ghost use Rattle.refusals.specs.Limits.{most_bytes};
 ghost use Rattle.lineentry.specs.Entry.{entry_at};
 ghost use Rattle.linetable.specs.Answer.{first_line_of};
-ghost use Rattle.join.specs.Whole.{no_line, line_told, entry_line};
-ghost use Rattle.join.specs.Join.{no_meeting, met, refused_with, join_of};
+ghost use Rattle.join.specs.Whole.{line_told, entry_line};
+ghost use Rattle.join.specs.Join.{met, join_of};
 
 use lineentry::Entry;
+use refusals::{Fault, Refusal};
+use rows::How;
 
-// Line 0, as it is kept.
-const NO_LINE: u32 = 0x8000_0000;
-
-// A refusal's number and place, or whether the table is whole, and the running line where its reading ends, kept plus 2^31.
+// Whether a table is whole, and the running line where its reading ends, kept plus 2^31.
 #[derive(Clone, Copy)]
 pub struct LineTold {
-    pub refusal: u32,
-    pub place: u32,
     pub whole: bool,
     pub line: u32,
 }
 
-fn no_line(number: u32, place: u32) -> LineTold
-    ensures { result ≡ no_line number place }
+// A table: its bytes, its first line, kept plus 2^31, and for how many instructions it is.
+#[derive(Clone, Copy)]
+struct Table<'a> {
+    bytes: &'a [u8],
+    first: u32,
+    count: u32,
+}
+
+// A table from a first line as code objects have it.
+fn table_of(bytes: &[u8], first_line: i32, count: u32) -> Table<'_>
+    ensures { (result.bytes.now ≡ bytes.now) × (result.first ≡ first_line_of first_line) × (result.count ≡ count) }
 {
-    LineTold {
-        refusal: number,
-        place,
-        whole: false,
-        line: NO_LINE,
+    let first = lineentry::as_signed(signed::bits32(first_line));
+    Table {
+        bytes,
+        first,
+        count,
     }
 }
 
@@ -46,88 +52,52 @@ fn entry_line(table: &[u8], line: u32, at: usize) -> u32
     }
 }
 
-// What is told of a table, from a first line that is kept plus 2^31.
-fn line_told(table: &[u8], first: u32, count: u32) -> LineTold
-    ensures { result ≡ line_told table.now first count }
+// What is told of a table.
+fn line_told(t: Table<'_>) -> Result<LineTold, Fault>
+    ensures { result ≡ line_told t.entry.bytes.now t.entry.first t.entry.count }
 {
+    let table = t.bytes;
     if (refusals::MOST_BYTES as usize) < table.len() {
-        return no_line(refusals::INPUT_TOO_LONG, 0);
+        return Err(Refusal::InputTooLong.at(0));
     }
-    let e = rows::walk_row(table, first, count);
-    if e.how == rows::REFUSED {
-        return no_line(refusals::NUMBER_RANGE, e.place as u32);
+    let e = rows::walk_row(table, t.first, t.count);
+    if let How::Refused = e.how {
+        return Err(Refusal::NumberRange.at(e.place as u32));
     }
-    if e.how == rows::ALL_PLACED {
-        return LineTold {
-            refusal: refusals::ACCEPTED,
-            place: 0,
+    if let How::AllPlaced = e.how {
+        return Ok(LineTold {
             whole: e.place == table.len(),
             line: e.line,
-        };
+        });
     }
     let line = entry_line(table, e.line, e.place);
-    LineTold {
-        refusal: refusals::ACCEPTED,
-        place: 0,
-        whole: false,
-        line,
-    }
+    Ok(LineTold { whole: false, line })
 }
 
-// The same from a first line as code objects have it.
-pub fn line_after(table: &[u8], first_line: i32, count: u32) -> LineTold
+// What is told of a table, from a first line as code objects have it.
+pub fn line_after(table: &[u8], first_line: i32, count: u32) -> Result<LineTold, Fault>
     ensures { result ≡ line_told table.now (first_line_of first_line) count }
 {
-    let first = lineentry::as_signed(signed::bits32(first_line));
-    line_told(table, first, count)
+    line_told(table_of(table, first_line, count))
 }
 
-// Whether two tables meet, and then the line that the second one leaves.
-#[derive(Clone, Copy)]
-pub struct Met {
-    pub joins: bool,
-    pub line: u32,
-}
-
-fn apart() -> Met
-    ensures { result ≡ no_meeting }
+// The line that the second of two tables leaves, if they meet.
+fn meet(a: Table<'_>, b: Table<'_>) -> Option<u32>
+    requires { (length a.bytes.now ≤ most_bytes) × (length b.bytes.now ≤ most_bytes) }
+    ensures { result ≡ met a.entry.bytes.now a.entry.first a.entry.count b.entry.bytes.now b.entry.first b.entry.count }
 {
-    Met {
-        joins: false,
-        line: NO_LINE,
-    }
-}
-
-fn meet(a: &[u8], first_a: u32, count_a: u32, b: &[u8], first_b: u32, count_b: u32) -> Met
-    requires { (length a.now ≤ most_bytes) × (length b.now ≤ most_bytes) }
-    ensures { result ≡ met a.now first_a count_a b.now first_b count_b }
-{
-    let former = line_told(a, first_a, count_a);
+    let former = line_told(a).ok()?;
     if !former.whole {
-        return apart();
+        return None;
     }
-    if former.line != first_b {
-        return apart();
+    if former.line != b.first {
+        return None;
     }
-    let latter = line_told(b, first_b, count_b);
+    let latter = line_told(b).ok()?;
     if !latter.whole {
-        return apart();
+        return None;
     }
-    Met {
-        joins: true,
-        line: latter.line,
-    }
-}
-
-// Whether two lengths are above 16 MiB together.
-fn too_long(a: usize, b: usize) -> bool
-    ensures { result ≡ ltb most_bytes (a + b) }
-{
-    let most = refusals::MOST_BYTES as usize;
-    if most < a {
-        return true;
-    }
-    most - a < b
+    Some(latter.line)
 }
 
 // One slice behind another.
@@ -135,65 +105,39 @@ fn write_both(out: &mut [u8], a: &[u8], b: &[u8])
     requires { length a.now + length b.now ≤ length out.old }
     ensures { out.new ≡ sets out.old 0 (a.now ++ b.now) }
 {
-    salvage::copy(out, 0, a, 0, a.len());
-    salvage::copy(out, a.len(), b, 0, b.len());
+    out[..a.len()].copy_from_slice(a);
+    out[a.len()..a.len() + b.len()].copy_from_slice(b);
 }
 
-// A refusal's number and place, or how many bytes were written, for how many instructions, and the line that they leave, kept plus 2^31.
+// How many bytes were written, for how many instructions, and the line that they leave, kept plus 2^31.
 #[derive(Clone, Copy)]
 pub struct Joined {
-    pub refusal: u32,
-    pub place: u32,
     pub written: u32,
     pub count: u32,
     pub line: u32,
 }
 
-fn refusal(number: u32, place: u32) -> Joined
-    ensures { result ≡ refused_with number place }
-{
-    Joined {
-        refusal: number,
-        place,
-        written: 0,
-        count: 0,
-        line: NO_LINE,
-    }
-}
-
-// The second table behind the first, from first lines that are kept plus 2^31.
-fn join(
-    a: &[u8],
-    first_a: u32,
-    count_a: u32,
-    b: &[u8],
-    first_b: u32,
-    count_b: u32,
-    out: &mut [u8],
-) -> Joined
-    ensures { (result ≡ (join_of a.now first_a count_a b.now first_b count_b (length out.old)).0)
-        × (out.new ≡ (join_of a.now first_a count_a b.now first_b count_b (length out.old)).1) }
+// The second table behind the first.
+fn join(a: Table<'_>, b: Table<'_>, out: &mut [u8]) -> Result<Joined, Fault>
+    ensures { (result ≡ (join_of a.entry.bytes.now a.entry.first a.entry.count b.entry.bytes.now b.entry.first b.entry.count (length out.old)).0)
+        × (out.new ≡ (join_of a.entry.bytes.now a.entry.first a.entry.count b.entry.bytes.now b.entry.first b.entry.count (length out.old)).1) }
 {
     clearing::clear_bytes(out);
-    if too_long(a.len(), b.len()) {
-        return refusal(refusals::INPUT_TOO_LONG, 0);
+    let size = a.bytes.len() + b.bytes.len();
+    if (refusals::MOST_BYTES as usize) < size {
+        return Err(Refusal::InputTooLong.at(0));
     }
-    let m = meet(a, first_a, count_a, b, first_b, count_b);
-    if !m.joins {
-        return refusal(refusals::NOT_JOINED, 0);
-    }
-    let size = a.len() + b.len();
+    let met = meet(a, b);
+    let line = met.ok_or(Refusal::NotJoined.at(0))?;
     if out.len() < size {
-        return refusal(refusals::NO_ROOM, salvage::short_place(out.len()));
+        return Err(Refusal::NoRoom.at(salvage::short_place(out.len())));
     }
-    write_both(out, a, b);
-    Joined {
-        refusal: refusals::ACCEPTED,
-        place: 0,
+    write_both(out, a.bytes, b.bytes);
+    Ok(Joined {
         written: size as u32,
-        count: count_a + count_b,
-        line: m.line,
-    }
+        count: a.count + b.count,
+        line,
+    })
 }
 
 // The same from first lines as code objects have them.
@@ -205,11 +149,11 @@ pub fn join_tables(
     first_b: i32,
     count_b: u32,
     out: &mut [u8],
-) -> Joined
+) -> Result<Joined, Fault>
     ensures { (result ≡ (join_of a.now (first_line_of first_a) count_a b.now (first_line_of first_b) count_b (length out.old)).0)
         × (out.new ≡ (join_of a.now (first_line_of first_a) count_a b.now (first_line_of first_b) count_b (length out.old)).1) }
 {
-    let f = lineentry::as_signed(signed::bits32(first_a));
-    let g = lineentry::as_signed(signed::bits32(first_b));
-    join(a, f, count_a, b, g, count_b, out)
+    let former = table_of(a, first_a, count_a);
+    let latter = table_of(b, first_b, count_b);
+    join(former, latter, out)
 }

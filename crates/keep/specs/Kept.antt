@@ -1,7 +1,10 @@
 -- What a move answers and leaves. 02, K11; a refused move leaves nodes, entries and slots as they were.
-use Rattle.std.specs.Prelude.{◌≡◌, ℕ, ◌+◌, ◌-◌, ◌*◌, ◌≤◌, min, cond, List, length, ltb}
+use Rattle.std.specs.Prelude.{◌≡◌, ℕ, ◌+◌, ◌-◌, ◌*◌, ◌≤◌, min, cond, List, length, ltb, Result, Ok}
 use Rattle.refusals.specs.Limits.{most_records}
-use Rattle.refusals.specs.Numbers.{accepted, bad_table, no_room}
+use Rattle.refusals.specs.Faults.{refused}
+use Rattle.refusals.specs.declared.Fault.{Fault}
+use Rattle.refusals.specs.declared.Refusal.{Refusal}
+use Rattle.refusals.specs.declared.Refusal.TheVariants.{BadTable, NoRoom}
 use Rattle.clearing.specs.Lent.{zeros}
 use Rattle.grammar.specs.State.{node_width, entry_width, node_capacity, entry_capacity}
 use Rattle.grammar.specs.Record.{nodes_in, entries_in}
@@ -19,27 +22,22 @@ lent_stores nodes entries used_nodes used_entries = stores nodes entries (nodes_
 
 -- what is found before anything is written
 pub data Outcome : Type 0 where
-  refuses : (number place : ℕ) → Outcome
+  refuses : (why : Refusal) (place : ℕ) → Outcome
   moves : (order : List ℕ) → Outcome
 
 abbrev pub by_visit : Visited → Outcome
-by_visit (bad place) = refuses bad_table place
+by_visit (bad place) = refuses BadTable place
 by_visit (visited order) = moves order
 
 -- "Refusals: a bad chain .. or number 16; visit stack short 17", 17 first
 unfoldable pub outcome : Stores → (used_nodes used_entries node size : ℕ) → Outcome
-outcome t used_nodes used_entries node size = cond (ltb size (need used_nodes used_entries)) (refuses no_room size) (by_visit (visit_from t node))
-
--- refused, "number and place, no counts"
-abbrev pub refused_as : (number place : ℕ) → declared.Kept
-refused_as number place = record { refusal = number; place = place; nodes = 0; entries = 0; freenodes = 0; freeentries = 0 }
+outcome t used_nodes used_entries node size = cond (ltb size (need used_nodes used_entries)) (refuses NoRoom size) (by_visit (visit_from t node))
 
 -- "the reported room freed is what a new read can claim": each capacity less what is kept
-abbrev pub moved_as : Stores → (nodes entries : ℕ) → declared.Kept
+abbrev pub moved_as : Stores → (nodes entries : ℕ) → Result declared.Kept Fault
 moved_as t nodes entries =
+    Ok
     record {
-      refusal = accepted;
-      place = 0;
       nodes = nodes;
       entries = entries;
       freenodes = node_capacity (length t.nodes) - nodes;
@@ -48,14 +46,14 @@ moved_as t nodes entries =
 
 -- answer and contents as one value
 pub record Held : Type 0 where
-  pub answer : declared.Kept
+  pub answer : Result declared.Kept Fault
   pub nodes : List ℕ
   pub entries : List ℕ
   pub slots : List ℕ
 
--- "a refused move leaves the value as it was"; "slots are cleared"
+-- refused, "number and place, no counts"; "a refused move leaves the value as it was"; "slots are cleared"
 abbrev pub held_by : Outcome → Stores → (slots : List ℕ) → Held
-held_by (refuses number place) t slots = record { answer = refused_as number place; nodes = t.nodes; entries = t.entries; slots = slots }
+held_by (refuses why place) t slots = record { answer = refused why place; nodes = t.nodes; entries = t.entries; slots = slots }
 held_by (moves order) t slots =
     record {
       answer = moved_as t (length order) (length (chains t order));
@@ -70,7 +68,7 @@ kept_of nodes entries slots used_nodes used_entries node size =
     held_by (outcome t used_nodes used_entries node size) t slots
 
 -- The contract: the answer, what the three stores hold, and the stack, which is cleared either way.
-pub record Keeps (o : Held) (size : ℕ) (r : declared.Kept) (nodes entries slots stack : List ℕ) : Type 0 where
+pub record Keeps (o : Held) (size : ℕ) (r : Result declared.Kept Fault) (nodes entries slots stack : List ℕ) : Type 0 where
   pub answer : r ≡ o.answer
   pub holds-nodes : nodes ≡ o.nodes
   pub holds-entries : entries ≡ o.entries

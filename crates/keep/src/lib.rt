@@ -3,13 +3,13 @@
 #![tactic(auto)]
 
 ghost use Rattle.std.specs.Prelude.{◌≡◌, ◌+◌, ◌*◌, ◌≤◌, ◌<◌, length};
-ghost use Rattle.keep.specs.Kept.{Limits, Keeps, refused_as, within, kept_of, need};
+ghost use Rattle.keep.specs.Kept.{Limits, Keeps, within, kept_of, need};
 
-// What became of a move.
-#[derive(Clone, Copy)]
+use refusals::{Fault, Refusal};
+
+// What a move tells: how many nodes and entries are kept, and how many of each a new read can claim.
+#[derive(Clone, Copy, Debug, PartialEq, Eq)]
 pub struct Kept {
-    pub refusal: u32,
-    pub place: u32,
     pub nodes: u32,
     pub entries: u32,
     pub freenodes: u32,
@@ -24,20 +24,8 @@ pub fn keep_need(nodes: u32, entries: u32) -> usize
         + stores::at_most(entries as usize, refusals::MOST_RECORDS) as usize * 2
 }
 
-fn refused(refusal: u32, place: u32) -> Kept
-    ensures { result ≡ refused_as refusal place }
-{
-    Kept {
-        refusal: refusal,
-        place: place,
-        nodes: 0,
-        entries: 0,
-        freenodes: 0,
-        freeentries: 0,
-    }
-}
-
 // The move within limits and a cleared scratch that is large enough.
+// `nodes`, `entries` and `slots`, here and in `keep`, are the stores by index that C lends, each by itself, and the visit takes two of them to read: no struct.
 fn keep_within(
     nodes: &mut [u32],
     entries: &mut [u32],
@@ -46,32 +34,31 @@ fn keep_within(
     bound: u32,
     limit: u32,
     node: u32,
-) -> Kept
+) -> Result<Kept, Fault>
     requires { Limits nodes.old entries.old s.old bound limit }
     ensures { Keeps (within nodes.old entries.old slots.old bound limit node)
         (length s.old) result nodes.new entries.new slots.new s.new }
 {
     if bound <= node {
-        return refused(refusals::BAD_TABLE, node);
+        return Err(Refusal::BadTable.at(node));
     }
-    let seen = keepvisit::visit(nodes, entries, s, bound, limit, node);
-    match seen {
-        keepvisit::Seen::Fault(place) => {
+    match keepvisit::visit(nodes, entries, s, bound, limit, node) {
+        Err(fault) => {
             clearing::clear_words(s);
-            return refused(refusals::BAD_TABLE, place);
+            Err(fault)
         }
-        keepvisit::Seen::All(kept, moved) => {
-            let freed = stores::node_capacity(nodes.len()) - kept;
-            let freed_entries = stores::entry_capacity(entries.len()) - moved;
-            keepmove::move_all(nodes, entries, slots, s, bound, limit, kept, moved);
-            return Kept {
-                refusal: refusals::ACCEPTED,
-                place: 0,
-                nodes: kept,
-                entries: moved,
+        Ok(seen) => {
+            let freed = stores::node_capacity(nodes.len()) - seen.kept;
+            let freed_entries = stores::entry_capacity(entries.len()) - seen.moved;
+            keepmove::move_all(
+                nodes, entries, slots, s, bound, limit, seen.kept, seen.moved,
+            );
+            Ok(Kept {
+                nodes: seen.kept,
+                entries: seen.moved,
                 freenodes: freed,
                 freeentries: freed_entries,
-            };
+            })
         }
     }
 }
@@ -85,14 +72,14 @@ pub fn keep(
     usedentries: u32,
     node: u32,
     stack: &mut [u32],
-) -> Kept
+) -> Result<Kept, Fault>
     ensures { Keeps (kept_of nodes.old entries.old slots.old usednodes usedentries node (length stack.old))
         (length stack.old) result nodes.new entries.new slots.new stack.new }
 {
     let size = stack.len();
     clearing::clear_words(stack);
     if size < keep_need(usednodes, usedentries) {
-        return refused(refusals::NO_ROOM, size as u32);
+        return Err(Refusal::NoRoom.at(size as u32));
     }
     let bound = stores::nodes_in(nodes, usednodes);
     let limit = stores::entries_in(entries, usedentries);

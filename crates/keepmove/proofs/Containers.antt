@@ -1,27 +1,17 @@
 -- The loops over the kept nodes. Assumes nothing.
 use mathlib.Core.Path.{◌≡◌, refl, sym, ap, ap₂, ◌∙◌}
-use Prim.Native.Nat.{ℕ, zero, suc, ◌+◌, ◌-◌, ◌*◌, ◌≤◌, ◌<◌}
+use Prim.Native.Nat.{ℕ, zero, suc, ◌+◌, ◌*◌, ◌≤◌, ◌<◌}
 use native.Mathlib.Omega.{arith}
 use native.Mathlib.Numerals.{add-one}
 use mathlib.Core.List.{List, [], ◌∷◌, ◌++◌}
 use lib.ListN.{length, get_or, set, take, drop, length-set, drop_of_length-le}
-use lib.Seq.{sets, length-sets, take-set-le, take-take, length-take-le}
-use Rattle.refusals.specs.Limits.{nothing}
+use lib.Seq.{sets, length-sets, drop-cons}
 use Rattle.grammar.specs.State.{node_at}
 use Rattle.keepvisit.specs.Visit.{linked, children_of}
 use Rattle.keepmove.specs.Moved.{first_of}
 use Rattle.keepmove.specs.Laid.{kids_of, all_kids, links_of, all_links, total, firsts_of}
 use Rattle.keepvisit.proofs.Pushing.{length-linked, length-children_of}
-use Rattle.keepvisit.proofs.Ranks.{take-sets}
-use Rattle.keepmove.proofs.Gathering.{new_same, at_front}
-
-pub first-none : (count at : ℕ) → count ≡ 0 → nothing ≡ first_of count at
-first-none zero at h = refl
-first-none (suc m) at h = absurd (omega arith)
-
-pub first_some : (count at : ℕ) → (count ≡ 0 → ⊥) → at ≡ first_of count at
-first_some zero at h = absurd (h refl)
-first_some (suc m) at h = refl
+use Rattle.keepmove.proofs.Gathering.{new_same}
 
 pub sets-append : (s : List ℕ) (i : ℕ) (xs ys : List ℕ) → sets s i (xs ++ ys) ≡ sets (sets s i xs) (i + length xs) ys
 sets-append s i [] ys = let e : i + 0 ≡ i = omega arith in rw e refl
@@ -50,138 +40,108 @@ total_on : (nodes : List ℕ) (n : ℕ) (rest all : List ℕ) → all ≡ n ∷ 
 unfolding total
 total_on nodes n rest all e = ap (total nodes) e
 
--- What every such loop keeps: the order in front, and how many entries are left.
-pub record Over (nodes : List ℕ) (to kept : ℕ) (s₀ : List ℕ) (i done : ℕ) (s : List ℕ) : Type 0 where
-  pub front : take to s ≡ take to s₀
-  pub same : length s ≡ length s₀
-  pub within : i ≤ kept
-  pub left : done + total nodes (drop i (take kept s₀)) ≡ total nodes (take kept s₀)
+pub all_kids_same : (nodes entries s s₀ : List ℕ) (bound kept : ℕ) (ns : List ℕ) → take (bound * 2) s ≡ take (bound * 2) s₀ → all_kids nodes entries s bound kept ns ≡ all_kids nodes entries s₀ bound kept ns
+unfolding all_kids
+all_kids_same nodes entries s s₀ bound kept [] h = refl
+all_kids_same nodes entries s s₀ bound kept (n ∷ ns) h = ap₂ (λ a b. a ++ b) (kids_of_same entries s s₀ bound kept _ h) (all_kids_same nodes entries s s₀ bound kept ns h)
 
-module _ {nodes : List ℕ} {to kept : ℕ} {s₀ : List ℕ} {i done : ℕ} {s : List ℕ} (w : Over nodes to kept s₀ i done s) (a : kept ≤ to) (b : kept ≤ length s₀) where
-  its_node : i < kept → drop i (take kept s₀) ≡ get_or s i 0 ∷ drop (i + 1) (take kept s₀)
-  its_node h = at_front s s₀ to kept i w.front a b h ∙ ap (λ k. get_or s i 0 ∷ drop k (take kept s₀)) (sym (add-one i))
+-- What such loops keep: how many entries are left of those of the order.
+module _ (nodes order : List ℕ) (i done : ℕ) (left : done + total nodes (drop i order) ≡ total nodes order) (h : i < length order) where
+  its_node : drop i order ≡ get_or order i 0 ∷ drop (i + 1) order
+  its_node = drop-cons order i 0 h ∙ ap (λ k. get_or order i 0 ∷ drop k order) (sym (add-one i))
 
-  its_count : i < kept → done + (node_at nodes (get_or s i 0)).count + total nodes (drop (i + 1) (take kept s₀)) ≡ total nodes (take kept s₀)
-  its_count h = omega (arith, w.left, total_on nodes (get_or s i 0) (drop (i + 1) (take kept s₀)) (drop i (take kept s₀)) (its_node h))
-
-  its_end : kept ≤ i → drop i (take kept s₀) ≡ []
-  its_end h = drop_of_length-le (take kept s₀) {i = i} (omega (arith, length-take-le kept s₀ b))
+  its_count : done + (node_at nodes (get_or order i 0)).count + total nodes (drop (i + 1) order) ≡ total nodes order
+  its_count = omega (arith, left, total_on nodes (get_or order i 0) (drop (i + 1) order) (drop i order) its_node)
 
 -- First entries.
-pub record Firsts (nodes : List ℕ) (to kept : ℕ) (s₀ : List ℕ) (i at : ℕ) (s : List ℕ) : Type 0 where
-  pub comes : sets s (to + i) (firsts_of nodes at (drop i (take kept s₀))) ≡ sets s₀ to (firsts_of nodes 0 (take kept s₀))
-  pub over : Over nodes to kept s₀ i at s
+pub record Firsts (nodes order : List ℕ) (i at : ℕ) (out : List ℕ) : Type 0 where
+  pub comes : sets out i (firsts_of nodes at (drop i order)) ≡ firsts_of nodes 0 order
+  pub same : length order ≡ length out
+  pub left : at + total nodes (drop i order) ≡ total nodes order
 
-module _ {nodes : List ℕ} {to kept : ℕ} {s₀ : List ℕ} {i at : ℕ} {s : List ℕ} (w : Firsts nodes to kept s₀ i at s) (a : kept ≤ to) (b : to + kept ≤ length s₀) where
-  pub firsts_room : {count : ℕ} → i < kept → count ≡ (node_at nodes (get_or s i 0)).count → at + count ≤ total nodes (take kept s₀)
-  firsts_room h c = omega (arith, its_count w.over a (omega arith) h)
+module _ {nodes order : List ℕ} {i at : ℕ} {out : List ℕ} (w : Firsts nodes order i at out) where
+  pub firsts_room : {count : ℕ} → i < length order → count ≡ (node_at nodes (get_or order i 0)).count → at + count ≤ total nodes order
+  firsts_room h c = omega (arith, its_count nodes order i at w.left h)
 
-  pub firsts_more : {count v : ℕ} → i < kept → count ≡ (node_at nodes (get_or s i 0)).count → v ≡ first_of count at
-      → Firsts nodes to kept s₀ (i + 1) (at + count) (set s (to + i) v)
+  pub firsts_more : {count v : ℕ} → i < length order → count ≡ (node_at nodes (get_or order i 0)).count → v ≡ first_of count at → Firsts nodes order (i + 1) (at + count) (set out i v)
   unfolding firsts_of
   firsts_more {count} {v} h c p =
-      let next : to + (i + 1) ≡ suc (to + i) = omega arith in
       record {
         comes =
-            ap₂ (λ x y. sets (set s (to + i) x) y (firsts_of nodes (at + count) (drop (i + 1) (take kept s₀)))) (p ∙ ap (λ m. first_of m at) c) next
-            ∙ ap (λ m. sets (set s (to + i) (first_of (node_at nodes (get_or s i 0)).count at)) (suc (to + i)) (firsts_of nodes (at + m) (drop (i + 1) (take kept s₀)))) c
-            ∙ sym (ap (λ x. sets s (to + i) (firsts_of nodes at x)) (its_node w.over a (omega arith) h))
+            ap₂ (λ x y. sets (set out i x) y (firsts_of nodes (at + count) (drop (i + 1) order))) (p ∙ ap (λ m. first_of m at) c) (add-one i)
+            ∙ ap (λ m. sets (set out i (first_of (node_at nodes (get_or order i 0)).count at)) (suc i) (firsts_of nodes (at + m) (drop (i + 1) order))) c
+            ∙ sym (ap (λ x. sets out i (firsts_of nodes at x)) (its_node nodes order i at w.left h))
             ∙ w.comes;
-        over =
-            record {
-              front = take-set-le to s (to + i) v (omega arith) ∙ w.over.front;
-              same = length-set s (to + i) v ∙ w.over.same;
-              within = omega arith;
-              left = omega (arith, its_count w.over a (omega arith) h);
-            };
+        same = w.same ∙ sym (length-set out i v);
+        left = omega (arith, its_count nodes order i at w.left h);
       }
 
-  pub firsts_done : kept ≤ i → s ≡ sets s₀ to (firsts_of nodes 0 (take kept s₀))
+  pub firsts_done : length order ≤ i → out ≡ firsts_of nodes 0 order
   unfolding firsts_of
-  firsts_done h = sym (ap (λ x. sets s (to + i) (firsts_of nodes at x)) (its_end w.over a (omega arith) h)) ∙ w.comes
+  firsts_done h = sym (ap (λ x. sets out i (firsts_of nodes at x)) (drop_of_length-le order {i = i} h)) ∙ w.comes
 
 -- All children.
-pub record AllKids (nodes entries : List ℕ) (bound to kept : ℕ) (s₀ : List ℕ) (i at : ℕ) (s : List ℕ) : Type 0 where
-  pub comes : sets s at (all_kids nodes entries s₀ bound kept (drop i (take kept s₀))) ≡ sets s₀ to (all_kids nodes entries s₀ bound kept (take kept s₀))
-  pub start : to ≤ at
-  pub over : Over nodes to kept s₀ i (at - to) s
+pub record AllKids (nodes entries visited order : List ℕ) (bound kept : ℕ) (out₀ : List ℕ) (i at : ℕ) (out : List ℕ) : Type 0 where
+  pub comes : sets out at (all_kids nodes entries visited bound kept (drop i order)) ≡ sets out₀ 0 (all_kids nodes entries visited bound kept order)
+  pub same : length out ≡ length out₀
+  pub left : at + total nodes (drop i order) ≡ total nodes order
 
-module _ {nodes entries : List ℕ} {bound to kept : ℕ} {s₀ : List ℕ} {i at : ℕ} {s : List ℕ} (w : AllKids nodes entries bound to kept s₀ i at s) (d : bound * 2 ≤ to) (a : kept ≤ to)
-    (b : to + total nodes (take kept s₀) ≤ length s₀) where
-  pub all_kids-room : {count : ℕ} → i < kept → count ≡ (node_at nodes (get_or s i 0)).count → (bound * 2 ≤ at) × (at + count ≤ length s)
-  all_kids-room h c = omega (arith, its_count w.over a (omega arith) h, w.start, w.over.same)
+module _ {nodes entries visited order : List ℕ} {bound kept : ℕ} {out₀ : List ℕ} {i at : ℕ} {out : List ℕ} (w : AllKids nodes entries visited order bound kept out₀ i at out) where
+  pub all_kids-room : {count : ℕ} → i < length order → total nodes order ≤ length out₀ → count ≡ (node_at nodes (get_or order i 0)).count → at + count ≤ length out
+  all_kids-room h b c = omega (arith, its_count nodes order i at w.left h, w.same)
 
-  pub all_kids_more : {count first : ℕ} {s' : List ℕ} → i < kept → count ≡ (node_at nodes (get_or s i 0)).count → first ≡ (node_at nodes (get_or s i 0)).first
-      → s' ≡ sets s at (kids_of entries s bound kept (children_of entries (linked entries count first)))
-      → AllKids nodes entries bound to kept s₀ (i + 1) (at + count) s'
+  pub all_kids_more : {count first : ℕ} {out' : List ℕ} → i < length order → count ≡ (node_at nodes (get_or order i 0)).count → first ≡ (node_at nodes (get_or order i 0)).first
+      → out' ≡ sets out at (kids_of entries visited bound kept (children_of entries (linked entries count first)))
+      → AllKids nodes entries visited order bound kept out₀ (i + 1) (at + count) out'
   unfolding all_kids
-  all_kids_more {count} {first} {s'} h c f p =
-      let n = get_or s i 0 in
-      let k = its_count w.over a (omega arith) h in
-      let low : take (bound * 2) s ≡ take (bound * 2) s₀ = lower in
-      let own = kids_of entries s₀ bound kept (children_of entries (linked entries (node_at nodes n).count (node_at nodes n).first)) in
+  all_kids_more {count} {first} {out'} h c f p =
+      let n = get_or order i 0 in
+      let own = kids_of entries visited bound kept (children_of entries (linked entries (node_at nodes n).count (node_at nodes n).first)) in
       let size : length own ≡ count =
-      length-kids_of entries s₀ bound kept _ ∙ length-children_of entries _ ∙ length-linked entries (node_at nodes n).count (node_at nodes n).first ∙ sym c in
-      let is : s' ≡ sets s at own =
-      p
-      ∙ ap (sets s at) (kids_of_same entries s s₀ bound kept _ low ∙ ap₂ (λ x y. kids_of entries s₀ bound kept (children_of entries (linked entries x y))) c f) in
+      length-kids_of entries visited bound kept _ ∙ length-children_of entries _ ∙ length-linked entries (node_at nodes n).count (node_at nodes n).first ∙ sym c in
+      let is : out' ≡ sets out at own = p ∙ ap₂ (λ x y. sets out at (kids_of entries visited bound kept (children_of entries (linked entries x y)))) c f in
       record {
         comes =
-            ap₂ (λ x y. sets x (at + y) (all_kids nodes entries s₀ bound kept (drop (i + 1) (take kept s₀)))) is (sym size)
-            ∙ sym (sets-append s at own (all_kids nodes entries s₀ bound kept (drop (i + 1) (take kept s₀))))
-            ∙ sym (ap (λ x. sets s at (all_kids nodes entries s₀ bound kept x)) (its_node w.over a (omega arith) h))
+            ap₂ (λ x y. sets x (at + y) (all_kids nodes entries visited bound kept (drop (i + 1) order))) is (sym size)
+            ∙ sym (sets-append out at own (all_kids nodes entries visited bound kept (drop (i + 1) order)))
+            ∙ sym (ap (λ x. sets out at (all_kids nodes entries visited bound kept x)) (its_node nodes order i at w.left h))
             ∙ w.comes;
-        start = omega (arith, w.start);
-        over =
-            record {
-              front = ap (take to) is ∙ take-sets to s at own w.start ∙ w.over.front;
-              same = ap length is ∙ length-sets s at own ∙ w.over.same;
-              within = omega arith;
-              left = omega (arith, w.start);
-            };
+        same = ap length is ∙ length-sets out at own ∙ w.same;
+        left = omega (arith, its_count nodes order i at w.left h);
       }
-    where
-      lower : take (bound * 2) s ≡ take (bound * 2) s₀
-      lower = sym (take-take (bound * 2) to s d) ∙ ap (take (bound * 2)) w.over.front ∙ take-take (bound * 2) to s₀ d
 
-  pub all_kids-done : kept ≤ i → s ≡ sets s₀ to (all_kids nodes entries s₀ bound kept (take kept s₀))
+  pub all_kids-done : length order ≤ i → out ≡ sets out₀ 0 (all_kids nodes entries visited bound kept order)
   unfolding all_kids
-  all_kids-done h = sym (ap (λ x. sets s at (all_kids nodes entries s₀ bound kept x)) (its_end w.over a (omega arith) h)) ∙ w.comes
+  all_kids-done h = sym (ap (λ x. sets out at (all_kids nodes entries visited bound kept x)) (drop_of_length-le order {i = i} h)) ∙ w.comes
 
 -- All links.
-pub record AllLinks (nodes : List ℕ) (to kept : ℕ) (s₀ : List ℕ) (i number : ℕ) (s : List ℕ) : Type 0 where
-  pub comes : sets s (to + number) (all_links nodes number (drop i (take kept s₀))) ≡ sets s₀ to (all_links nodes 0 (take kept s₀))
-  pub over : Over nodes to kept s₀ i number s
+pub record AllLinks (nodes order : List ℕ) (out₀ : List ℕ) (i number : ℕ) (out : List ℕ) : Type 0 where
+  pub comes : sets out number (all_links nodes number (drop i order)) ≡ sets out₀ 0 (all_links nodes 0 order)
+  pub same : length out ≡ length out₀
+  pub left : number + total nodes (drop i order) ≡ total nodes order
 
-module _ {nodes : List ℕ} {to kept : ℕ} {s₀ : List ℕ} {i number : ℕ} {s : List ℕ} (w : AllLinks nodes to kept s₀ i number s) (a : kept ≤ to)
-    (b : to + total nodes (take kept s₀) ≤ length s₀) where
-  pub all_links-room : {count : ℕ} → i < kept → count ≡ (node_at nodes (get_or s i 0)).count → (to + number + count ≤ length s) × (number + count ≤ total nodes (take kept s₀))
-  all_links-room h c = omega (arith, its_count w.over a (omega arith) h, w.over.same)
+module _ {nodes order : List ℕ} {out₀ : List ℕ} {i number : ℕ} {out : List ℕ} (w : AllLinks nodes order out₀ i number out) where
+  pub all_links-room : {count : ℕ} → i < length order → total nodes order ≤ length out₀ → count ≡ (node_at nodes (get_or order i 0)).count → (number + count ≤ length out) × (number + count ≤ total nodes order)
+  all_links-room h b c = omega (arith, its_count nodes order i number w.left h, w.same)
 
-  pub all_links_more : {count : ℕ} {s' : List ℕ} → i < kept → count ≡ (node_at nodes (get_or s i 0)).count → s' ≡ sets s (to + number) (links_of number count)
-      → AllLinks nodes to kept s₀ (i + 1) (number + count) s'
+  pub all_links_more : {count : ℕ} {out' : List ℕ} → i < length order → count ≡ (node_at nodes (get_or order i 0)).count → out' ≡ sets out number (links_of number count)
+      → AllLinks nodes order out₀ (i + 1) (number + count) out'
   unfolding all_links
-  all_links_more {count} {s'} h c p =
-      let k = its_count w.over a (omega arith) h in
-      let own = links_of number (node_at nodes (get_or s i 0)).count in
-      let size : to + number + length own ≡ to + (number + count) = omega (arith, length-links_of number (node_at nodes (get_or s i 0)).count) in
-      let is : s' ≡ sets s (to + number) own = p ∙ ap (λ x. sets s (to + number) (links_of number x)) c in
+  all_links_more {count} {out'} h c p =
+      let own = links_of number (node_at nodes (get_or order i 0)).count in
+      let size : number + length own ≡ number + count = omega (arith, length-links_of number (node_at nodes (get_or order i 0)).count) in
+      let is : out' ≡ sets out number own = p ∙ ap (λ x. sets out number (links_of number x)) c in
       record {
         comes =
-            ap₂ (λ x y. sets x y (all_links nodes (number + count) (drop (i + 1) (take kept s₀)))) is (sym size)
-            ∙ ap (λ m. sets (sets s (to + number) own) (to + number + length own) (all_links nodes (number + m) (drop (i + 1) (take kept s₀)))) c
-            ∙ sym (sets-append s (to + number) own (all_links nodes (number + (node_at nodes (get_or s i 0)).count) (drop (i + 1) (take kept s₀))))
-            ∙ sym (ap (λ x. sets s (to + number) (all_links nodes number x)) (its_node w.over a (omega arith) h))
+            ap₂ (λ x y. sets x y (all_links nodes (number + count) (drop (i + 1) order))) is (sym size)
+            ∙ ap (λ m. sets (sets out number own) (number + length own) (all_links nodes (number + m) (drop (i + 1) order))) c
+            ∙ sym (sets-append out number own (all_links nodes (number + (node_at nodes (get_or order i 0)).count) (drop (i + 1) order)))
+            ∙ sym (ap (λ x. sets out number (all_links nodes number x)) (its_node nodes order i number w.left h))
             ∙ w.comes;
-        over =
-            record {
-              front = ap (take to) is ∙ take-sets to s (to + number) own (omega arith) ∙ w.over.front;
-              same = ap length is ∙ length-sets s (to + number) own ∙ w.over.same;
-              within = omega arith;
-              left = omega arith;
-            };
+        same = ap length is ∙ length-sets out number own ∙ w.same;
+        left = omega (arith, its_count nodes order i number w.left h);
       }
 
-  pub all_links-done : kept ≤ i → s ≡ sets s₀ to (all_links nodes 0 (take kept s₀))
+  pub all_links-done : length order ≤ i → out ≡ sets out₀ 0 (all_links nodes 0 order)
   unfolding all_links
-  all_links-done h = sym (ap (λ x. sets s (to + number) (all_links nodes number x)) (its_end w.over a (omega arith) h)) ∙ w.comes
+  all_links-done h = sym (ap (λ x. sets out number (all_links nodes number x)) (drop_of_length-le order {i = i} h)) ∙ w.comes

@@ -6,7 +6,7 @@ use native.Mathlib.Numerals.{add-one}
 use mathlib.Core.Bool.{Bool, true, false}
 use mathlib.Core.List.{List, [], ◌∷◌, ◌++◌}
 use lib.ListN.{length, get_or, take, drop, length-append, length-drop, take-append-drop}
-use lib.Seq.{sets, sets-eq, length-sets, take-suc, take_at, drop_at, drop-drop, get_or-drop, length-take-le}
+use lib.Seq.{sets, sets-eq, length-sets, take-suc, take_all, take_at, drop_at, drop-drop, get_or-drop, length-take-le}
 use lib.Dec.{ltb}
 use borrow.Author.Tests.{ltb-true, ltb-false}
 use Rattle.grammar.specs.State.{Node, node_at, node_cells, node_width}
@@ -147,12 +147,12 @@ module _ {nodes s : List ℕ} {kept i at : ℕ} {now : List ℕ} (w : Down nodes
       }
 
 -- with zeros behind them they are the store after the move
-pub down_zeroed : {nodes s nodes₁ nodes₂ : List ℕ} {kept : ℕ} → MovedDown nodes s kept nodes₁ → nodes₂ ≡ zeroed_from nodes₁ (kept * node_width) → kept ≤ length s → kept * node_width ≤ length nodes
-    → nodes₂ ≡ nodes_after nodes (take kept s)
-down_zeroed {nodes} {s} {nodes₁} {nodes₂} {kept} a b l m =
-    let order = take kept s in
-    let size : length order ≡ kept = length-take-le kept s l in
-    let k : length (node_cells (moved_nodes nodes 0 order)) ≡ kept * node_width = length-moved_nodes nodes 0 order ∙ ap (λ x. x * node_width) size in
-    b ∙ ap (λ x. zeroed_from x (kept * node_width)) a.laid
-    ∙ zeroed (node_cells (moved_nodes nodes 0 order)) (drop (kept * node_width) nodes) (length nodes) (kept * node_width) k
-    (sym (length-append (node_cells (moved_nodes nodes 0 order)) (drop (kept * node_width) nodes) ∙ omega (arith, k, m, length-drop (kept * node_width) nodes)))
+pub down_zeroed : {nodes order nodes₁ nodes₂ : List ℕ} → MovedDown nodes order (length order) nodes₁ → nodes₂ ≡ zeroed_from nodes₁ (length order * node_width) → length order * node_width ≤ length nodes
+    → nodes₂ ≡ nodes_after nodes order
+down_zeroed {nodes} {order} {nodes₁} {nodes₂} a b m =
+    let k : length (node_cells (moved_nodes nodes 0 order)) ≡ length order * node_width = length-moved_nodes nodes 0 order in
+    let laid : nodes₁ ≡ node_cells (moved_nodes nodes 0 order) ++ drop (length order * node_width) nodes =
+    a.laid ∙ ap (λ o. node_cells (moved_nodes nodes 0 o) ++ drop (length order * node_width) nodes) (take_all (length order) order (omega arith)) in
+    b ∙ ap (λ x. zeroed_from x (length order * node_width)) laid
+    ∙ zeroed (node_cells (moved_nodes nodes 0 order)) (drop (length order * node_width) nodes) (length nodes) (length order * node_width) k
+    (sym (length-append (node_cells (moved_nodes nodes 0 order)) (drop (length order * node_width) nodes) ∙ omega (arith, k, m, length-drop (length order * node_width) nodes)))

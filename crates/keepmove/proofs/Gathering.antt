@@ -4,16 +4,15 @@ use Prim.Native.Nat.{ℕ, zero, suc, ◌+◌, ◌-◌, ◌*◌, ◌≤◌, ◌<�
 use native.Mathlib.Omega.{arith}
 use native.Mathlib.Numerals.{add-one}
 use mathlib.Core.Bool.{Bool, true, false, cond}
-use mathlib.Core.List.{List, [], ◌∷◌, ◌++◌, append_assoc, append-nil}
-use lib.ListN.{length, get_or, set, take, drop, length-set, length-drop, drop_of_length-le}
-use lib.Seq.{sets, take-set-le, take-suc-set, take_all, drop-cons, get_or-take, get_or-drop, length-take-le}
+use mathlib.Core.List.{List, ◌++◌, append-nil}
+use lib.ListN.{length, get_or, set, take, drop, length-set, drop_of_length-le}
+use lib.Seq.{sets, sets-eq, drop-cons, get_or-take}
 use lib.Dec.{ltb}
 use borrow.Author.Tests.{ltb-true, ltb-false, lt-ltb, le-ltb}
 use Rattle.refusals.specs.Limits.{nothing}
-use Rattle.clearing.specs.Lent.{zeros}
 use Rattle.grammar.specs.State.{entry_at}
 use Rattle.keepvisit.specs.Visit.{linked, children_of}
-use Rattle.keepmove.specs.Laid.{by_rank, new_at, kids_of, links_of, column_of, stepped, zeroed_from}
+use Rattle.keepmove.specs.Laid.{by_rank, new_at, kids_of, links_of, column_of, stepped}
 
 -- New numbers.
 
@@ -45,50 +44,44 @@ new_same s s₀ bound kept n h = go (ltb n bound) refl
     go false p = sym (new_beyond s bound kept n (ltb-false n bound p)) ∙ new_beyond s₀ bound kept n (ltb-false n bound p)
 
 -- The children of one chain.
-pub record Kids (entries : List ℕ) (bound kept from count first : ℕ) (s₀ : List ℕ) (left e at : ℕ) (s : List ℕ) : Type 0 where
-  pub comes : sets s at (kids_of entries s₀ bound kept (children_of entries (linked entries left e)))
-      ≡ sets s₀ from (kids_of entries s₀ bound kept (children_of entries (linked entries count first)))
-  pub front : take (bound * 2) s ≡ take (bound * 2) s₀
-  pub same : length s ≡ length s₀
+pub record Kids (entries visited : List ℕ) (bound kept from count first : ℕ) (out₀ : List ℕ) (left e at : ℕ) (out : List ℕ) : Type 0 where
+  pub comes : sets out at (kids_of entries visited bound kept (children_of entries (linked entries left e)))
+      ≡ sets out₀ from (kids_of entries visited bound kept (children_of entries (linked entries count first)))
+  pub same : length out ≡ length out₀
   pub ends : at + left ≡ from + count
-  pub over : bound * 2 ≤ at
 
-abbrev kids : (entries s₀ : List ℕ) (bound kept : ℕ) (s : List ℕ) → (at left e : ℕ) → List ℕ
-kids entries s₀ bound kept s at left e = sets s at (kids_of entries s₀ bound kept (children_of entries (linked entries left e)))
+abbrev kids : (entries visited : List ℕ) (bound kept : ℕ) (out : List ℕ) → (at left e : ℕ) → List ℕ
+kids entries visited bound kept out at left e = sets out at (kids_of entries visited bound kept (children_of entries (linked entries left e)))
 
-kids_on : (entries s₀ : List ℕ) (bound kept : ℕ) (s : List ℕ) (at left e : ℕ) → 0 < left
-    → kids entries s₀ bound kept s at left e
-    ≡ kids entries s₀ bound kept (set s at (new_at s₀ bound kept (entry_at entries e).child)) (at + 1) (left - 1) (entry_at entries e).next
+kids_on : (entries visited : List ℕ) (bound kept : ℕ) (out : List ℕ) (at left e : ℕ) → 0 < left
+    → kids entries visited bound kept out at left e
+    ≡ kids entries visited bound kept (set out at (new_at visited bound kept (entry_at entries e).child)) (at + 1) (left - 1) (entry_at entries e).next
 unfolding linked children_of kids_of
-kids_on entries s₀ bound kept s at left e h =
+kids_on entries visited bound kept out at left e h =
     let l : left ≡ suc (left - 1) = omega arith in
-    ap (λ m. kids entries s₀ bound kept s at m e) l ∙ rw (add-one at)
+    ap (λ m. kids entries visited bound kept out at m e) l ∙ rw (add-one at)
 
-module _ {entries : List ℕ} {bound kept from count first : ℕ} {s₀ : List ℕ} {left e at : ℕ} {s : List ℕ} where
-  pub kids_more : (child new next : ℕ) → Kids entries bound kept from count first s₀ left e at s → 0 < left → child ≡ (entry_at entries e).child
-      → new ≡ new_at s bound kept child → next ≡ (entry_at entries e).next → Kids entries bound kept from count first s₀ (left - 1) next (at + 1) (set s at new)
+module _ {entries visited : List ℕ} {bound kept from count first : ℕ} {out₀ : List ℕ} {left e at : ℕ} {out : List ℕ} where
+  pub kids_more : (child new next : ℕ) → Kids entries visited bound kept from count first out₀ left e at out → 0 < left → child ≡ (entry_at entries e).child
+      → new ≡ new_at visited bound kept child → next ≡ (entry_at entries e).next → Kids entries visited bound kept from count first out₀ (left - 1) next (at + 1) (set out at new)
   kids_more child new next w h c v n =
-      let is : new ≡ new_at s₀ bound kept (entry_at entries e).child =
-      v ∙ new_same s s₀ bound kept child w.front ∙ ap (new_at s₀ bound kept) c in
-      let o = w.over in
+      let is : new ≡ new_at visited bound kept (entry_at entries e).child = v ∙ ap (new_at visited bound kept) c in
       let k = w.ends in
       record {
         comes =
-            ap₂ (λ a b. kids entries s₀ bound kept (set s at a) (at + 1) (left - 1) b) is n
-            ∙ sym (kids_on entries s₀ bound kept s at left e h)
+            ap₂ (λ a b. kids entries visited bound kept (set out at a) (at + 1) (left - 1) b) is n
+            ∙ sym (kids_on entries visited bound kept out at left e h)
             ∙ w.comes;
-        front = take-set-le (bound * 2) s at new o ∙ w.front;
-        same = length-set s at new ∙ w.same;
+        same = length-set out at new ∙ w.same;
         ends = omega arith;
-        over = omega arith;
       }
 
-  pub kids-done : Kids entries bound kept from count first s₀ left e at s → left ≤ 0
-      → s ≡ sets s₀ from (kids_of entries s₀ bound kept (children_of entries (linked entries count first)))
+  pub kids-done : Kids entries visited bound kept from count first out₀ left e at out → left ≤ 0
+      → out ≡ sets out₀ from (kids_of entries visited bound kept (children_of entries (linked entries count first)))
   unfolding linked children_of kids_of
   kids-done w h =
       let none : left ≡ 0 = omega arith in
-      sym (ap (λ m. kids entries s₀ bound kept s at m e) none) ∙ w.comes
+      sym (ap (λ m. kids entries visited bound kept out at m e) none) ∙ w.comes
 
 -- The links of one chain.
 pub record Links (from number₀ count : ℕ) (s₀ : List ℕ) (number left at : ℕ) (s : List ℕ) : Type 0 where
@@ -127,92 +120,50 @@ module _ {from number₀ count : ℕ} {s₀ : List ℕ} {number left at : ℕ} {
       sym (ap (λ m. sets s at (links_of number m)) one) ∙ w.comes
 
 -- One number of each node.
-pub record Column (nodes : List ℕ) (to kept column : ℕ) (s₀ : List ℕ) (i : ℕ) (s : List ℕ) : Type 0 where
-  pub comes : sets s (to + i) (column_of nodes column (drop i (take kept s₀))) ≡ sets s₀ to (column_of nodes column (take kept s₀))
-  pub front : take to s ≡ take to s₀
-  pub same : length s ≡ length s₀
-  pub within : i ≤ kept
 
--- the node at i, read from the scratch as it is then
-pub at_front : (s s₀ : List ℕ) (to kept i : ℕ) → take to s ≡ take to s₀ → kept ≤ to → kept ≤ length s₀ → i < kept
-    → drop i (take kept s₀) ≡ get_or s i 0 ∷ drop (suc i) (take kept s₀)
-at_front s s₀ to kept i f a b h =
-    drop-cons (take kept s₀) i 0 (omega (arith, length-take-le kept s₀ b))
-    ∙ ap (λ x. x ∷ drop (suc i) (take kept s₀))
-    (get_or-take kept s₀ i 0 h ∙ sym (get_or-take to s₀ i 0 (omega arith)) ∙ ap (λ x. get_or x i 0) (sym f) ∙ get_or-take to s i 0 (omega arith))
+-- as many numbers as there is room for are all that stands there then
+pub all_stored : (vs out : List ℕ) → length vs ≡ length out → sets out 0 vs ≡ vs
+all_stored vs out e =
+    sets-eq vs out 0 (omega arith) ∙ ap (λ t. vs ++ t) (drop_of_length-le out {i = 0 + length vs} (omega arith)) ∙ append-nil vs
 
-module _ {nodes : List ℕ} {to kept column : ℕ} {s₀ : List ℕ} {i : ℕ} {s : List ℕ} where
-  pub column-more : (v : ℕ) → Column nodes to kept column s₀ i s → kept ≤ to → to + kept ≤ length s₀ → i < kept → v ≡ get_or nodes (get_or s i 0 * 7 + column) 0
-      → Column nodes to kept column s₀ (i + 1) (set s (to + i) v)
+pub record Column (nodes order : List ℕ) (column i : ℕ) (out : List ℕ) : Type 0 where
+  pub comes : sets out i (column_of nodes column (drop i order)) ≡ column_of nodes column order
+  pub same : length order ≡ length out
+
+module _ {nodes order : List ℕ} {column i : ℕ} {out : List ℕ} where
+  pub column-more : (v : ℕ) → Column nodes order column i out → i < length order → v ≡ get_or nodes (get_or order i 0 * 7 + column) 0 → Column nodes order column (i + 1) (set out i v)
   unfolding column_of
-  column-more v w a b h p =
-      let next : suc (to + i) ≡ to + (i + 1) = omega arith in
+  column-more v w h p =
       record {
         comes =
-            ap₂ (λ x y. sets (set s (to + i) x) y (column_of nodes column (drop (i + 1) (take kept s₀)))) p (sym next)
-            ∙ ap (λ x. sets (set s (to + i) (get_or nodes (get_or s i 0 * 7 + column) 0)) (suc (to + i)) (column_of nodes column (drop x (take kept s₀)))) (add-one i)
-            ∙ sym (ap (λ x. sets s (to + i) (column_of nodes column x)) (at_front s s₀ to kept i w.front a (omega arith) h))
+            ap (λ x. sets (set out i x) (i + 1) (column_of nodes column (drop (i + 1) order))) p
+            ∙ ap (λ k. sets (set out i (get_or nodes (get_or order i 0 * 7 + column) 0)) k (column_of nodes column (drop k order))) (add-one i)
+            ∙ sym (ap (λ x. sets out i (column_of nodes column x)) (drop-cons order i 0 h))
             ∙ w.comes;
-        front = take-set-le to s (to + i) v (omega arith) ∙ w.front;
-        same = length-set s (to + i) v ∙ w.same;
-        within = omega arith;
+        same = w.same ∙ sym (length-set out i v);
       }
 
-  pub column_done : Column nodes to kept column s₀ i s → to + kept ≤ length s₀ → kept ≤ i → s ≡ sets s₀ to (column_of nodes column (take kept s₀))
+  pub column_done : Column nodes order column i out → length order ≤ i → out ≡ column_of nodes column order
   unfolding column_of
-  column_done w b h =
-      sym (ap (λ x. sets s (to + i) (column_of nodes column x)) (drop_of_length-le (take kept s₀) {i = i} (omega (arith, length-take-le kept s₀ (omega arith))))) ∙ w.comes
+  column_done w h = sym (ap (λ x. sets out i (column_of nodes column x)) (drop_of_length-le order {i = i} h)) ∙ w.comes
 
 -- Numbers laid over a store.
-pub record Laying (s : List ℕ) (from size column width : ℕ) (store₀ : List ℕ) (i at : ℕ) (store : List ℕ) : Type 0 where
-  pub comes : stepped store at width (drop i (take size (drop from s))) ≡ stepped store₀ column width (take size (drop from s))
+pub record Laying (numbers : List ℕ) (column width : ℕ) (store₀ : List ℕ) (i at : ℕ) (store : List ℕ) : Type 0 where
+  pub comes : stepped store at width (drop i numbers) ≡ stepped store₀ column width numbers
   pub same : length store ≡ length store₀
 
-module _ {column width : ℕ} {store₀ : List ℕ} {i at : ℕ} {store s : List ℕ} {from size : ℕ} where
-  pub laying_more : Laying s from size column width store₀ i at store → from + size ≤ length s → i < size
-      → Laying s from size column width store₀ (i + 1) (at + width) (set store at (get_or s (from + i) 0))
+module _ {numbers : List ℕ} {column width : ℕ} {store₀ : List ℕ} {i at : ℕ} {store : List ℕ} where
+  pub laying_more : Laying numbers column width store₀ i at store → i < length numbers → Laying numbers column width store₀ (i + 1) (at + width) (set store at (get_or numbers i 0))
   unfolding stepped
-  laying_more w a h =
+  laying_more w h =
       record {
         comes =
-            ap (λ x. stepped (set store at (get_or s (from + i) 0)) (at + width) width (drop x (take size (drop from s)))) (add-one i)
-            ∙ ap (λ x. stepped (set store at x) (at + width) width (drop (suc i) (take size (drop from s)))) (sym (get_or-take size (drop from s) i 0 h ∙ get_or-drop from s i 0))
-            ∙ sym (ap (λ x. stepped store at width x) (drop-cons (take size (drop from s)) i 0 (omega (arith, length-take-le size (drop from s) (omega (arith, length-drop from s))))))
+            ap (λ x. stepped (set store at (get_or numbers i 0)) (at + width) width (drop x numbers)) (add-one i)
+            ∙ sym (ap (λ x. stepped store at width x) (drop-cons numbers i 0 h))
             ∙ w.comes;
-        same = length-set store at (get_or s (from + i) 0) ∙ w.same;
+        same = length-set store at (get_or numbers i 0) ∙ w.same;
       }
 
-  pub laying_done : Laying s from size column width store₀ i at store → from + size ≤ length s → size ≤ i
-      → store ≡ stepped store₀ column width (take size (drop from s))
+  pub laying_done : Laying numbers column width store₀ i at store → length numbers ≤ i → store ≡ stepped store₀ column width numbers
   unfolding stepped
-  laying_done w a h =
-      sym (ap (λ x. stepped store at width x)
-      (drop_of_length-le (take size (drop from s)) {i = i} (omega (arith, length-take-le size (drop from s) (omega (arith, length-drop from s))))))
-      ∙ w.comes
-
--- The rest is zero.
-pub record Zeroing (store₀ : List ℕ) (from i : ℕ) (store : List ℕ) : Type 0 where
-  pub comes : zeroed_from store i ≡ zeroed_from store₀ from
-  pub same : length store ≡ length store₀
-  pub within : i ≤ length store₀
-
-module _ {store₀ : List ℕ} {from i : ℕ} {store : List ℕ} where
-  pub zeroing_more : Zeroing store₀ from i store → i < length store → Zeroing store₀ from (i + 1) (set store i 0)
-  zeroing_more w h =
-      let l : length store - i ≡ suc (length store - (i + 1)) = omega arith in
-      record {
-        comes =
-            ap₂ (λ a b. a ++ zeros (b - (i + 1))) (ap (λ k. take k (set store i 0)) (add-one i) ∙ take-suc-set store i 0 h) (length-set store i 0)
-            ∙ append_assoc (take i store) (0 ∷ []) (zeros (length store - (i + 1)))
-            ∙ sym (ap (λ k. take i store ++ zeros k) l)
-            ∙ w.comes;
-        same = length-set store i 0 ∙ w.same;
-        within = omega arith;
-      }
-
-  pub zeroing_done : Zeroing store₀ from i store → length store ≤ i → store ≡ zeroed_from store₀ from
-  zeroing_done w h =
-      let none : length store - i ≡ 0 = omega arith in
-      sym (append-nil store)
-      ∙ sym (ap₂ (λ a b. a ++ zeros b) (take_all i store h) none)
-      ∙ w.comes
+  laying_done w h = sym (ap (λ x. stepped store at width x) (drop_of_length-le numbers {i = i} h)) ∙ w.comes

@@ -3,7 +3,7 @@
 use Rattle.std.specs.Prelude.{ℕ, zero, suc, ◌+◌, ◌-◌, ◌*◌, cond, List, [], ◌∷◌, ◌++◌, length, get_or, set, take, ltb}
 use Rattle.refusals.specs.Limits.{nothing}
 use Rattle.clearing.specs.Lent.{zeros}
-use Rattle.grammar.specs.State.{node_at, node_width}
+use Rattle.grammar.specs.State.{node_at, node_width, entry_width}
 use Rattle.keepvisit.specs.Visit.{linked, children_of}
 use Rattle.keepmove.specs.Moved.{first_of}
 
@@ -58,3 +58,23 @@ stepped store at width (v ∷ vs) = stepped (set store at v) (at + width) width 
 -- zero from a place on
 abbrev pub zeroed_from : List ℕ → ℕ → List ℕ
 zeroed_from store from = take from store ++ zeros (length store - from)
+
+-- one number of each of these nodes, from the front of the store on
+abbrev pub column_moved : (nodes order : List ℕ) → (column : ℕ) → List ℕ
+column_moved nodes order column = stepped nodes column node_width (column_of nodes column order)
+
+-- three numbers, as the nodes had them
+abbrev pub three_moved : (nodes order : List ℕ) → (column : ℕ) → List ℕ
+three_moved nodes order column =
+    stepped (stepped (column_moved nodes order column) (column + 1) node_width (column_of nodes (column + 1) order)) (column + 2) node_width (column_of nodes (column + 2) order)
+
+-- their first entries
+abbrev pub firsts_moved : (nodes order : List ℕ) → List ℕ
+firsts_moved nodes order = stepped nodes 3 node_width (firsts_of nodes 0 order)
+
+-- the entries of the first nodes of the order in the new order, and zeros behind them
+abbrev pub entries_moved : (nodes entries visited : List ℕ) → (bound kept : ℕ) → List ℕ
+entries_moved nodes entries visited bound kept =
+    zeroed_from
+    (stepped (stepped entries 0 entry_width (all_kids nodes entries visited bound kept (take kept visited))) 1 entry_width (all_links nodes 0 (take kept visited)))
+    (total nodes (take kept visited) * entry_width)

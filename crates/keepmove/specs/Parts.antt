@@ -3,32 +3,11 @@
 use Rattle.std.specs.Prelude.{◌≡◌, ℕ, ◌+◌, ◌*◌, ◌≤◌, List, length, take}
 use Rattle.refusals.specs.Limits.{most_records}
 use Rattle.clearing.specs.Lent.{zeros}
-use Rattle.grammar.specs.State.{node_width, entry_width}
+use Rattle.grammar.specs.State.{entry_width}
 use Rattle.keepvisit.specs.Visit.{stores}
 use Rattle.keepvisit.specs.Found.{Found}
 use Rattle.keepmove.specs.Moved.{nodes_after, entries_after}
-use Rattle.keepmove.specs.Laid.{total, column_of, firsts_of, stepped}
-
--- One column of the nodes is in the new order; the scratch keeps what stands before `to`.
-pub record ColumnMoved (nodes s : List ℕ) (to kept column : ℕ) (nodes' s' : List ℕ) : Type 0 where
-  pub laid : nodes' ≡ stepped nodes column node_width (column_of nodes column (take kept s))
-  pub front : take to s' ≡ take to s
-  pub same : length s' ≡ length s
-
--- three columns from one on
-pub record ThreeMoved (nodes s : List ℕ) (to kept column : ℕ) (nodes' s' : List ℕ) : Type 0 where
-  pub laid : nodes'
-      ≡ stepped
-      (stepped (stepped nodes column node_width (column_of nodes column (take kept s))) (column + 1) node_width (column_of nodes (column + 1) (take kept s)))
-      (column + 2) node_width
-      (column_of nodes (column + 2) (take kept s))
-  pub front : take to s' ≡ take to s
-  pub same : length s' ≡ length s
-
-pub record FirstsMoved (nodes s : List ℕ) (to kept : ℕ) (nodes' s' : List ℕ) : Type 0 where
-  pub laid : nodes' ≡ stepped nodes 3 node_width (firsts_of nodes 0 (take kept s))
-  pub front : take to s' ≡ take to s
-  pub same : length s' ≡ length s
+use Rattle.keepmove.specs.Laid.{total}
 
 -- The room that the move of the entries needs.
 pub record Movable (nodes entries s : List ℕ) (bound limit kept moved : ℕ) : Type 0 where
@@ -39,11 +18,6 @@ pub record Movable (nodes entries s : List ℕ) (bound limit kept moved : ℕ) :
   pub held : limit * entry_width ≤ length entries
   pub most : bound ≤ most_records
   pub most_entries : limit ≤ most_records
-
-pub record EntriesMoved (nodes entries s : List ℕ) (bound limit kept : ℕ) (entries' s' : List ℕ) : Type 0 where
-  pub exact : (order : List ℕ) → Found (stores nodes entries bound limit) order s → kept ≡ length order → entries' ≡ entries_after (stores nodes entries bound limit) order
-  pub front : take (bound * 2) s' ≡ take (bound * 2) s
-  pub same : length s' ≡ length s
 
 -- Everything is moved, and what was lent besides is cleared.
 pub record AllMoved (nodes entries slots s : List ℕ) (bound limit kept : ℕ) (nodes' entries' slots' s' : List ℕ) : Type 0 where

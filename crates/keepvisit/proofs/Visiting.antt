@@ -10,6 +10,10 @@ use lib.Seq.{sets, length-sets, take-set-le, take-suc-set, take-take, drop-drop,
 use lib.Dec.{eqb}
 use borrow.Author.Tests.{lt-ltb, le-ltb, eqb-true, eqb-false}
 use Rattle.grammar.specs.State.{node_at}
+use Rattle.std.specs.Prelude.{Result, Ok}
+use Rattle.refusals.specs.Faults.{refused}
+use Rattle.refusals.specs.declared.Fault.{Fault}
+use Rattle.refusals.specs.declared.Refusal.TheVariants.{BadTable}
 use Rattle.keepvisit.specs.declared.Seen.{Seen}
 use Rattle.keepvisit.specs.Visit.{Stores, stores, bad, visited, member, fresh, linked, children_of, children, chain_of, chains, visit, visit_from}
 use Rattle.keepvisit.specs.Found.{flag, rank, Marked, Marks, Answers, Room}
@@ -74,8 +78,8 @@ pub record Searching (t : Stores) (root size : ℕ) (s : List ℕ) (kept moved t
 
 -- The ways out.
 
-refused : (t : Stores) (root n : ℕ) (s : List ℕ) → visit_from t root ≡ bad n → Answers t (visit_from t root) (Seen.Fault n) s
-refused t root n s e = subst (λ v. Answers t v (Seen.Fault n) s) (sym e) refl
+refused_lem : (t : Stores) (root n : ℕ) (s : List ℕ) → visit_from t root ≡ bad n → Answers t (visit_from t root) (refused BadTable n) s
+refused_lem t root n s e = subst (λ v. Answers t v (refused BadTable n) s) (sym e) refl
 
 -- one pending node is taken
 module _ {t : Stores} {root size : ℕ} {s : List ℕ} {kept moved top : ℕ} (w : Searching t root size s kept moved top) (h : top < length s) where
@@ -85,8 +89,8 @@ module _ {t : Stores} {root size : ℕ} {s : List ℕ} {kept moved top : ℕ} (w
       let some : w.turns ≡ suc (w.turns - 1) = omega arith in
       w.comes ∙ ap₂ (λ m p. visit m t p w.order) some (drop-cons s top 0 h)
 
-  pub beyond : t.node_limit ≤ get_or s top 0 → Answers t (visit_from t root) (Seen.Fault (get_or s top 0)) s
-  beyond o = refused t root (get_or s top 0) s (taken ∙ visit-bad (w.turns - 1) t (get_or s top 0) (drop (suc top) s) w.order o)
+  pub beyond : t.node_limit ≤ get_or s top 0 → Answers t (visit_from t root) (refused BadTable (get_or s top 0)) s
+  beyond o = refused_lem t root (get_or s top 0) s (taken ∙ visit-bad (w.turns - 1) t (get_or s top 0) (drop (suc top) s) w.order o)
 
   pub passed : get_or s top 0 < t.node_limit → (get_or s (t.node_limit + get_or s top 0) 0 ≡ 0 → ⊥) → Searching t root size s kept moved (top + 1)
   passed o z =
@@ -107,13 +111,13 @@ module _ {t : Stores} {root size : ℕ} {s : List ℕ} {kept moved top : ℕ} (w
       }
 
 pub finished : {t : Stores} {root size : ℕ} {s : List ℕ} {kept moved top : ℕ} → Searching t root size s kept moved top → length s ≤ top
-    → Answers t (visit_from t root) (Seen.All kept moved) s
+    → Answers t (visit_from t root) (Ok (record { kept = kept; moved = moved })) s
 finished {t} {root} {size} {s} {kept} {moved} {top} w h =
     let c = w.counts in
     let all : visit_from t root ≡ visited w.order =
     w.comes ∙ ap (λ p. visit w.turns t p w.order) (drop_of_length-le s {i = top} h) ∙ visit-done w.turns t w.order in
-    subst (λ v. Answers t v (Seen.All kept moved) s) (sym all) (
-      ap₂ Seen.All w.keeps w.moves,
+    subst (λ v. Answers t v (Ok (record { kept = kept; moved = moved })) s) (sym all) (
+      ap₂ (λ (k m : ℕ). Ok (record { kept = k; moved = m })) w.keeps w.moves,
       record {
         ordered = w.holds.ordered;
         ranked = w.holds.ranked;
@@ -279,9 +283,9 @@ module _ {ns es : List ℕ} {bound limit root size : ℕ} {s : List ℕ} {kept m
   its_new : member (get_or s top 0) w.order ≡ false
   its_new = rank_new w.order (get_or s top 0) (sym (w.holds.ranked (get_or s top 0) o) ∙ z)
 
-  pub unsound : {s₁ : List ℕ} {r : Bool} → Marks es (bound * 2) limit count first s s₁ r → r ≡ false → Answers (stores ns es bound limit) (visit_from (stores ns es bound limit) root) (Seen.Fault (get_or s top 0)) s₁
+  pub unsound : {s₁ : List ℕ} {r : Bool} → Marks es (bound * 2) limit count first s s₁ r → r ≡ false → Answers (stores ns es bound limit) (visit_from (stores ns es bound limit) root) (refused BadTable (get_or s top 0)) s₁
   unsound {s₁} m p =
-      refused (stores ns es bound limit) root (get_or s top 0) s₁
+      refused_lem (stores ns es bound limit) root (get_or s top 0) s₁
       (taken w h
       ∙ visit-refused (w.turns - 1) (stores ns es bound limit) (get_or s top 0) (drop (suc top) s) w.order o its_new
       (ap (fresh limit (chains (stores ns es bound limit) w.order)) its_chain ∙ sym (m.exact (chains (stores ns es bound limit) w.order) w.holds.marked) ∙ p))

@@ -1,7 +1,10 @@
 -- No export and no promise rests on this page.
 -- What the scratch holds: marks of the entries met, the order, and each node's new number.
-use Rattle.std.specs.Prelude.{◌≡◌, ℕ, suc, ◌+◌, ◌*◌, ◌≤◌, ◌<◌, Bool, true, false, cond, List, [], ◌++◌, length, get_or, take, drop}
+use Rattle.std.specs.Prelude.{◌≡◌, ℕ, suc, ◌+◌, ◌*◌, ◌≤◌, ◌<◌, Bool, true, false, cond, List, [], ◌++◌, length, get_or, take, drop, Result, Ok}
 use Rattle.refusals.specs.Limits.{most_records}
+use Rattle.refusals.specs.Faults.{refused}
+use Rattle.refusals.specs.declared.Fault.{Fault}
+use Rattle.refusals.specs.declared.Refusal.TheVariants.{BadTable}
 use Rattle.clearing.specs.Lent.{zeros}
 use Rattle.keepvisit.specs.declared.Seen.{Seen}
 use Rattle.keepvisit.specs.Visit.{Stores, Visited, bad, visited, member, linked, fresh, place_in, chains}
@@ -43,6 +46,6 @@ pub record Found (t : Stores) (order s : List ℕ) : Type 0 where
   pub entries : length (chains t order) ≤ t.entry_limit
 
 -- the visit's answer, and what it leaves in the scratch
-abbrev pub Answers : Stores → Visited → Seen → List ℕ → Type 0
-Answers t (bad place) r s = r ≡ Seen.Fault place
-Answers t (visited order) r s = (r ≡ Seen.All (length order) (length (chains t order))) × Found t order s
+abbrev pub Answers : Stores → Visited → Result Seen Fault → List ℕ → Type 0
+Answers t (bad place) r s = r ≡ refused BadTable place
+Answers t (visited order) r s = (r ≡ Ok (record { kept = length order; moved = length (chains t order) })) × Found t order s

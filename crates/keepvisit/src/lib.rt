@@ -7,14 +7,16 @@ ghost use Rattle.std.proofs.lemmas.List.Edits.{sets};
 ghost use Rattle.keepvisit.specs.Visit.{linked, children_of, stores, visit_from};
 ghost use Rattle.keepvisit.specs.Found.{Marks, Answers, Room};
 
+use refusals::{Fault, Refusal};
+
 // Marks the entries of a chain; not whole where one is out of bounds or was marked before.
+// `entries`, and `nodes` with it below, are the lent stores, records by index: C lends them and the scratch, and there is no heap.
 fn mark(entries: &[u32], s: &mut [u32], base: usize, limit: u32, first: u32, count: u32) -> bool
     requires { base + limit ≤ length s.old }
     ensures { Marks entries.now base limit count first s.old s.new result }
 {
     let mut e = first;
-    let mut left = count;
-    while 0 < left {
+    for i in 0..count {
         if limit <= e {
             return false;
         }
@@ -24,7 +26,6 @@ fn mark(entries: &[u32], s: &mut [u32], base: usize, limit: u32, first: u32, cou
         }
         s[at] = 1;
         e = stores::next_of(entries, e);
-        left -= 1;
     }
     true
 }
@@ -35,23 +36,21 @@ fn push(entries: &[u32], s: &mut [u32], from: usize, first: u32, count: u32)
     ensures { s.new ≡ sets s.old from (children_of entries.now (linked entries.now count first)) }
 {
     let mut e = first;
-    let mut left = count;
-    let mut at = from;
-    while 0 < left {
+    for at in from..from + count as usize {
         s[at] = stores::child_of(entries, e);
         e = stores::next_of(entries, e);
-        at += 1;
-        left -= 1;
     }
 }
 
-#[derive(Clone, Copy)]
-pub enum Seen {
-    All(u32, u32),
-    Fault(u32),
+// What a visit finds: how many nodes and entries are kept.
+#[derive(Clone, Copy, Debug, PartialEq, Eq)]
+pub struct Seen {
+    pub kept: u32,
+    pub moved: u32,
 }
 
-// The visit: how many nodes and entries are kept, their order and new numbers in the scratch; or the number at which it is refused.
+// The visit: how many nodes and entries are kept, their order and new numbers in the scratch; or the refusal at the number that is at fault.
+// The loop counts no index: it ends when nothing is pending, and `top` goes down by a node's children and up by one.
 pub fn visit(
     nodes: &[u32],
     entries: &[u32],
@@ -59,7 +58,7 @@ pub fn visit(
     bound: u32,
     limit: u32,
     root: u32,
-) -> Seen
+) -> Result<Seen, Fault>
     requires { Room bound limit s.old }
     ensures { Answers (stores nodes.now entries.now bound limit) (visit_from (stores nodes.now entries.now bound limit) root) result s.new }
 {
@@ -72,7 +71,7 @@ pub fn visit(
         let n = s[top];
         top += 1;
         if bound <= n {
-            return Seen::Fault(n);
+            return Err(Refusal::BadTable.at(n));
         }
         let at = ranks + n as usize;
         if s[at] != 0 {
@@ -81,7 +80,7 @@ pub fn visit(
         let count = stores::count_of(nodes, n);
         let first = stores::first_of(nodes, n);
         if !mark(entries, s, ranks * 2, limit, first, count) {
-            return Seen::Fault(n);
+            return Err(Refusal::BadTable.at(n));
         }
         s[kept as usize] = n;
         kept += 1;
@@ -90,5 +89,5 @@ pub fn visit(
         top -= count as usize;
         push(entries, s, top, first, count);
     }
-    Seen::All(kept, moved)
+    Ok(Seen { kept, moved })
 }

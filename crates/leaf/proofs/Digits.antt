@@ -7,12 +7,11 @@ use mathlib.Core.List.{List}
 use native.Mathlib.Omega.{arith}
 use lib.Dec.{leb}
 use borrow.Author.Tests.{leb-true, leb-false, lt-leb, lt-ltb, le-ltb}
+use Rattle.std.specs.Prelude.{Option, Some, None}
 use Rattle.grammar.specs.Fields.{le16, le32, not_negative, digit_count}
 use Rattle.grammar.specs.Leaf.{wide, magnitude, long_of, long_leaf}
 use Rattle.soundness.specs.Held.{LongAt}
 use Rattle.leaf.specs.Longs.{Measures}
-use Rattle.leaf.specs.declared.Measured.{Measured}
-use Rattle.leaf.specs.declared.Measured.TheVariants as measured
 
 unfoldable pub topped : List ℕ → ℕ → ℕ → ℕ → ℕ
 topped s zero at top = top
@@ -92,11 +91,11 @@ module _ (s : List ℕ) (place word count : ℕ) (read : word ≡ le32 s place) 
   long_is : long_of (not_negative word) (magnitude s count (place + 4)) ≡ long_leaf s place
   long_is = rw (counts, read)
 
-  module _ {r : Measured} (m : Measures (magnitude s count (place + 4)) r) where
-    pub long-above : r ≡ measured.Above → wide ≡ long_leaf s place
+  module _ {r : Option ℕ} (m : Measures (magnitude s count (place + 4)) r) where
+    pub long-above : r ≡ None → wide ≡ long_leaf s place
     long-above is = let over : 9223372036854775808 < magnitude s count (place + 4) = rw is at m in sym (above_wide (not_negative word) (magnitude s count (place + 4)) over) ∙ long_is
 
-    module _ {number : ℕ} (is : r ≡ measured.Is number) where
+    module _ {number : ℕ} (is : r ≡ Some number) where
       same : number ≡ magnitude s count (place + 4)
       same = rw is at m
 

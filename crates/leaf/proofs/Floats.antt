@@ -9,18 +9,18 @@ use lib.ListN.{length}
 use lib.Ieee.{binary64, of_bits}
 use borrow.Author.Tests.{le-ltb}
 use Rattle.refusals.specs.Limits.{most_bytes}
+use Rattle.grammar.specs.Reading.{gives}
 use Rattle.grammar.specs.Fields.{le64}
 use Rattle.grammar.specs.State.{node_at}
 use Rattle.grammar.specs.Record.{sound_at}
 use Rattle.grammar.specs.Leaf.{leaf_as, leaf_of}
 use Rattle.leaf.specs.Answers.{answered_of}
 use Rattle.leaf.specs.declared.Leaf.TheVariants as leaf
-use Rattle.leaf.specs.declared.Answered.TheVariants as answered
 
 module _ (s nodes : List ℕ) (used n : ℕ) (short : length s ≤ most_bytes) (ok : sound_at s nodes used n ≡ true) where
   pub one_float : (node_at nodes n).letter ≡ 0x67
       → answered_of (leaf_of s nodes used n)
-      ≡ answered.Told
+      ≡ gives
       (record {
         leaf = leaf.Float (of_bits binary64 (le64 s (node_at nodes n).place));
         first = le64 s (node_at nodes n).place;
@@ -31,7 +31,7 @@ module _ (s nodes : List ℕ) (used n : ℕ) (short : length s ≤ most_bytes) (
 
   pub two_floats : (node_at nodes n).letter ≡ 0x79
       → answered_of (leaf_of s nodes used n)
-      ≡ answered.Told
+      ≡ gives
       (record {
         leaf = leaf.Complex (of_bits binary64 (le64 s (node_at nodes n).place)) (of_bits binary64 (le64 s ((node_at nodes n).place + 8)));
         first = le64 s (node_at nodes n).place;

@@ -11,8 +11,6 @@ use Rattle.grammar.specs.Leaf as grammar
 use Rattle.leaf.specs.declared.Leaf.{Leaf}
 use Rattle.leaf.specs.declared.Leaf.TheVariants as leaf
 use Rattle.leaf.specs.declared.Told.{Told}
-use Rattle.leaf.specs.declared.Answered.{Answered}
-use Rattle.leaf.specs.declared.Answered.TheVariants as answered
 
 -- The case: a whole number is the one that its 64 bits stand for, a float the one that the stored bits stand for.
 abbrev pub case_of : grammar.Leaf → Leaf
@@ -70,6 +68,6 @@ abbrev pub plainly : Leaf → Told
 plainly l = record { leaf = l; first = 0; second = 0 }
 
 -- 01's table: "The answer holds number and place".
-abbrev pub answered_of : Answer grammar.Leaf → Answered
-answered_of (gives l) = answered.Told (told_of l)
-answered_of (stops number place) = answered.Refused number place
+abbrev pub answered_of : Answer grammar.Leaf → Answer Told
+answered_of (gives l) = gives (told_of l)
+answered_of (stops number place) = stops number place

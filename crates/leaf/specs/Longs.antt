@@ -1,10 +1,8 @@
 -- No export and no promise rests on this page.
 -- What is answered of a long number's digits: the number that they stand for, unless it is above 2^63.
 -- 01, 'What is lent and what is kept': "wide" (a long outside signed 64 bits).
-use Rattle.std.specs.Prelude.{◌≡◌, ℕ, ◌<◌}
-use Rattle.leaf.specs.declared.Measured.{Measured}
-use Rattle.leaf.specs.declared.Measured.TheVariants as measured
+use Rattle.std.specs.Prelude.{◌≡◌, ℕ, ◌<◌, Option, Some, None}
 
-abbrev pub Measures : ℕ → Measured → Type 0
-Measures number (measured.Is given) = given ≡ number
-Measures number measured.Above = 9223372036854775808 < number
+abbrev pub Measures : ℕ → Option ℕ → Type 0
+Measures number (Some given) = given ≡ number
+Measures number None = 9223372036854775808 < number

@@ -8,13 +8,16 @@ ghost use Rattle.std.specs.Float.Ieee.{of_bits};
 ghost use Rattle.refusals.specs.Limits.{most_bytes};
 ghost use Rattle.grammar.specs.Leaf as definition;
 ghost use Rattle.grammar.specs.Record;
+ghost use Rattle.grammar.specs.Numbered.{numbered};
 ghost use Rattle.stores.specs.Written.{node_of};
 ghost use Rattle.soundness.specs.Held.{LongAt};
 ghost use Rattle.leaf.specs.Answers.{kind_of, plainly, told_of, answered_of};
 ghost use Rattle.leaf.specs.Longs.{Measures};
 
+use refusals::{Fault, Refusal};
+
 // What a leaf is.
-#[derive(Clone, Copy)]
+#[derive(Clone, Copy, Debug, PartialEq)]
 pub enum Leaf {
     None,
     Truth(bool),
@@ -28,20 +31,15 @@ pub enum Leaf {
 }
 
 // The leaf with the numbers of its case beside it: a truth value's 0 or 1, a whole number's bits, the stored bits of one or two floats.
-#[derive(Clone, Copy)]
+#[derive(Clone, Copy, Debug, PartialEq)]
 pub struct Told {
     pub leaf: Leaf,
     pub first: u64,
     pub second: u64,
 }
 
-#[derive(Clone, Copy)]
-pub enum Answered {
-    Told(Told),
-    Refused(u32, u32),
-}
-
 // The number of a leaf's case.
+// The exports give the case by the documents' number, with the bits beside it: a `From` would not say that the value is dropped.
 pub fn kind_of(leaf: Leaf) -> u32
     ensures { result ≡ kind_of leaf }
 {
@@ -88,13 +86,13 @@ fn plain(leaf: Leaf) -> Told
     }
 }
 
+// A truth is told as a number: the flag is the value itself, no choice of steps.
 fn truth(value: bool) -> Told
     ensures { result ≡ told_of (definition.truth value) }
 {
-    let first = if value { 1 } else { 0 };
     Told {
         leaf: Leaf::Truth(value),
-        first,
+        first: u64::from(value),
         second: 0,
     }
 }
@@ -133,39 +131,29 @@ fn complex(real: u64, imaginary: u64) -> Told
 fn extended(word: u32) -> u64
     ensures { result ≡ definition.extended word }
 {
-    if word < 0x8000_0000 {
-        word as u64
-    } else {
-        0xFFFF_FFFF_0000_0000 + word as u64
-    }
+    i64::from(signed::signed32(word)).cast_unsigned()
 }
 
-// The number that digits stand for, where it is not known to be above 2^63.
-#[derive(Clone, Copy)]
-enum Measured {
-    Is(u64),
-    Above,
-}
-
-// So many 15-bit digits, from the last to the first: what is above 2^48 with a digit to come is above 2^63.
-fn magnitude(s: &[u8], count: u32, at: u32) -> Measured
+// The number that so many 15-bit digits stand for, from the last to the first, where it is not known to be above 2^63: what is above 2^48
+// with a digit to come is above 2^63.
+// The input and a place, as `le16` and the definition read it: a slice of the digits would need a law that both come to the same number.
+fn magnitude(s: &[u8], count: u32, at: u32) -> Option<u64>
     requires { (at + 2 * count ≤ length s.now) × (length s.now ≤ most_bytes) }
     ensures { Measures (definition.magnitude s.now count at) result }
 {
     let mut number = 0u64;
-    let mut left = count;
-    while 0 < left {
+    for left in (0..count).rev() {
         if 0x1_0000_0000_0000 < number {
-            return Measured::Above;
+            return None;
         }
-        left -= 1;
         let digit = fields::le16(s, (at + 2 * left) as usize);
         number = digit as u64 + 32768 * number;
     }
-    Measured::Is(number)
+    Some(number)
 }
 
 // A number of a sign and a magnitude, if it fits 64 bits.
+// The sign is a part of the number, no choice of steps.
 fn long_of(negative: bool, number: u64) -> Told
     requires { negative ≡ true → 0 < number }
     ensures { result ≡ told_of (definition.long_of (not negative) number) }
@@ -189,8 +177,8 @@ fn long_leaf(s: &[u8], place: u32) -> Told
 {
     let word = fields::le32(s, place as usize);
     match magnitude(s, fields::digit_count(word), place + 4) {
-        Measured::Above => plain(Leaf::Wide),
-        Measured::Is(number) => long_of(0x8000_0000 <= word, number),
+        None => plain(Leaf::Wide),
+        Some(number) => long_of(0x8000_0000 <= word, number),
     }
 }
 
@@ -218,14 +206,16 @@ fn leaf_as(s: &[u8], node: stores::Node) -> Told
 }
 
 // The leaf of a node: 14 before all, then 16 at the node number.
-pub fn leaf_of(input: &[u8], nodes: &[u32], used: u32, node: u32) -> Answered
-    ensures { result ≡ answered_of (definition.leaf_of input.now nodes.now used node) }
+// The input, the nodes with the count of those that are used, and the node: C lends these four.
+#[tactic(auto, unfolding(grammar::specs::Leaf::leaf_of))]
+pub fn leaf_of(input: &[u8], nodes: &[u32], used: u32, node: u32) -> Result<Told, Fault>
+    ensures { numbered result ≡ answered_of (definition.leaf_of input.now nodes.now used node) }
 {
     if (refusals::MOST_BYTES as usize) < input.len() {
-        return Answered::Refused(refusals::INPUT_TOO_LONG, 0);
+        return Err(Refusal::InputTooLong.at(0));
     }
     if !soundness::sound_at(input, nodes, used, node) {
-        return Answered::Refused(refusals::BAD_TABLE, node);
+        return Err(Refusal::BadTable.at(node));
     }
-    Answered::Told(leaf_as(input, stores::node_at(nodes, node)))
+    Ok(leaf_as(input, stores::node_at(nodes, node)))
 }

@@ -2,9 +2,9 @@
 // Numbers stand beside a case as its 64 bits, so that a NaN shows which one was stored.
 #![tactic(auto)]
 
-use leaf::{Answered, Leaf};
-use printing::{say, say_bits, say_bytes, say_number, say_refused};
-use reader::Outcome;
+use leaf::{Leaf, Told};
+use printing::{say, say_bits, say_bytes, say_fault, say_number};
+use refusals::Fault;
 use std::io::{self, BufWriter, Write};
 
 fn say_leaf(out: &mut impl Write, leaf: Leaf) -> io::Result<()> {
@@ -21,9 +21,9 @@ fn say_leaf(out: &mut impl Write, leaf: Leaf) -> io::Result<()> {
     }
 }
 
-fn say_answer(out: &mut impl Write, answer: Answered) -> io::Result<()> {
+fn say_answer(out: &mut impl Write, answer: Result<Told, Fault>) -> io::Result<()> {
     match answer {
-        Answered::Told(told) => {
+        Ok(told) => {
             let leaf = told.leaf;
             say_number(out, leaf::kind_of(leaf) as u64)?;
             say(out, b" ")?;
@@ -31,9 +31,7 @@ fn say_answer(out: &mut impl Write, answer: Answered) -> io::Result<()> {
             say_bits(out, told.first)?;
             say_bits(out, told.second)?;
         }
-        Answered::Refused(number, place) => {
-            say_refused(out, number, place)?;
-        }
+        Err(fault) => say_fault(out, fault)?,
     }
     say(out, b"\n")
 }
@@ -45,17 +43,12 @@ fn show(out: &mut impl Write, input: &[u8]) -> io::Result<()> {
     say_bytes(out, input)?;
     say(out, b" -> ")?;
     match reader::deserialize_value(input, &mut nodes, &mut [0; 8], &mut [0; 1], 2) {
-        Outcome::Refused(number, place) => {
-            say_refused(out, number, place)?;
+        Err(fault) => {
+            say_fault(out, fault)?;
             say(out, b"\n")?;
         }
-        Outcome::Read {
-            consumed: _,
-            nodes: used,
-            entries: _,
-            slots: _,
-        } => {
-            say_answer(out, leaf::leaf_of(input, &nodes, used, 0))?;
+        Ok(read) => {
+            say_answer(out, leaf::leaf_of(input, &nodes, read.nodes, 0))?;
         }
     }
     Ok(())

@@ -8,7 +8,7 @@ use lib.ListN.{length, get_or}
 use lib.Dec.{leb, ltb, eqb}
 use lib.Bits.{bit_or, or_lt}
 use borrow.Author.Tests.{lt-ltb, le-ltb, ltb-true, ltb-false, leb-true, eqb-true}
-use Rattle.lineentry.specs.declared.Moved.TheVariants.{To, Outside}
+use Rattle.std.specs.Prelude.{Some, None}
 use Rattle.lineentry.specs.Varint.{signed_at}
 use Rattle.lineentry.specs.declared.Entry.TheVariants.{OutOfRange}
 use Rattle.lineentry.specs.Line.{origin, moved, shown}
@@ -78,11 +78,11 @@ four_test s p e h ea eb el ec ed ek ex er = rw (er, ex, el, ek, ea, eb, ec, ed, 
 
 -- ---- codes 0 to 12
 -- a step down stays in 32 bits, or the line is outside
-moved_down : (line x : ℕ) → moved line (origin + x) ≡ cond (ltb (line + x) (2 ^ 32)) (To (line + x)) Outside
+moved_down : (line x : ℕ) → moved line (origin + x) ≡ cond (ltb (line + x) (2 ^ 32)) (Some (line + x)) None
 unfolding moved
 moved_down line x = go (ltb (line + x) 4294967296) refl where
   go : (t : Bool) → ltb (line + x) 4294967296 ≡ t
-      → cond (ltb (line + (origin + x)) origin) Outside (cond (ltb (line + (origin + x)) (origin + 4294967296)) (To (line + (origin + x) - origin)) Outside) ≡ cond (ltb (line + x) 4294967296) (To (line + x)) Outside
+      → cond (ltb (line + (origin + x)) origin) None (cond (ltb (line + (origin + x)) (origin + 4294967296)) (Some (line + (origin + x) - origin)) None) ≡ cond (ltb (line + x) 4294967296) (Some (line + x)) None
   go true e =
       let h : line + x < 4294967296 = ltb-true _ _ e in
       let z : line + (origin + x) - origin ≡ line + x = omega arith in

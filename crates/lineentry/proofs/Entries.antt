@@ -9,9 +9,7 @@ use lib.Dec.{ltb, eqb}
 use lib.Bits.{bit_or, or_lt}
 use borrow.Author.Tests.{le-ltb, ltb-true, ltb-false}
 use Rattle.lineentry.specs.declared.Varint.{Varint}
-use Rattle.lineentry.specs.declared.Varint.TheVariants.{Value, TooLong}
-use Rattle.lineentry.specs.declared.Moved.{Moved}
-use Rattle.lineentry.specs.declared.Moved.TheVariants.{To, Outside}
+use Rattle.std.specs.Prelude.{Option, Some, None}
 use Rattle.lineentry.specs.declared.Span.{Span}
 use Rattle.lineentry.specs.declared.Entry.{Entry}
 use Rattle.lineentry.specs.declared.Entry.TheVariants.{Covers, Stop, OutOfRange}
@@ -33,13 +31,13 @@ places-cond : (t : Bool) (a b : Entry) → Places a → Places b → Places (con
 places-cond true a b p q = p
 places-cond false a b p q = q
 
-places-number : (v : Varint) (go : ℕ → ℕ → Bool → Entry) → ((x p : ℕ) (m : Bool) → Places (go x p m)) → Places (with_number v go)
-places-number (Value x p m) go h = h x p m
-places-number TooLong go h = tt
+places-number : (v : Option Varint) (go : ℕ → ℕ → Bool → Entry) → ((x p : ℕ) (m : Bool) → Places (go x p m)) → Places (with_number v go)
+places-number (Some v) go h = h v.value v.next v.missing
+places-number None go h = tt
 
-places-line : (l : Moved) (go : ℕ → Entry) → ((x : ℕ) → Places (go x)) → Places (with_line l go)
-places-line (To x) go h = h x
-places-line Outside go h = tt
+places-line : (l : Option ℕ) (go : ℕ → Entry) → ((x : ℕ) → Places (go x)) → Places (with_line l go)
+places-line (Some x) go h = h x
+places-line None go h = tt
 
 places-long : (s : List ℕ) (line n p : ℕ) → 0 < n → Places (long_form s line n p)
 unfolding long_form long_columns

@@ -7,9 +7,8 @@ use native.Mathlib.Omega.{arith}
 use lib.ListN.{length, get_or}
 use lib.Dec.{ltb, eqb}
 use borrow.Author.Tests.{lt-ltb, le-ltb, ltb-true, ltb-false, eqb-true}
-use Rattle.lineentry.specs.declared.Varint.TheVariants.{Value}
 use Rattle.lineentry.specs.declared.short.Numbers.{Numbers}
-use Rattle.lineentry.specs.Varint.{varint_at, signed_at}
+use Rattle.lineentry.specs.Varint.{read_as, varint_at, signed_at}
 use Rattle.lineentry.specs.Entry.{long_form, long_columns, by_code, entry_of, entry_at}
 use Rattle.lineentry.specs.Quick.{one_byte}
 use Rattle.lineentry.specs.Short.{is_long, Long, short_of, short_at, numbers_at, long_by, Read}
@@ -40,10 +39,10 @@ short_next s p = go (one_byte (get_or s p 0)) where
   go true = omega arith
   go false = omega arith
 
-value_at_lem : {v w q r : ℕ} → v ≡ w → q ≡ r → Value v q false ≡ Value w r false
+value_at_lem : {v w q r : ℕ} → v ≡ w → q ≡ r → read_as v q false ≡ read_as w r false
 value_at_lem e f = cc
 
-pub short-read : (s : List ℕ) (p : ℕ) → p + 1 < length s → (short_at s p).short ≡ true → varint_at s p ≡ Value (short_at s p).value (short_at s p).next false
+pub short-read : (s : List ℕ) (p : ℕ) → p + 1 < length s → (short_at s p).short ≡ true → varint_at s p ≡ read_as (short_at s p).value (short_at s p).next false
 unfolding short_of
 short-read s p h = go (one_byte (get_or s p 0)) refl where
   b : ℕ
@@ -52,7 +51,7 @@ short-read s p h = go (one_byte (get_or s p 0)) refl where
   c : ℕ
   c = get_or s (p + 1) 0
 
-  go : (t : Bool) → one_byte b ≡ t → (t || one_byte c) ≡ true → varint_at s p ≡ Value (b % 64 + cond t 0 (64 * (c % 64))) (cond t (p + 1) (p + 2)) false
+  go : (t : Bool) → one_byte b ≡ t → (t || one_byte c) ≡ true → varint_at s p ≡ read_as (b % 64 + cond t 0 (64 * (c % 64))) (cond t (p + 1) (p + 2)) false
   go true e k = varint_last 6 s p (omega arith) (omega arith) (ltb-true _ _ e) ∙ value_at_lem (omega arith) refl
   go false e k =
       varint_next 6 s p (omega arith) (omega arith) (ltb-false _ _ e)

@@ -5,19 +5,24 @@ use mathlib.Core.List.{List}
 use Prim.Native.Nat.{ℕ, suc, ◌+◌, ◌-◌, ◌*◌, ◌%◌, ◌^◌, ◌≤◌, ◌<◌}
 use native.Mathlib.Numerals.{add-one}
 use native.Mathlib.Omega.{arith}
+use Rattle.std.specs.Prelude.{Option, Some, None}
 use lib.ListN.{length, drop, get_or, drop_of_length-le}
 use lib.Seq.{drop-cons}
 use lib.Dec.{leb, ltb}
 use borrow.Author.Tests.{le-leb, lt-leb, leb-true, leb-false, lt-ltb, le-ltb, ltb-false}
 use Rattle.lineentry.specs.declared.Varint.{Varint}
-use Rattle.lineentry.specs.declared.Varint.TheVariants.{Value, TooLong}
-use Rattle.lineentry.specs.Varint.{digits, number, cut, varint_within}
+use Rattle.lineentry.specs.Varint.{read_as, digits, number, cut, varint_within}
 
-value_eq : {v w n k : ℕ} {b c : Bool} → v ≡ w → n ≡ k → b ≡ c → Value v n b ≡ Value w k c
+value_eq : {v w n k : ℕ} {b c : Bool} → v ≡ w → n ≡ k → b ≡ c → read_as v n b ≡ read_as w k c
 value_eq p q r = cc
 
+pub same-parts : {v w n k : ℕ} {b c : Bool} → read_as v n b ≡ read_as w k c → (v ≡ w) × (n ≡ k) × (b ≡ c)
+same-parts {v} {w} {n} {k} {b} {c} e =
+    let r : ◌≡◌ {A = Varint} (record { value = v; next = n; missing = b }) (record { value = w; next = k; missing = c }) = cc in
+    (ap (λ x. x.value) r, ap (λ x. x.next) r, ap (λ x. x.missing) r)
+
 -- nothing is left: 0, and a byte is missing
-pub varint_end : (m : ℕ) (s : List ℕ) (p : ℕ) → length s ≤ p → varint_within m s p ≡ Value 0 p true
+pub varint_end : (m : ℕ) (s : List ℕ) (p : ℕ) → length s ≤ p → varint_within m s p ≡ read_as 0 p true
 unfolding varint_within
 varint_end m s p h = rw (drop_of_length-le s h, le-leb 0 m (omega arith)) (value_eq refl (omega arith) refl)
 
@@ -25,24 +30,24 @@ suc_leb_zero : (n : ℕ) → leb (suc n) 0 ≡ false
 suc_leb_zero n = lt-leb (suc n) 0 (omega arith)
 
 -- a byte is there, and none may come
-pub varint_none : (s : List ℕ) (p : ℕ) → p < length s → varint_within 0 s p ≡ TooLong
+pub varint_none : (s : List ℕ) (p : ℕ) → p < length s → varint_within 0 s p ≡ None
 unfolding varint_within
 varint_none s p h = rw (drop-cons s p 0, suc_leb_zero)
 
 -- a last byte
-pub varint_last : (m : ℕ) (s : List ℕ) (p : ℕ) → p < length s → 0 < m → get_or s p 0 % 128 < 64 → varint_within m s p ≡ Value (get_or s p 0 % 64) (p + 1) false
+pub varint_last : (m : ℕ) (s : List ℕ) (p : ℕ) → p < length s → 0 < m → get_or s p 0 % 128 < 64 → varint_within m s p ≡ read_as (get_or s p 0 % 64) (p + 1) false
 unfolding varint_within
 varint_last m s p h k l =
     let z : get_or s p 0 % 64 + 64 * 0 < 4294967296 = omega arith in
     rw (drop-cons s p 0, lt-leb 64 (get_or s p 0 % 128), le-leb 1 m, lt-ltb (get_or s p 0 % 64 + 64 * 0) 4294967296 z) (value_eq (omega arith) refl refl)
 
 -- what a byte that more follow adds to what they hold
-abbrev pub on_more : ℕ → Varint → Varint
-on_more b (Value v n c) = cond (leb (2 ^ 32) (b % 64 + 64 * v)) TooLong (Value (b % 64 + 64 * v) n c)
-on_more b TooLong = TooLong
+abbrev pub on_more : ℕ → Option Varint → Option Varint
+on_more b (Some v) = cond (leb (2 ^ 32) (b % 64 + 64 * v.value)) None (read_as (b % 64 + 64 * v.value) v.next v.missing)
+on_more b None = None
 
 more_holds : (m b p r v : ℕ) (c : Bool) (t u w : Bool) → leb r m ≡ t → ltb v (2 ^ 32) ≡ u → leb (2 ^ 32) (b % 64 + 64 * v) ≡ w
-    → cond (leb (suc r) (suc m) && ltb (b % 64 + 64 * v) (2 ^ 32)) (Value (b % 64 + 64 * v) (p + suc r) c) TooLong ≡ on_more b (cond (leb r m && ltb v (2 ^ 32)) (Value v (suc p + r) c) TooLong)
+    → cond (leb (suc r) (suc m) && ltb (b % 64 + 64 * v) (2 ^ 32)) (read_as (b % 64 + 64 * v) (p + suc r) c) None ≡ on_more b (cond (leb r m && ltb v (2 ^ 32)) (read_as v (suc p + r) c) None)
 more_holds m b p r v c true true true e f g =
     let h : suc r ≤ suc m = omega (arith, leb-true r m e) in
     let k : 4294967296 ≤ b % 64 + 64 * v = leb-true _ _ g in
@@ -72,8 +77,8 @@ varint_next m s p h k l =
     ap (λ i. varint_within i s p) e ∙ varint_more (m - 1) s p h l
 
 -- and whether that is 2^32 or more
-pub more_large : (b v n : ℕ) (c : Bool) → 4294967296 ≤ b % 64 + 64 * v → on_more b (Value v n c) ≡ TooLong
+pub more_large : (b v n : ℕ) (c : Bool) → 4294967296 ≤ b % 64 + 64 * v → on_more b (read_as v n c) ≡ None
 more_large b v n c h = rw (le-leb 4294967296 (b % 64 + 64 * v) h)
 
-pub more_small : (b v n : ℕ) (c : Bool) → b % 64 + 64 * v < 4294967296 → on_more b (Value v n c) ≡ Value (b % 64 + 64 * v) n c
+pub more_small : (b v n : ℕ) (c : Bool) → b % 64 + 64 * v < 4294967296 → on_more b (read_as v n c) ≡ read_as (b % 64 + 64 * v) n c
 more_small b v n c h = rw (lt-leb 4294967296 (b % 64 + 64 * v) h)

@@ -5,12 +5,9 @@
 -- info (`no_columns`), 14 the long form (`long_form`) and 15 no location (`by_code`). A start line is a step from the line before, an end line a
 -- step from the start line. There the short form's column is code * 8 plus bits 4 to 6 of the second byte; only an entry's first byte has bit 7
 -- set, and where that holds 01's OR of bits 4 to 7 is the same.
-use Rattle.std.specs.Prelude.{Bool, false, cond, List, ℕ, ◌+◌, ◌-◌, ◌*◌, ◌/◌, ◌%◌, max, ltb, eqb}
+use Rattle.std.specs.Prelude.{Bool, Option, Some, None, false, cond, List, ℕ, ◌+◌, ◌-◌, ◌*◌, ◌/◌, ◌%◌, max, ltb, eqb}
 use Rattle.std.specs.Int.Bits.{bit_or}
 use Rattle.lineentry.specs.declared.Varint.{Varint}
-use Rattle.lineentry.specs.declared.Varint.TheVariants.{Value, TooLong}
-use Rattle.lineentry.specs.declared.Moved.{Moved}
-use Rattle.lineentry.specs.declared.Moved.TheVariants.{To, Outside}
 use Rattle.lineentry.specs.declared.Location.{Location}
 use Rattle.lineentry.specs.declared.Entry.{Entry}
 use Rattle.lineentry.specs.declared.Entry.TheVariants.{Covers, Stop, OutOfRange}
@@ -30,13 +27,13 @@ abbrev pub at_line : ℕ → Location
 at_line line = location (shown line) 1 (shown line) 1
 
 -- The entry goes on with a number, or with the line after a step; a number of 2^32 or more, a seventh byte or a line outside 32 bits is 18.
-abbrev pub with_number : Varint → (ℕ → ℕ → Bool → Entry) → Entry
-with_number (Value v p m) go = go v p m
-with_number TooLong go = OutOfRange
+abbrev pub with_number : Option Varint → (ℕ → ℕ → Bool → Entry) → Entry
+with_number (Some v) go = go v.value v.next v.missing
+with_number None go = OutOfRange
 
-abbrev pub with_line : Moved → (ℕ → Entry) → Entry
-with_line (To line) go = go line
-with_line Outside go = OutOfRange
+abbrev pub with_line : Option ℕ → (ℕ → Entry) → Entry
+with_line (Some line) go = go line
+with_line None go = OutOfRange
 
 -- "Code 0 to 9: second byte d, column (code x 8) OR (d / 16), end column + (d mod 16)."
 abbrev pub short_column : ℕ → ℕ → ℕ

@@ -1,12 +1,11 @@
 -- No export and no promise rests on this page.
 -- Entries of code 14 whose numbers are one byte or two each, by their bytes. That they are the entries there is proofs/Shorts.
 use Rattle.std.specs.Prelude.{◌≡◌, Bool, false, cond, ◌&&◌, ◌||◌, List, ℕ, ◌+◌, ◌-◌, ◌*◌, ◌/◌, ◌%◌, ◌≤◌, ◌<◌, max, length, get_or, ltb, eqb}
-use Rattle.lineentry.specs.declared.Varint.TheVariants.{Value}
 use Rattle.lineentry.specs.declared.Entry.{Entry}
 use Rattle.lineentry.specs.declared.short.Short.{Short}
 use Rattle.lineentry.specs.declared.short.Numbers.{Numbers}
 use Rattle.lineentry.specs.Line.{as_signed, moved, shown}
-use Rattle.lineentry.specs.Varint.{varint_at, signed_of}
+use Rattle.lineentry.specs.Varint.{read_as, varint_at, signed_of}
 use Rattle.lineentry.specs.Entry.{location, covers, with_line}
 use Rattle.lineentry.specs.Quick.{one_byte}
 
@@ -55,10 +54,10 @@ pub record Read (s : List ℕ) (p : ℕ) (x : Numbers) : Type 0 where
   pub second : ℕ
   pub third : ℕ
   pub fourth : ℕ
-  pub steps : varint_at s p ≡ Value x.step second false
-  pub ends : varint_at s second ≡ Value x.end_step third false
-  pub columns : varint_at s third ≡ Value x.column fourth false
-  pub end_columns : varint_at s fourth ≡ Value x.end_column x.next false
+  pub steps : varint_at s p ≡ read_as x.step second false
+  pub ends : varint_at s second ≡ read_as x.end_step third false
+  pub columns : varint_at s third ≡ read_as x.column fourth false
+  pub end_columns : varint_at s fourth ≡ read_as x.end_column x.next false
 
 -- code 14 by its numbers
 unfoldable pub long_by : ℕ → ℕ → Numbers → Entry

@@ -22,22 +22,12 @@ pub struct Byte {
     pub missing: bool,
 }
 
-// A number, the place after its bytes, and whether a byte was missing; or more than six bytes, or 2^32 or more.
+// A number, the place after its bytes, and whether a byte was missing.
 #[derive(Clone, Copy)]
-pub enum Varint {
-    Value {
-        value: u32,
-        next: usize,
-        missing: bool,
-    },
-    TooLong,
-}
-
-// A line after a step, or a line outside signed 32 bits.
-#[derive(Clone, Copy)]
-pub enum Moved {
-    To(u32),
-    Outside,
+pub struct Varint {
+    pub value: u32,
+    pub next: usize,
+    pub missing: bool,
 }
 
 // What an instruction shows: lines and columns count from 1.
@@ -67,6 +57,7 @@ pub enum Entry {
     OutOfRange,
 }
 
+// `table`, `at` and, where it is taken, `line` are no struct in this crate: tried on `long_columns` it proves, but each number moves the place, so each call builds a new one: no plainer.
 pub fn lt_byte(table: &[u8], at: usize) -> Byte
     ensures { result ≡ byte_at table.now at }
 {
@@ -85,96 +76,72 @@ pub fn lt_byte(table: &[u8], at: usize) -> Byte
     }
 }
 
-// A varint of at most `most` bytes.
-fn varint_within(table: &[u8], at: usize, most: usize) -> Varint
+// A varint of at most `most` bytes; one of more, or of 2^32 or more, is none.
+fn varint_within(table: &[u8], at: usize, most: usize) -> Option<Varint>
     ensures { result ≡ varint_within most table.now at }
 {
     if table.len() <= at {
-        return Varint::Value {
+        return Some(Varint {
             value: 0,
             next: at,
             missing: true,
-        };
+        });
     }
     if most == 0 {
-        return Varint::TooLong;
+        return None;
     }
     let b = signed::wide(table[at]);
     if b % 128 < 64 {
-        return Varint::Value {
+        return Some(Varint {
             value: (b % 64) as u32,
             next: at + 1,
             missing: false,
-        };
+        });
     }
-    match varint_within(table, at + 1, most - 1) {
-        Varint::TooLong => Varint::TooLong,
-        Varint::Value {
-            value,
-            next,
-            missing,
-        } => {
-            let sum = b % 64 + 64 * (value as u64);
-            if 0x1_0000_0000 <= sum {
-                return Varint::TooLong;
-            }
-            Varint::Value {
-                value: sum as u32,
-                next,
-                missing,
-            }
-        }
+    let rest = varint_within(table, at + 1, most - 1)?;
+    let sum = b % 64 + 64 * (rest.value as u64);
+    if 0x1_0000_0000 <= sum {
+        return None;
     }
+    Some(Varint {
+        value: sum as u32,
+        next: rest.next,
+        missing: rest.missing,
+    })
 }
 
-// Most numbers are one byte, which is answered here.
-pub fn lt_read_varint(table: &[u8], at: usize) -> Varint
+// A varint; more than six bytes, or 2^32 or more, is none. Most numbers are one byte, which is answered here.
+pub fn lt_read_varint(table: &[u8], at: usize) -> Option<Varint>
     ensures { result ≡ varint_at table.now at }
 {
     if table.len() <= at {
-        return Varint::Value {
+        return Some(Varint {
             value: 0,
             next: at,
             missing: true,
-        };
+        });
     }
     let b = signed::wide(table[at]);
     if b % 128 < 64 {
-        return Varint::Value {
+        return Some(Varint {
             value: (b % 64) as u32,
             next: at + 1,
             missing: false,
-        };
+        });
     }
     varint_within(table, at, 6)
 }
 
 // A signed varint, as the number plus 2^31.
-pub fn lt_read_signed_varint(table: &[u8], at: usize) -> Varint
+pub fn lt_read_signed_varint(table: &[u8], at: usize) -> Option<Varint>
     ensures { result ≡ signed_at table.now at }
 {
-    match lt_read_varint(table, at) {
-        Varint::TooLong => Varint::TooLong,
-        Varint::Value {
-            value,
-            next,
-            missing,
-        } => {
-            if value % 2 == 0 {
-                Varint::Value {
-                    value: ORIGIN + value / 2,
-                    next,
-                    missing,
-                }
-            } else {
-                Varint::Value {
-                    value: ORIGIN - value / 2,
-                    next,
-                    missing,
-                }
-            }
-        }
-    }
+    let read = lt_read_varint(table, at)?;
+    Some(Varint {
+        value: quick::signed_step(read.value),
+        next: read.next,
+        missing: read.missing,
+    })
 }
 
 // 32 bits taken as a signed number.
@@ -188,18 +155,18 @@ pub fn as_signed(bits: u32) -> u32
     }
 }
 
-// A line after a step.
-pub fn move_line(line: u32, step: u32) -> Moved
+// A line after a step; a line outside signed 32 bits is none.
+pub fn move_line(line: u32, step: u32) -> Option<u32>
     ensures { result ≡ moved line step }
 {
     let sum = line as u64 + step as u64;
     if sum < ORIGIN as u64 {
-        return Moved::Outside;
+        return None;
     }
     if sum < 0x1_8000_0000 {
-        return Moved::To((sum - ORIGIN as u64) as u32);
+        return Some((sum - ORIGIN as u64) as u32);
     }
-    Moved::Outside
+    None
 }
 
 // A line as it is shown.
@@ -257,7 +224,7 @@ fn one_line(table: &[u8], line: u32, code: u32, instructions: usize, at: usize) 
     requires { (10 ≤ code) × (code < 13) }
     ensures { result ≡ one_line table.now line code instructions at }
 {
-    let Moved::To(to) = move_line(line, ORIGIN + (code - 10)) else {
+    let Some(to) = move_line(line, ORIGIN + (code - 10)) else {
         return Entry::OutOfRange;
     };
     let column = lt_byte(table, at);
@@ -281,23 +248,18 @@ fn one_line(table: &[u8], line: u32, code: u32, instructions: usize, at: usize) 
 fn no_columns(table: &[u8], line: u32, instructions: usize, at: usize) -> Entry
     ensures { result ≡ no_columns table.now line instructions at }
 {
-    let Varint::Value {
-        value: step,
-        next,
-        missing,
-    } = lt_read_signed_varint(table, at)
-    else {
+    let Some(step) = lt_read_signed_varint(table, at) else {
         return Entry::OutOfRange;
     };
-    let Moved::To(to) = move_line(line, step) else {
+    let Some(to) = move_line(line, step.value) else {
         return Entry::OutOfRange;
     };
     Entry::Covers(Span {
         instructions,
         line: to,
         location: at_line(to),
-        next,
-        missing,
+        next: step.next,
+        missing: step.missing,
     })
 }
 
@@ -305,20 +267,10 @@ fn no_columns(table: &[u8], line: u32, instructions: usize, at: usize) -> Entry
 fn long_columns(table: &[u8], to: u32, end: u32, instructions: usize, at: usize) -> Entry
     ensures { result ≡ long_columns table.now to end instructions at }
 {
-    let Varint::Value {
-        value: column,
-        next: at2,
-        missing: _,
-    } = lt_read_varint(table, at)
-    else {
+    let Some(column) = lt_read_varint(table, at) else {
         return Entry::OutOfRange;
     };
-    let Varint::Value {
-        value: end_column,
-        next,
-        missing,
-    } = lt_read_varint(table, at2)
-    else {
+    let Some(end_column) = lt_read_varint(table, column.next) else {
         return Entry::OutOfRange;
     };
     Entry::Covers(Span {
@@ -326,12 +278,12 @@ fn long_columns(table: &[u8], to: u32, end: u32, instructions: usize, at: usize)
         line: to,
         location: Location {
             line: show_line(to),
-            column: show_column(column),
+            column: show_column(column.value),
             end_line: show_line(end),
-            end_column: show_column(end_column),
+            end_column: show_column(end_column.value),
         },
-        next,
-        missing,
+        next: end_column.next,
+        missing: end_column.missing,
     })
 }
 
@@ -339,29 +291,19 @@ fn long_columns(table: &[u8], to: u32, end: u32, instructions: usize, at: usize)
 fn long_form(table: &[u8], line: u32, instructions: usize, at: usize) -> Entry
     ensures { result ≡ long_form table.now line instructions at }
 {
-    let Varint::Value {
-        value: step,
-        next: at2,
-        missing: _,
-    } = lt_read_signed_varint(table, at)
-    else {
+    let Some(step) = lt_read_signed_varint(table, at) else {
         return Entry::OutOfRange;
     };
-    let Varint::Value {
-        value: end_step,
-        next: at3,
-        missing: _,
-    } = lt_read_varint(table, at2)
-    else {
+    let Some(end_step) = lt_read_varint(table, step.next) else {
         return Entry::OutOfRange;
     };
-    let Moved::To(to) = move_line(line, step) else {
+    let Some(to) = move_line(line, step.value) else {
         return Entry::OutOfRange;
     };
-    let Moved::To(end) = move_line(to, as_signed(end_step)) else {
+    let Some(end) = move_line(to, as_signed(end_step.value)) else {
         return Entry::OutOfRange;
     };
-    long_columns(table, to, end, instructions, at3)
+    long_columns(table, to, end, instructions, end_step.next)
 }
 
 // The entry at a place of the table, where the line so far is `line`; past the end it is a stop.

@@ -5,32 +5,13 @@ ghost use Rattle.lineentry.specs.Varint.{signed_of};
 ghost use Rattle.lineentry.specs.Entry.{entry_at};
 ghost use Rattle.lineentry.specs.Quick.{is_plain, Plain, plain_of, one_byte, is_long_of_four, LongOfFour, long_of};
 
-use crate::{Entry, Location, Moved, Span};
+use crate::{Entry, Location, ORIGIN, Span};
 
-// 0 as a line or a step is kept.
-const ORIGIN: u32 = 0x8000_0000;
-
-fn both(a: bool, b: bool) -> bool
-    ensures { result ≡ (a && b) }
-{
-    if a { b } else { false }
-}
-
+// Both are worked out before, so that no branch waits for the test: `first` chooses a value and no step, and the straight way is measured (docs/BENCHMARKS.md).
 fn pick(first: bool, a: u32, b: u32) -> u32
     ensures { (result ≡ cond first a b) × (result ≤ a + b) }
 {
     if first { a } else { b }
-}
-
-// How many bytes there are from a place on.
-pub fn bytes_from(table: &[u8], at: usize) -> usize
-    ensures { result ≡ length table.now - at }
-{
-    if at < table.len() {
-        table.len() - at
-    } else {
-        0
-    }
 }
 
 pub fn one_byte(byte: u8) -> bool
@@ -43,23 +24,23 @@ pub fn one_byte(byte: u8) -> bool
 pub fn is_plain(table: &[u8], at: usize) -> bool
     ensures { result ≡ is_plain table.now at }
 {
-    if bytes_from(table, at) <= 2 {
+    if table.len().saturating_sub(at) <= 2 {
         return false;
     }
     let head = table[at];
-    both(128 <= head, head < 232)
+    (128 <= head) & (head < 232)
 }
 
 // Whether an entry is of code 14 and its numbers are four bytes.
 pub fn is_long_of_four(table: &[u8], at: usize) -> bool
     ensures { result ≡ is_long_of_four table.now at }
 {
-    if bytes_from(table, at) <= 4 {
+    if table.len().saturating_sub(at) <= 4 {
         return false;
     }
-    let lines = both(one_byte(table[at + 1]), one_byte(table[at + 2]));
-    let columns = both(one_byte(table[at + 3]), one_byte(table[at + 4]));
-    both(table[at] / 8 == 30, both(lines, columns))
+    let lines = one_byte(table[at + 1]) & one_byte(table[at + 2]);
+    let columns = one_byte(table[at + 3]) & one_byte(table[at + 4]);
+    (table[at] / 8 == 30) & (lines & columns)
 }
 
 // Codes 10 to 12 step so many lines down, codes 0 to 9 none.
@@ -140,10 +121,10 @@ fn long_of(line: u32, instructions: usize, a: u8, b: u8, c: u8, d: u8, at: usize
     requires { at + 5 < 0x1_0000_0000_0000_0000 }
     ensures { result ≡ long_of line instructions a b c d at }
 {
-    let Moved::To(to) = crate::move_line(line, signed_step((a % 64) as u32)) else {
+    let Some(to) = crate::move_line(line, signed_step((a % 64) as u32)) else {
         return Entry::OutOfRange;
     };
-    let Moved::To(end) = crate::move_line(to, crate::as_signed((b % 64) as u32)) else {
+    let Some(end) = crate::move_line(to, crate::as_signed((b % 64) as u32)) else {
         return Entry::OutOfRange;
     };
     Entry::Covers(Span {

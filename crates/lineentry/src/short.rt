@@ -4,7 +4,7 @@ ghost use Rattle.std.specs.Prelude.{◌≡◌, true, cond, ◌||◌, ◌&&◌, �
 ghost use Rattle.lineentry.specs.Entry.{entry_at};
 ghost use Rattle.lineentry.specs.Short.{is_long, Long, short_of, short_at, numbers_at, long_by, Read};
 
-use crate::{Entry, Location, Moved, Span};
+use crate::{Entry, Location, Span};
 
 // A number as two bytes tell it, the place after it, and whether it is of one byte or two.
 #[derive(Clone, Copy)]
@@ -25,35 +25,25 @@ pub struct Numbers {
     pub short: bool,
 }
 
-fn either(a: bool, b: bool) -> bool
-    ensures { result ≡ (a || b) }
-{
-    if a { true } else { b }
-}
-
-fn both(a: bool, b: bool) -> bool
-    ensures { result ≡ (a && b) }
-{
-    if a { b } else { false }
-}
-
 // Whether an entry is of code 14 and two bytes for each of its numbers are there.
 pub fn is_long(table: &[u8], at: usize) -> bool
     ensures { result ≡ is_long table.now at }
 {
-    if crate::quick::bytes_from(table, at) <= 8 {
+    if table.len().saturating_sub(at) <= 8 {
         return false;
     }
     table[at] / 8 == 30
 }
 
 // What the second byte of a number adds, where it is one of the number.
+// Chosen without a branch: the straight reading is measured (docs/BENCHMARKS.md).
 fn upper(one: bool, byte: u8) -> u32
     ensures { (result ≡ cond one 0 (64 * (byte % 64))) × (result < 4096) }
 {
     if one { 0 } else { 64 * ((byte % 64) as u32) }
 }
 
+// Chosen without a branch, as `upper` is.
 fn after(one: bool, at: usize) -> usize
     requires { at + 2 < 0x1_0000_0000_0000_0000 }
     ensures { (result ≡ cond one (at + 1) (at + 2)) × (result ≤ at + 2) }
@@ -73,7 +63,7 @@ fn short_of(first: u8, second: u8, at: usize) -> Short
     Short {
         value,
         next,
-        short: either(one, more),
+        short: one | more,
     }
 }
 
@@ -87,6 +77,7 @@ fn short_number(table: &[u8], at: usize) -> Short
 }
 
 // The numbers of an entry of code 14.
+// `Long`, here, in `long_entry` and in sources `long_turn`, is what `is_long` answered: a type for it would be built and opened again in `next_entry` and `turn_here`: no plainer.
 pub fn short_numbers(table: &[u8], at: usize) -> Numbers
     requires { Long table.now at }
     ensures { result ≡ numbers_at table.now (at + 1) }
@@ -95,15 +86,15 @@ pub fn short_numbers(table: &[u8], at: usize) -> Numbers
     let end = short_number(table, step.next);
     let column = short_number(table, end.next);
     let last = short_number(table, column.next);
-    let lines = both(step.short, end.short);
-    let columns = both(column.short, last.short);
+    let lines = step.short & end.short;
+    let columns = column.short & last.short;
     Numbers {
         step: step.value,
         end_step: end.value,
         column: column.value,
         end_column: last.value,
         next: last.next,
-        short: both(lines, columns),
+        short: lines & columns,
     }
 }
 
@@ -111,10 +102,10 @@ pub fn short_numbers(table: &[u8], at: usize) -> Numbers
 fn long_by(line: u32, instructions: usize, x: Numbers) -> Entry
     ensures { result ≡ long_by line instructions x }
 {
-    let Moved::To(to) = crate::move_line(line, crate::quick::signed_step(x.step)) else {
+    let Some(to) = crate::move_line(line, crate::quick::signed_step(x.step)) else {
         return Entry::OutOfRange;
     };
-    let Moved::To(end) = crate::move_line(to, crate::as_signed(x.end_step)) else {
+    let Some(end) = crate::move_line(to, crate::as_signed(x.end_step)) else {
         return Entry::OutOfRange;
     };
     Entry::Covers(Span {

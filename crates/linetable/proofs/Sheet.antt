@@ -8,14 +8,13 @@ use Rattle.clearing.specs.Lent.{padded}
 use Rattle.lineentry.specs.Varint.{varint_within, signed_at}
 use Rattle.lineentry.specs.Line.{as_signed, moved}
 use Rattle.lineentry.specs.Entry.{location, no_columns, by_code, entry_of}
-use Rattle.linetable.specs.declared.Located.TheVariants.{Done}
 use Rattle.linetable.specs.Walk.{Reading}
-use Rattle.linetable.specs.Answer.{first_line_of, located, answer, records_of, locations_of, blank}
+use Rattle.linetable.specs.Answer.{first_line_of, located, answer, tells, records_of, locations_of, blank}
 
 abbrev sheet : Reading
 sheet = located (0xE9 ∷ 2 ∷ []) (first_line_of (pos 10)) 3 4
 
-pub sheet_answer : answer sheet ≡ Done 2 false
+pub sheet_answer : answer sheet ≡ tells 2 false
 unfolding located entry_of by_code no_columns signed_at varint_within moved as_signed
 sheet_answer = refl
 

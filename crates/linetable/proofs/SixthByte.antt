@@ -6,8 +6,7 @@ use mathlib.Core.List.{List, [], ◌∷◌}
 use Prim.Native.Nat.{ℕ}
 use lib.IntN.{pos}
 use Rattle.refusals.specs.Numbers.{number_range}
-use Rattle.lineentry.specs.declared.Varint.TheVariants.{Value}
-use Rattle.lineentry.specs.Varint.{varint_within, varint_at, signed_at}
+use Rattle.lineentry.specs.Varint.{read_as, varint_within, varint_at, signed_at}
 use Rattle.lineentry.specs.Line.{as_signed, moved}
 use Rattle.lineentry.specs.Entry.{location, no_columns, by_code, entry_of}
 use Rattle.linetable.specs.Walk.{Reading, done, refused}
@@ -24,7 +23,7 @@ cut_at line = done (location line 1 line 1 ∷ []) 1 false
 pub sixth-byte :
     (five40 (0x3F ∷ []) ≡ refused number_range 0)
     × (five40 (0x3C ∷ []) ≡ refused number_range 0)
-    × (varint_at (0xE8 ∷ 0x7F ∷ 0x7F ∷ 0x7F ∷ 0x7F ∷ 0x7F ∷ 0x03 ∷ []) 1 ≡ Value 4294967295 7 false)
+    × (varint_at (0xE8 ∷ 0x7F ∷ 0x7F ∷ 0x7F ∷ 0x7F ∷ 0x7F ∷ 0x03 ∷ []) 1 ≡ read_as 4294967295 7 false)
     × (five40 (0x43 ∷ []) ≡ cut_at 1610612746)
     × (five40 (0x7F ∷ []) ≡ refused number_range 0)
     × (five40 (0x40 ∷ []) ≡ cut_at 10)

@@ -1,35 +1,34 @@
 -- Laws on the store of records: cleared from a place on, filled from the front with one location after another, and read back.
 use mathlib.Core.Path.{◌≡◌, refl, sym, ap, ◌∙◌}
-use mathlib.Core.List.{List, [], ◌∷◌, ◌++◌, append-nil}
+use mathlib.Core.List.{List, [], ◌∷◌, ◌++◌, append_assoc, append-nil}
 use Prim.Native.Nat.{ℕ, zero, suc, ◌+◌, ◌-◌, ◌*◌, ◌≤◌, ◌<◌}
 use native.Mathlib.Nat.{add-zero}
-use native.Mathlib.Numerals.{add-one, sub-one, towards_suc}
+use native.Mathlib.Numerals.{sub-one, towards_suc}
 use native.Mathlib.Omega.{arith}
-use lib.ListN.{length, replicate, set, take, length-append, length-replicate, drop_of_length-le}
-use lib.Seq.{sets, sets-eq, drop_at, length-take-le}
+use lib.ListN.{length, replicate, set, take, drop, length-append, length-replicate, drop_of_length-le}
+use lib.Seq.{sets, sets-eq, length-sets, drop_at, length-take-le}
+use borrow.Rule.Slice.PartMut.{mid_of, put_mid, mid_len, Post-is}
 use Rattle.clearing.specs.Lent.{zeros, padded}
 use Rattle.lineentry.specs.declared.Location.{Location}
 use Rattle.linetable.specs.Answer.{numbers}
 
 -- ---- clearing
--- one number more is zero
-pub clear_turn : (xs : List ℕ) (i n : ℕ) → i < n → sets xs i (zeros (n - i)) ≡ sets (set xs i 0) (i + 1) (zeros (n - (i + 1)))
-clear_turn xs i n h =
-    let e : n - i ≡ suc (n - (i + 1)) = omega arith in
-    rw (e, add-one i)
+-- a part that was lent comes back with other numbers: they are stored from its place on
+pub put_mid-sets : (a e : ℕ) (xs ys : List ℕ) → a ≤ e → e ≤ length xs → length ys ≡ e - a → put_mid a (e - a) xs ys ≡ sets xs a ys
+put_mid-sets a e xs ys h k l =
+    let to : a + length ys ≡ e = omega arith in
+    ap (λ m. take a xs ++ (ys ++ m)) (Post-is a e xs h)
+    ∙ sym (sets-eq ys xs a (omega arith) ∙ append_assoc (take a xs) ys (drop (a + length ys) xs) ∙ ap (λ i. take a xs ++ (ys ++ drop i xs)) to)
 
--- nothing is left to clear
-pub clear_done : (xs : List ℕ) (i n : ℕ) → n ≤ i → sets xs i (zeros (n - i)) ≡ xs
-clear_done xs i n h =
-    let e : n - i ≡ 0 = omega arith in
-    rw e
+-- what stands behind a place is cleared
+pub cleared_behind : (c : ℕ) (xs : List ℕ) {ys : List ℕ} → c ≤ length xs → ys ≡ zeros (length (mid_of c (length xs - c) xs)) → put_mid c (length xs - c) xs ys ≡ sets xs c (zeros (length xs - c))
+cleared_behind c xs {ys} h e =
+    let z : ys ≡ zeros (length xs - c) = e ∙ ap zeros (mid_len c (length xs) xs (omega arith)) in
+    ap (put_mid c (length xs - c) xs) z ∙ put_mid-sets c (length xs) xs (zeros (length xs - c)) h (omega arith) (length-replicate (length xs - c) 0)
 
--- cleared from the front on
-pub clear_all : (xs : List ℕ) → sets xs 0 (zeros (length xs - 0)) ≡ zeros (length xs)
-clear_all xs =
-    let e : length xs - 0 ≡ length xs = omega arith in
-    let l = length-replicate {A = ℕ} (length xs) 0 in
-    rw e (sets-eq (zeros (length xs)) xs 0 (omega (arith, l)) ∙ ap (λ t. zeros (length xs) ++ t) (drop_of_length-le xs {i = 0 + length (zeros (length xs))} (omega (arith, l))) ∙ append-nil (zeros (length xs)))
+-- and the store is as long as it was
+pub cleared-length : (c : ℕ) (xs : List ℕ) {ys : List ℕ} → c ≤ length xs → ys ≡ zeros (length (mid_of c (length xs - c) xs)) → length (put_mid c (length xs - c) xs ys) ≡ length xs
+cleared-length c xs h e = ap length (cleared_behind c xs h e) ∙ length-sets xs c (zeros (length xs - c))
 
 -- numbers stored over the first c of a store whose rest was cleared leave it padded
 pub over_zeros : (xs : List ℕ) (c : ℕ) (zs : List ℕ) → c ≤ length xs → length zs ≡ c → sets (sets xs c (zeros (length xs - c))) 0 zs ≡ padded (length xs) zs

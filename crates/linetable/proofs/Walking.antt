@@ -6,11 +6,14 @@ use mathlib.Core.List.{List, [], ◌++◌, append_assoc}
 use Prim.Native.Nat.{ℕ, zero, suc, ◌+◌, ◌-◌, ◌*◌, ◌≤◌, ◌<◌}
 use native.Mathlib.Nat.{add_assoc}
 use native.Mathlib.Omega.{arith}
+use Rattle.std.specs.Prelude.{Result}
 use lib.ListN.{length, replicate, length-append, length-replicate}
 use lib.Seq.{sets, length-sets}
 use lib.Dec.{leb, eqb}
 use borrow.Author.Tests.{le-leb, lt-leb, eq-eqb, ne_eqb}
-use Rattle.refusals.specs.Numbers.{number_range}
+use Rattle.refusals.specs.Faults.{refused as refused_as}
+use Rattle.refusals.specs.declared.Fault.{Fault}
+use Rattle.refusals.specs.declared.Refusal.TheVariants.{NumberRange}
 use Rattle.clearing.specs.Lent.{zeros, padded}
 use Rattle.lineentry.specs.declared.Location.{Location}
 use Rattle.lineentry.specs.declared.Span.{Span}
@@ -19,9 +22,8 @@ use Rattle.lineentry.specs.declared.Entry.TheVariants.{Covers, Stop, OutOfRange}
 use Rattle.lineentry.specs.Entry.{entry_at, at_line}
 use Rattle.lineentry.proofs.Entries.{entry-places}
 use Rattle.linetable.specs.declared.Located.{Located}
-use Rattle.linetable.specs.declared.Located.TheVariants.{Done, Refused}
 use Rattle.linetable.specs.Walk.{Reading, done, refused, joined, ended, after, walk}
-use Rattle.linetable.specs.Answer.{numbers, answer, records_of}
+use Rattle.linetable.specs.Answer.{numbers, tells, answer, numbered, records_of}
 use Rattle.linetable.proofs.Stores.{length-numbers, stored-after, over_zeros}
 
 -- ---- one turn of the walk
@@ -71,10 +73,10 @@ pub record Going (s : List ℕ) (total n : ℕ) (first : Location) (goal : Readi
   pub comes : goal ≡ joined placed i missing (walk turns s first line at (total - i))
 
 -- the answer r and the store's contents ys are the goal's
-abbrev pub Ends : ℕ → Reading → Located → List ℕ → Type 0
+abbrev pub Ends : ℕ → Reading → Result Located (ℕ × ℕ) → List ℕ → Type 0
 Ends n goal r ys = (r ≡ answer goal) × (ys ≡ records_of n goal)
 
-ends-done : (n : ℕ) (goal : Reading) (at : List Location) (i k : ℕ) (v w : Bool) (ys : List ℕ) → goal ≡ done at k w → i ≡ k → v ≡ w → ys ≡ padded n (numbers at) → Ends n goal (Done i v) ys
+ends-done : (n : ℕ) (goal : Reading) (at : List Location) (i k : ℕ) (v w : Bool) (ys : List ℕ) → goal ≡ done at k w → i ≡ k → v ≡ w → ys ≡ padded n (numbers at) → Ends n goal (tells i v) ys
 unfolding records_of
 ends-done n goal at i k v w ys e p q h = rw e (cc, h)
 
@@ -99,7 +101,7 @@ going_start s count first xs clean l h n e q =
     }
 
 -- the store that was passed is as long as the store where the loop begins
-pub at_length : {n k : ℕ} (goal : Reading) {r : Located} {ys : List ℕ} → n ≡ k → Ends n goal r ys → Ends k goal r ys
+pub at_length : {n k : ℕ} (goal : Reading) {r : Result Located (ℕ × ℕ)} {ys : List ℕ} → n ≡ k → Ends n goal r ys → Ends k goal r ys
 at_length goal {r} {ys} e x = subst (λ j. Ends j goal r ys) e x
 
 module _ {s : List ℕ} {total n : ℕ} {first : Location} {goal : Reading} {clean xs : List ℕ} {line at i : ℕ} {missing : Bool} (g : Going s total n first goal clean xs line at i missing) where
@@ -118,16 +120,16 @@ module _ {s : List ℕ} {total n : ℕ} {first : Location} {goal : Reading} {cle
       g.comes
       ∙ ap (joined g.placed i missing) (walk-entry g.turns s first line at (total - i) (omega arith) g.enough ∙ ap (after (walk (g.turns - 1) s first) first at (total - i)) q)
 
-  pub ends-stop : (ys : List ℕ) → i < total → entry_at s line at ≡ Stop → ys ≡ sets xs (4 * i) (numbers (replicate (total - i) first)) → Ends n goal (Done i false) ys
+  pub ends-stop : (ys : List ℕ) → i < total → entry_at s line at ≡ Stop → ys ≡ sets xs (4 * i) (numbers (replicate (total - i) first)) → Ends n goal (tells i false) ys
   ends-stop ys h q e =
       ends-done n goal (g.placed ++ replicate (total - i) first) i (i + 0) false (not missing && false) ys (at_entry Stop h q) (omega arith) (sym (and-false (not missing)))
       (padded_all (replicate (total - i) first) ys (length-replicate (total - i) first) e)
 
-  pub ends-refused : (r : Located) (ys : List ℕ) → i < total → entry_at s line at ≡ OutOfRange → (r ≡ Refused number_range at) × (ys ≡ zeros (length xs)) → Ends n goal r ys
+  pub ends-refused : (r : Result Located Fault) (ys : List ℕ) → i < total → entry_at s line at ≡ OutOfRange → (r ≡ refused_as NumberRange at) × (ys ≡ zeros (length xs)) → Ends n goal (numbered r) ys
   unfolding records_of
-  ends-refused r ys h q e = rw (at_entry OutOfRange h q) (e.0, e.1 ∙ ap zeros g.same)
+  ends-refused r ys h q e = rw (at_entry OutOfRange h q) (ap numbered e.0, e.1 ∙ ap zeros g.same)
 
-  pub ends-beyond : (x : Span) (ys : List ℕ) → i < total → entry_at s line at ≡ Covers x → total - i < x.instructions → ys ≡ sets xs (4 * i) (numbers (replicate (total - i) x.location)) → Ends n goal (Done total false) ys
+  pub ends-beyond : (x : Span) (ys : List ℕ) → i < total → entry_at s line at ≡ Covers x → total - i < x.instructions → ys ≡ sets xs (4 * i) (numbers (replicate (total - i) x.location)) → Ends n goal (tells total false) ys
   ends-beyond x ys h q k e =
       let t : leb x.instructions (total - i) ≡ false = lt-leb x.instructions (total - i) k in
       ends-done n goal (g.placed ++ replicate (total - i) x.location) total (i + (total - i)) false (not missing && false) ys (rw t at (at_entry (Covers x) h q)) (omega arith) (sym (and-false (not missing)))
@@ -155,7 +157,7 @@ module _ {s : List ℕ} {total n : ℕ} {first : Location} {goal : Reading} {cle
             at (at_entry (Covers x) h q);
       }
 
-  pub ends_all : (v : Bool) → total ≤ i → v ≡ (not missing && eqb at (length s)) → Ends n goal (Done total v) xs
+  pub ends_all : (v : Bool) → total ≤ i → v ≡ (not missing && eqb at (length s)) → Ends n goal (tells total v) xs
   ends_all v h e =
       let z : length {A = Location} [] ≡ total - i = omega arith in
       ends-done n goal (g.placed ++ []) total (i + 0) v (not missing && eqb at (length s)) xs

@@ -15,9 +15,9 @@ use Rattle.lineentry.specs.declared.Entry.{Entry}
 use Rattle.lineentry.specs.declared.Entry.TheVariants.{Covers, Stop, OutOfRange}
 use Rattle.lineentry.specs.Entry.{entry_at, at_line}
 use Rattle.lineentry.proofs.Entries.{entry-places, covers-inside}
-use Rattle.linetable.specs.declared.Located.TheVariants.{Done}
+use Rattle.linetable.specs.declared.Located.{Located}
 use Rattle.linetable.specs.Walk.{Reading, done, refused, joined, after, walk}
-use Rattle.linetable.specs.Answer.{located, answer}
+use Rattle.linetable.specs.Answer.{located, answer, tells}
 use Rattle.linetable.specs.Complete.{Complete, here, entry}
 use Rattle.linetable.proofs.Walking.{walk-ended, walk-entry, and-false}
 use Rattle.linetable.proofs.Outcomes.{located_walks}
@@ -69,12 +69,17 @@ wholly-located s first count capacity =
     wholly-cond s first 0 count (ltb most_bytes (length s)) _ _ (λ _. tt)
     (wholly-cond s first 0 count (ltb capacity count) _ _ (λ _. tt) (wholly-walk count s (at_line first) first 0 count (omega arith)))
 
-answered : (s : List ℕ) (line p left k : ℕ) (r : Reading) → Wholly s line p left r → answer r ≡ Done k true → (k ≡ left) × Complete s line p left
+told_parts : {n k : ℕ} {v w : Bool} → tells n v ≡ tells k w → (n ≡ k) × (v ≡ w)
+told_parts {n} {k} {v} {w} e =
+    let r : ◌≡◌ {A = Located} (record { from_entries = n; whole = v }) (record { from_entries = k; whole = w }) = cc in
+    (ap (λ x. x.from_entries) r, ap (λ x. x.whole) r)
+
+answered : (s : List ℕ) (line p left k : ℕ) (r : Reading) → Wholly s line p left r → answer r ≡ tells k true → (k ≡ left) × Complete s line p left
 answered s line p left k (done ls n true) w e =
-    let z : n ≡ k = cc in
+    let z : n ≡ k = (told_parts e).0 in
     (omega (arith, w.0), w.1)
 answered s line p left k (done ls n false) w e =
-    let z : false ≡ true = cc in
+    let z : false ≡ true = (told_parts e).1 in
     let y : ◌≡◌ {A = ℕ} 0 1 = ap (λ b. cond b 1 0) z in
     absurd (omega arith)
 answered s line p left k (refused number place) w e =
@@ -82,7 +87,7 @@ answered s line p left k (refused number place) w e =
     absurd (omega arith)
 
 -- An answer that says whole counts every instruction from entries, and the table is complete for them.
-pub whole_complete : (s : List ℕ) (first count capacity k : ℕ) → answer (located s first count capacity) ≡ Done k true → (k ≡ count) × Complete s first 0 count
+pub whole_complete : (s : List ℕ) (first count capacity k : ℕ) → answer (located s first count capacity) ≡ tells k true → (k ≡ count) × Complete s first 0 count
 whole_complete s first count capacity k e = answered s first 0 count k (located s first count capacity) (wholly-located s first count capacity) e
 
 -- ---- complete, so whole
@@ -103,12 +108,12 @@ complete_walk {s} {line} {p} (entry {n = n} x q m c) first turns h =
     rw (walk-entry turns s first line p (x.instructions + n) (omega arith) h, q, t, l)
     (whole-joined n x.instructions (replicate x.instructions x.location) x.missing (walk (turns - 1) s first x.line x.next n) m (complete_walk c first (turns - 1) (omega arith)))
 
-says-whole : (n : ℕ) (r : Reading) → Whole n r → answer r ≡ Done n true
+says-whole : (n : ℕ) (r : Reading) → Whole n r → answer r ≡ tells n true
 says-whole n (done ls k whole) w = cc (w.0, w.1)
 says-whole n (refused number place) w = absurd w
 
 -- Where the table and the records fit, a complete table is answered as whole.
-pub complete_whole : (s : List ℕ) (first count capacity : ℕ) → length s ≤ most_bytes → count ≤ capacity → Complete s first 0 count → answer (located s first count capacity) ≡ Done count true
+pub complete_whole : (s : List ℕ) (first count capacity : ℕ) → length s ≤ most_bytes → count ≤ capacity → Complete s first 0 count → answer (located s first count capacity) ≡ tells count true
 complete_whole s first count capacity h k c =
     rw (located_walks s first count capacity h k) (says-whole count (walk count s (at_line first) first 0 count) (complete_walk c (at_line first) count (omega arith)))
 
@@ -123,5 +128,5 @@ complete_once {s} {line} {p} (entry {n = n} x q m c) (entry {n = k} y r l d) =
     cc
 
 -- A table that is whole for n instructions is whole for no other count.
-pub whole-once : (s : List ℕ) (first n m c d j k : ℕ) → answer (located s first n c) ≡ Done j true → answer (located s first m d) ≡ Done k true → n ≡ m
+pub whole-once : (s : List ℕ) (first n m c d j k : ℕ) → answer (located s first n c) ≡ tells j true → answer (located s first m d) ≡ tells k true → n ≡ m
 whole-once s first n m c d j k e q = complete_once (whole_complete s first n c j e).1 (whole_complete s first m d k q).1

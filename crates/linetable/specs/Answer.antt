@@ -1,6 +1,6 @@
 -- 01, 'Locals, numbers and locations': what is answered for a table, and what each lent store then holds.
 -- "Each instruction fills one record of line, column, end line and end column".
-use Rattle.std.specs.Prelude.{ℤ, cond, List, [], ◌∷◌, ◌++◌, ℕ, zero, suc, ◌+◌, ◌-◌, ◌*◌, ◌/◌, min, length, replicate, get_or, ltb}
+use Rattle.std.specs.Prelude.{Result, Ok, Err, Bool, ℤ, cond, List, [], ◌∷◌, ◌++◌, ℕ, zero, suc, ◌+◌, ◌-◌, ◌*◌, ◌/◌, min, length, replicate, get_or, ltb}
 use Rattle.std.specs.Int.{w32}
 use Rattle.std.proofs.Common.{of_z}
 use Rattle.refusals.specs.Numbers.{input_too_long, no_room}
@@ -9,8 +9,9 @@ use Rattle.clearing.specs.Lent.{zeros, padded}
 use Rattle.lineentry.specs.declared.Location.{Location}
 use Rattle.lineentry.specs.Line.{as_signed}
 use Rattle.lineentry.specs.Entry.{location, at_line}
+use Rattle.refusals.specs.Faults.{number_of}
+use Rattle.refusals.specs.declared.Fault.{Fault}
 use Rattle.linetable.specs.declared.Located.{Located}
-use Rattle.linetable.specs.declared.Located.TheVariants.{Done, Refused}
 use Rattle.linetable.specs.Walk.{Reading, done, refused, walk}
 
 -- the first line, kept plus 2^31 as every line is
@@ -29,9 +30,19 @@ located s first count capacity =
 abbrev pub located_both : (table : List ℕ) → (first : ℤ) → (count : ℕ) → (flat : List ℕ) → (out : List Location) → Reading
 located_both s first count flat out = located s (first_line_of first) count (min (length flat / 4) (length out))
 
-abbrev pub answer : Reading → Located
-answer (done at k whole) = Done k whole
-answer (refused number place) = Refused number place
+-- so many instructions came from entries, and whether the table was whole
+abbrev pub tells : ℕ → Bool → Result Located (ℕ × ℕ)
+tells k whole = Ok (record { from_entries = k; whole = whole })
+
+-- what is answered; a refusal by its number and place
+abbrev pub answer : Reading → Result Located (ℕ × ℕ)
+answer (done at k whole) = tells k whole
+answer (refused number place) = Err (number, place)
+
+-- what a function answers, in these numbers
+abbrev pub numbered : Result Located Fault → Result Located (ℕ × ℕ)
+numbered (Ok told) = Ok told
+numbered (Err fault) = Err (number_of fault.refusal, fault.place)
 
 -- one record after another
 abbrev pub numbers : List Location → List ℕ

@@ -2,40 +2,31 @@
 // The contracts cite one reading of the table, `located`, which gives the answer and what every lent store holds.
 #![tactic(auto)]
 
-ghost use Rattle.std.specs.Prelude.{◌≡◌, not, ◌&&◌, ◌||◌, ◌+◌, ◌-◌, ◌*◌, ◌/◌, ◌<◌, ◌≤◌, min, length, replicate, eqb};
+ghost use Rattle.std.specs.Prelude.{◌≡◌, Err, not, ◌&&◌, ◌+◌, ◌*◌, ◌/◌, ◌<◌, ◌≤◌, min, length, replicate, eqb};
 ghost use Rattle.std.proofs.lemmas.List.Edits.{sets};
 ghost use Rattle.refusals.specs.Limits.{most_bytes};
 ghost use Rattle.clearing.specs.Lent.{zeros};
 ghost use Rattle.lineentry.specs.Entry.{at_line};
 ghost use Rattle.linetable.specs.Walk.{walk};
-ghost use Rattle.linetable.specs.Answer.{first_line_of, located, located_both, answer, numbers, records_of, locations_of, location_at, locations_from};
+ghost use Rattle.linetable.specs.Answer.{first_line_of, located, located_both, answer, numbered, numbers, records_of, locations_of, location_at, locations_from};
 
 use lineentry::{Entry, Location};
+use refusals::{Fault, Refusal};
 
-// How many instructions came from entries, and whether the table was whole; or the refusal's number and place.
+// How many instructions came from entries, and whether the table was whole.
+// piecestate `Pieced` has the same fields, of what has come so far; piecestate stands not on this crate, and would for these two names alone: no plainer.
 #[derive(Clone, Copy)]
-pub enum Located {
-    Done { from_entries: u32, whole: bool },
-    Refused { number: u32, place: u32 },
-}
-
-// The store is zero from a place on.
-fn clear_from(records: &mut [u32], from: usize)
-    ensures { records.new ≡ sets records.old from (zeros (length records.old - from)) }
-{
-    let mut i = from;
-    while i < records.len() {
-        records[i] = 0;
-        i += 1;
-    }
+pub struct Located {
+    pub from_entries: u32,
+    pub whole: bool,
 }
 
 // A refusal leaves the whole store zero.
-pub fn refuse(records: &mut [u32], number: u32, place: u32) -> Located
-    ensures { (result ≡ Located.Refused number place) × (records.new ≡ zeros (length records.old)) }
+pub fn refuse(records: &mut [u32], why: Fault) -> Result<Located, Fault>
+    ensures { (result ≡ Err why) × (records.new ≡ zeros (length records.old)) }
 {
-    clear_from(records, 0);
-    Located::Refused { number, place }
+    clearing::clear_words(records);
+    Err(why)
 }
 
 // Stores one location for n instructions, from the number at `from` on.
@@ -43,39 +34,31 @@ pub fn fill(records: &mut [u32], from: usize, n: usize, location: Location)
     requires { from + 4 * n ≤ length records.old }
     ensures { records.new ≡ sets records.old from (numbers (replicate n location)) }
 {
-    let mut j = from;
-    let mut left = n;
-    while 0 < left {
+    for i in 0..n {
+        let j = from + 4 * i;
         records[j] = location.line;
         records[j + 1] = location.column;
         records[j + 2] = location.end_line;
         records[j + 3] = location.end_column;
-        j += 4;
-        left -= 1;
     }
-}
-
-fn either(a: bool, b: bool) -> bool
-    ensures { result ≡ (a || b) }
-{
-    if a { true } else { b }
 }
 
 // Every byte of the table is used, and none was missing.
 fn all_used(at: usize, length: usize, missing: bool) -> bool
     ensures { result ≡ (not missing && eqb at length) }
 {
-    if missing { false } else { at == length }
+    !missing & (at == length)
 }
 
 // Places every instruction, entry by entry; those left over take the first line.
-fn walk_entries(table: &[u8], first: u32, count: u32, records: &mut [u32]) -> Located
+// `table`, `first` and `count` go no further than this walk, so a struct of them would be built for one call, and each clause would be longer: no plainer.
+fn walk_entries(table: &[u8], first: u32, count: u32, records: &mut [u32]) -> Result<Located, Fault>
     requires { (length table.now ≤ most_bytes) × (4 * count ≤ length records.old) }
-    ensures { (result ≡ answer (walk count table.now (at_line first) first 0 count))
+    ensures { (numbered result ≡ answer (walk count table.now (at_line first) first 0 count))
         × (records.new ≡ records_of (length records.old) (walk count table.now (at_line first) first 0 count)) }
 {
     let total = count as usize;
-    clear_from(records, 4 * total);
+    clearing::clear_words(&mut records[4 * total..]);
     let left_over = lineentry::at_line(first);
     let mut line = first;
     let mut at = 0;
@@ -84,62 +67,57 @@ fn walk_entries(table: &[u8], first: u32, count: u32, records: &mut [u32]) -> Lo
     while i < total {
         match lineentry::quick::next_entry(table, line, at) {
             Entry::OutOfRange => {
-                return refuse(records, refusals::NUMBER_RANGE, at as u32);
+                return refuse(records, Refusal::NumberRange.at(at as u32));
             }
             Entry::Stop => {
                 fill(records, 4 * i, total - i, left_over);
-                return Located::Done {
+                return Ok(Located {
                     from_entries: i as u32,
                     whole: false,
-                };
+                });
             }
             Entry::Covers(span) => {
                 let n = span.instructions;
                 let location = span.location;
                 if total - i < n {
                     fill(records, 4 * i, total - i, location);
-                    return Located::Done {
+                    return Ok(Located {
                         from_entries: count,
                         whole: false,
-                    };
+                    });
                 }
                 fill(records, 4 * i, n, location);
                 i += n;
                 line = span.line;
                 at = span.next;
-                missing = either(missing, span.missing);
+                missing |= span.missing;
             }
         }
     }
-    Located::Done {
+    Ok(Located {
         from_entries: count,
         whole: all_used(at, table.len(), missing),
-    }
-}
-
-fn smaller(a: usize, b: usize) -> usize
-    ensures { result ≡ min a b }
-{
-    if a <= b { a } else { b }
+    })
 }
 
 // The records, where there is room for `most` of them elsewhere.
+// `table`, `first_line` and `count`, here, in `linetable_to_records` and in `linetable_to_locations`, are the parameters that C gives.
 fn records_within(
     table: &[u8],
     first_line: i32,
     count: u32,
     records: &mut [u32],
     most: usize,
-) -> Located
-    ensures { (result ≡ answer (located table.now (first_line_of first_line) count (min (length records.old / 4) most)))
+) -> Result<Located, Fault>
+    ensures { (numbered result ≡ answer (located table.now (first_line_of first_line) count (min (length records.old / 4) most)))
         × (records.new ≡ records_of (length records.old) (located table.now (first_line_of first_line) count (min (length records.old / 4) most))) }
 {
     if (refusals::MOST_BYTES as usize) < table.len() {
-        return refuse(records, refusals::INPUT_TOO_LONG, 0);
+        return refuse(records, Refusal::InputTooLong.at(0));
     }
-    let room = smaller(records.len() / 4, most);
+    let room = (records.len() / 4).min(most);
     if room < count as usize {
-        return refuse(records, refusals::NO_ROOM, room as u32);
+        return refuse(records, Refusal::NoRoom.at(room as u32));
     }
     let first = lineentry::as_signed(signed::bits32(first_line));
     walk_entries(table, first, count, records)
@@ -151,8 +129,8 @@ pub fn linetable_to_records(
     first_line: i32,
     count: u32,
     records: &mut [u32],
-) -> Located
-    ensures { (result ≡ answer (located table.now (first_line_of first_line) count (length records.old / 4)))
+) -> Result<Located, Fault>
+    ensures { (numbered result ≡ answer (located table.now (first_line_of first_line) count (length records.old / 4)))
         × (records.new ≡ records_of (length records.old) (located table.now (first_line_of first_line) count (length records.old / 4))) }
 {
     let room = records.len() / 4;
@@ -197,11 +175,8 @@ fn fill_locations(out: &mut [Location], flat: &[u32])
     ensures { out.new ≡ locations_from flat.now 0 (length out.old) }
 {
     let n = out.len();
-    let mut i = n;
-    while 0 < i {
-        i -= 1;
-        let v = location_at(flat, i, n);
-        out[i] = v;
+    for i in (0..n).rev() {
+        out[i] = location_at(flat, i, n);
     }
 }
 
@@ -212,8 +187,8 @@ pub fn linetable_to_locations(
     count: u32,
     flat: &mut [u32],
     out: &mut [Location],
-) -> Located
-    ensures { (result ≡ answer (located_both table.now first_line count flat.old out.old))
+) -> Result<Located, Fault>
+    ensures { (numbered result ≡ answer (located_both table.now first_line count flat.old out.old))
         × (flat.new ≡ records_of (length flat.old) (located_both table.now first_line count flat.old out.old))
         × (out.new ≡ locations_of (length out.old) (located_both table.now first_line count flat.old out.old)) }
 {

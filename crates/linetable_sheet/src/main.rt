@@ -4,7 +4,7 @@
 
 use linetable::Located;
 use printing::{say, say_number, say_refused};
-use reader::Outcome;
+use refusals::Fault;
 use std::io::{self, BufWriter, Write};
 
 fn say_word(out: &mut impl Write, n: u32) -> io::Result<()> {
@@ -28,30 +28,24 @@ fn say_record(out: &mut impl Write, records: &[u32], i: usize) -> io::Result<()>
 }
 
 fn say_records(out: &mut impl Write, records: &[u32], count: u32) -> io::Result<()> {
-    let total = count as usize;
-    let mut i = 0;
-    while i < total {
+    for i in 0..count as usize {
         say_record(out, records, i)?;
-        i += 1;
     }
     Ok(())
 }
 
-fn say_answer(out: &mut impl Write, answer: Located) -> io::Result<()> {
+fn say_answer(out: &mut impl Write, answer: Result<Located, Fault>) -> io::Result<()> {
     match answer {
-        Located::Done {
-            from_entries,
-            whole,
-        } => {
-            say_number(out, from_entries as u64)?;
-            if whole {
+        Ok(told) => {
+            say_number(out, told.from_entries as u64)?;
+            if told.whole {
                 say(out, b" from entries, whole\n")?;
             } else {
                 say(out, b" from entries, not whole\n")?;
             }
         }
-        Located::Refused { number, place } => {
-            say_refused(out, number, place)?;
+        Err(why) => {
+            say_refused(out, why.refusal.number(), why.place)?;
             say(out, b"\n")?;
         }
     }
@@ -106,16 +100,11 @@ fn run_in(
     say(out, name)?;
     say(out, b": ")?;
     match reader::deserialize_value(input, &mut nodes, &mut [0; 4], &mut [0; 1], 2) {
-        Outcome::Refused(number, place) => {
-            say_refused(out, number, place)?;
+        Err(fault) => {
+            say_refused(out, fault.refusal.number(), fault.place)?;
         }
-        Outcome::Read {
-            consumed: _,
-            nodes: used,
-            entries: _,
-            slots: _,
-        } => {
-            show_node(out, input, &nodes, used, node, count)?;
+        Ok(read) => {
+            show_node(out, input, &nodes, read.nodes, node, count)?;
         }
     }
     Ok(())

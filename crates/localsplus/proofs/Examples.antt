@@ -3,10 +3,11 @@ use mathlib.Core.Path.{◌≡◌, refl}
 use mathlib.Core.Bool.{true, false}
 use mathlib.Core.List.{List, [], ◌∷◌}
 use Prim.Native.Nat.{ℕ}
-use Rattle.refusals.specs.Numbers.{invalid_bytecode, no_room, number_range}
+use Rattle.std.specs.Prelude.{Ok}
+use Rattle.refusals.specs.Faults.{refused}
+use Rattle.refusals.specs.declared.Refusal.TheVariants.{InvalidBytecode, NoRoom, NumberRange}
 use Rattle.refusals.specs.Limits.{nothing}
 use Rattle.localsplus.specs.declared.Rooms.{Rooms}
-use Rattle.localsplus.specs.declared.Split.TheVariants.{Done, Refused}
 use Rattle.localsplus.specs.Sum.{argument_sum}
 use Rattle.localsplus.specs.Kind.{local_bit, cell_bit, free_bit, has}
 use Rattle.localsplus.specs.Lists.{positions_from, positions, mapped, counted, map_from, deref_map, argument_cell, argument_of, cell_args_from, all_nothing, cell_to_argument}
@@ -36,11 +37,11 @@ absent = (refl, refl, refl, refl)
 
 -- the answer, and each refusal before those that follow it: 8, then 18, then 17 at the first short output's length
 pub answers :
-    (split_of kinds 6 2 0 0 (rooms 6 6) ≡ Done 3 3 2 true)
-    × (split_of kinds 6 1 0 0 (rooms 7 9) ≡ Done 3 3 2 false)
-    × (split_of kinds 5 4294967295 1 0 (rooms 0 0) ≡ Refused invalid_bytecode 0)
-    × (split_of kinds 6 4294967295 1 0 (rooms 0 0) ≡ Refused number_range 0)
-    × (split_of kinds 6 4294967295 0 0 (rooms 6 4) ≡ Refused no_room 4)
-    × (split_of kinds 6 0 0 0 (rooms 5 4) ≡ Refused no_room 5)
+    (split_of kinds 6 2 0 0 (rooms 6 6) ≡ Ok record { locals = 3; cells = 3; frees = 2; present = true })
+    × (split_of kinds 6 1 0 0 (rooms 7 9) ≡ Ok record { locals = 3; cells = 3; frees = 2; present = false })
+    × (split_of kinds 5 4294967295 1 0 (rooms 0 0) ≡ refused InvalidBytecode 0)
+    × (split_of kinds 6 4294967295 1 0 (rooms 0 0) ≡ refused NumberRange 0)
+    × (split_of kinds 6 4294967295 0 0 (rooms 6 4) ≡ refused NoRoom 4)
+    × (split_of kinds 6 0 0 0 (rooms 5 4) ≡ refused NoRoom 5)
 unfolding kinds rooms split_of answered checks room_for positions_from argument_cell argument_of cell_args_from all_nothing has
 answers = (refl, refl, refl, refl, refl, refl)

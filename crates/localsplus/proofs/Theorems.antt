@@ -9,11 +9,13 @@ use native.Mathlib.Nat.{zero-add}
 use native.Mathlib.Omega.{arith}
 use lib.ListN.{length, get_or}
 use borrow.Author.Tests.{lt-ltb}
-use Rattle.refusals.specs.Numbers.{input_too_long}
+use Rattle.std.specs.Prelude.{Result}
+use Rattle.refusals.specs.Faults.{refused}
+use Rattle.refusals.specs.declared.Fault.{Fault}
+use Rattle.refusals.specs.declared.Refusal.TheVariants.{InputTooLong}
 use Rattle.refusals.specs.Limits.{most_bytes, nothing}
 use Rattle.localsplus.specs.declared.Rooms.{Rooms}
 use Rattle.localsplus.specs.declared.Split.{Split}
-use Rattle.localsplus.specs.declared.Split.TheVariants.{Refused}
 use Rattle.localsplus.specs.Kind.{cell_bit, free_bit, has}
 use Rattle.localsplus.specs.Lists.{positions, mapped, deref_map, argument_of, cell_args_from}
 use Rattle.localsplus.specs.Answer.{checks, answered, split_of, IsSplit}
@@ -22,7 +24,7 @@ use Rattle.localsplus.proofs.Ranks.{rank, Rising, length-positions, positions_ri
 
 -- One answer per input: two calls with the same arguments, whose stores are as long, agree in the answer and in every store,
 -- whatever the stores held before.
-pub one_answer : {kinds : List ℕ} {names args kwonly flags : ℕ} {l c f m a l₀ c₀ f₀ m₀ a₀ : List ℕ} {r s : Split} {l₁ c₁ f₁ m₁ a₁ l₂ c₂ f₂ m₂ a₂ : List ℕ}
+pub one_answer : {kinds : List ℕ} {names args kwonly flags : ℕ} {l c f m a l₀ c₀ f₀ m₀ a₀ : List ℕ} {r s : Result Split Fault} {l₁ c₁ f₁ m₁ a₁ l₂ c₂ f₂ m₂ a₂ : List ℕ}
     → length l ≡ length l₀
     → length c ≡ length c₀
     → length f ≡ length f₀
@@ -34,7 +36,7 @@ pub one_answer : {kinds : List ℕ} {names args kwonly flags : ℕ} {l c f m a l
 one_answer el ec ef em ea p q = (cc, cc, cc, cc, cc, cc)
 
 -- Too many kind bytes are refused before all else, whatever the other arguments are.
-pub too_long : (kinds : List ℕ) (names args kwonly flags : ℕ) (rooms : Rooms) → most_bytes < length kinds → split_of kinds names args kwonly flags rooms ≡ Refused input_too_long 0
+pub too_long : (kinds : List ℕ) (names args kwonly flags : ℕ) (rooms : Rooms) → most_bytes < length kinds → split_of kinds names args kwonly flags rooms ≡ refused InputTooLong 0
 unfolding split_of answered checks
 too_long kinds names args kwonly flags rooms h = rw (lt-ltb most_bytes (length kinds) h)
 

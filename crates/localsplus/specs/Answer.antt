@@ -1,15 +1,14 @@
 -- The split's answer and the contents of its five stores: one of each for every input.
 -- 01, 'Locals, numbers and locations': "Checks: lengths 8, sum 18, each output shorter than the names 17 (the first short, in that order)";
 -- 'Numbers given when nothing is read': "InputTooLong, tested before all", here of the kind bytes.
-use Rattle.std.specs.Prelude.{◌≡◌, cond, not, List, [], ◌∷◌, ℕ, ◌^◌, ltb, leb, eqb, length}
-use Rattle.refusals.specs.Numbers.{invalid_bytecode, input_too_long, no_room, number_range}
+use Rattle.std.specs.Prelude.{◌≡◌, cond, not, List, [], ◌∷◌, ℕ, ◌^◌, ltb, leb, eqb, length, Result, Ok, Err}
 use Rattle.refusals.specs.Limits.{most_bytes}
+use Rattle.refusals.specs.Faults.{refused}
+use Rattle.refusals.specs.declared.Fault.{Fault}
+use Rattle.refusals.specs.declared.Refusal.TheVariants.{InvalidBytecode, InputTooLong, NoRoom, NumberRange}
 use Rattle.clearing.specs.Lent.{zeros, padded}
 use Rattle.localsplus.specs.declared.Rooms.{Rooms}
-use Rattle.localsplus.specs.declared.Checked.{Checked}
-use Rattle.localsplus.specs.declared.Checked.TheVariants.{Fits, Fails}
 use Rattle.localsplus.specs.declared.Split.{Split}
-use Rattle.localsplus.specs.declared.Split.TheVariants.{Done, Refused}
 use Rattle.localsplus.specs.Sum.{argument_sum}
 use Rattle.localsplus.specs.Kind.{local_bit, cell_bit, free_bit}
 use Rattle.localsplus.specs.Lists.{positions, deref_map, present, cell_to_argument}
@@ -30,43 +29,45 @@ rooms_of locals cells frees map arguments =
     }
 
 -- "each output shorter than the names 17 (the first short, in that order)": its place is that output's length
-unfoldable pub room_for : ℕ → ℕ → List ℕ → Checked
-room_for names sum [] = Fits sum
-room_for names sum (room ∷ rooms) = cond (ltb room names) (Fails no_room room) (room_for names sum rooms)
+unfoldable pub room_for : ℕ → ℕ → List ℕ → Result ℕ Fault
+room_for names sum [] = Ok sum
+room_for names sum (room ∷ rooms) = cond (ltb room names) (refused NoRoom room) (room_for names sum rooms)
 
 -- every check, in order; where all hold, the argument sum. count is the number of kind bytes.
-unfoldable pub checks : ℕ → ℕ → ℕ → Rooms → Checked
+unfoldable pub checks : ℕ → ℕ → ℕ → Rooms → Result ℕ Fault
 checks count names sum rooms =
-    cond (ltb most_bytes count) (Fails input_too_long 0)
-    (cond (not (eqb names count)) (Fails invalid_bytecode 0)
-    (cond (leb (2 ^ 32) sum) (Fails number_range 0)
+    cond (ltb most_bytes count) (refused InputTooLong 0)
+    (cond (not (eqb names count)) (refused InvalidBytecode 0)
+    (cond (leb (2 ^ 32) sum) (refused NumberRange 0)
     (room_for names sum (in_order rooms))))
 
 -- the three counts, and whether the cell-to-argument list is present
-unfoldable pub answered : List ℕ → Checked → Split
-answered kinds (Fits sum) =
-    Done
-    (length (positions local_bit kinds))
-    (length (positions cell_bit kinds))
-    (length (positions free_bit kinds))
-    (present sum kinds)
-answered kinds (Fails number place) = Refused number place
+unfoldable pub answered : List ℕ → Result ℕ Fault → Result Split Fault
+answered kinds (Ok sum) =
+    Ok
+    record {
+      locals = length (positions local_bit kinds);
+      cells = length (positions cell_bit kinds);
+      frees = length (positions free_bit kinds);
+      present = present sum kinds;
+    }
+answered kinds (Err fault) = Err fault
 
-unfoldable pub split_of : List ℕ → ℕ → ℕ → ℕ → ℕ → Rooms → Split
+unfoldable pub split_of : List ℕ → ℕ → ℕ → ℕ → ℕ → Rooms → Result Split Fault
 split_of kinds names args kwonly flags rooms =
     answered kinds (checks (length kinds) names (argument_sum args kwonly flags) rooms)
 
 -- what a store of n numbers holds after an answer: the list and then zeros, or zeros alone where the split is refused
-unfoldable pub stored : Split → ℕ → List ℕ → List ℕ
-stored (Done locals cells frees present) n list = padded n list
-stored (Refused number place) n list = zeros n
+unfoldable pub stored : Result Split Fault → ℕ → List ℕ → List ℕ
+stored (Ok split) n list = padded n list
+stored (Err fault) n list = zeros n
 
 -- The contract: r is the answer to a call with five stores, and the primed lists are what they hold when it is over.
 pub record IsSplit
     (kinds : List ℕ)
     (names args kwonly flags : ℕ)
     (locals cells frees map arguments : List ℕ)
-    (r : Split)
+    (r : Result Split Fault)
     (locals' cells' frees' map' arguments' : List ℕ) : Type 0 where
   pub answer : r ≡ split_of kinds names args kwonly flags (rooms_of locals cells frees map arguments)
   pub holds-locals : locals' ≡ stored r (length locals) (positions local_bit kinds)

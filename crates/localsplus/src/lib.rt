@@ -10,6 +10,8 @@ ghost use Rattle.localsplus.specs.Kind.{has};
 ghost use Rattle.localsplus.specs.Lists.{positions, mapped, counted, map_from, argument_of, cell_args_from, present, cell_to_argument};
 ghost use Rattle.localsplus.specs.Answer.{in_order, room_for, checks, IsSplit};
 
+use refusals::{Fault, Refusal};
+
 // The bits of a kind byte.
 pub const LOCAL: u8 = 0x20;
 
@@ -18,7 +20,7 @@ pub const CELL: u8 = 0x40;
 pub const FREE: u8 = 0x80;
 
 // The lengths of the five stores, in the order in which they are tested.
-#[derive(Clone, Copy)]
+#[derive(Clone, Copy, Debug, PartialEq, Eq)]
 pub struct Rooms {
     pub locals: usize,
     pub cells: usize,
@@ -27,23 +29,13 @@ pub struct Rooms {
     pub arguments: usize,
 }
 
-// What the checks give: the argument sum, or the refusal's number and place.
-#[derive(Clone, Copy)]
-pub enum Checked {
-    Fits(u32),
-    Fails(u32, u32),
-}
-
-// The answer: how many names of each kind, and whether the cell-to-argument list is present; or the refusal's number and place.
-#[derive(Clone, Copy)]
-pub enum Split {
-    Done {
-        locals: u32,
-        cells: u32,
-        frees: u32,
-        present: bool,
-    },
-    Refused(u32, u32),
+// What a split tells: how many names of each kind, and whether the cell-to-argument list is present.
+#[derive(Clone, Copy, Debug, PartialEq, Eq)]
+pub struct Split {
+    pub locals: u32,
+    pub cells: u32,
+    pub frees: u32,
+    pub present: bool,
 }
 
 // The arguments, the keyword-only ones, and one each for flag 0x04 (`*args`) and flag 0x08 (`**kwargs`).
@@ -54,45 +46,48 @@ pub fn argument_sum(args: u32, kwonly: u32, flags: u32) -> u64
 }
 
 // The first output that is shorter than the names.
-fn room_for(names: usize, sum: u32, rooms: Rooms) -> Checked
+#[tactic(auto, unfolding(crate::specs::Answer::room_for))]
+fn room_for(names: usize, sum: u32, rooms: Rooms) -> Result<u32, Fault>
     requires { names ≤ most_bytes }
     ensures { result ≡ room_for names sum (in_order rooms) }
 {
     if rooms.locals < names {
-        return Checked::Fails(refusals::NO_ROOM, rooms.locals as u32);
+        return Err(Refusal::NoRoom.at(rooms.locals as u32));
     }
     if rooms.cells < names {
-        return Checked::Fails(refusals::NO_ROOM, rooms.cells as u32);
+        return Err(Refusal::NoRoom.at(rooms.cells as u32));
     }
     if rooms.frees < names {
-        return Checked::Fails(refusals::NO_ROOM, rooms.frees as u32);
+        return Err(Refusal::NoRoom.at(rooms.frees as u32));
     }
     if rooms.map < names {
-        return Checked::Fails(refusals::NO_ROOM, rooms.map as u32);
+        return Err(Refusal::NoRoom.at(rooms.map as u32));
     }
     if rooms.arguments < names {
-        return Checked::Fails(refusals::NO_ROOM, rooms.arguments as u32);
+        return Err(Refusal::NoRoom.at(rooms.arguments as u32));
     }
-    Checked::Fits(sum)
+    Ok(sum)
 }
 
 // Every check, in 01's order.
-fn check(count: usize, names: u32, sum: u64, rooms: Rooms) -> Checked
+#[tactic(auto, unfolding(crate::specs::Answer::checks))]
+fn check(count: usize, names: u32, sum: u64, rooms: Rooms) -> Result<u32, Fault>
     ensures { result ≡ checks count names sum rooms }
 {
     if (refusals::MOST_BYTES as usize) < count {
-        return Checked::Fails(refusals::INPUT_TOO_LONG, 0);
+        return Err(Refusal::InputTooLong.at(0));
     }
     if names as usize != count {
-        return Checked::Fails(refusals::INVALID_BYTECODE, 0);
+        return Err(Refusal::InvalidBytecode.at(0));
     }
     if 0x1_0000_0000 <= sum {
-        return Checked::Fails(refusals::NUMBER_RANGE, 0);
+        return Err(Refusal::NumberRange.at(0));
     }
     room_for(names as usize, sum as u32, rooms)
 }
 
 // Whether a kind byte has a bit.
+#[tactic(auto, unfolding(crate::specs::Kind::has))]
 fn has_bit(bit: u8, kind: u8) -> bool
     requires { 0 < bit }
     ensures { result ≡ has bit kind }
@@ -108,18 +103,17 @@ fn write_positions(kinds: &[u8], bit: u8, out: &mut [u32]) -> u32
 {
     clearing::clear_words(out);
     let mut n = 0;
-    let mut i = 0;
-    while i < kinds.len() {
-        if has_bit(bit, kinds[i]) {
+    for (i, &kind) in kinds.iter().enumerate() {
+        if has_bit(bit, kind) {
             out[n] = i as u32;
             n += 1;
         }
-        i += 1;
     }
     n as u32
 }
 
 // A name's number in the map: that of the next Free, or of the next Cell, or none.
+#[tactic(auto, unfolding(crate::specs::Lists::mapped))]
 fn map_number(cell: u32, free: u32, kind: u8) -> u32
     ensures { result ≡ mapped cell free kind }
 {
@@ -133,6 +127,7 @@ fn map_number(cell: u32, free: u32, kind: u8) -> u32
 }
 
 // One more if the kind has the bit.
+#[tactic(auto, unfolding(crate::specs::Lists::counted))]
 fn count_bit(bit: u8, kind: u8, n: u32) -> u32
     requires { (0 < bit) × (n < nothing) }
     ensures { (result ≡ counted bit kind n) × (result ≤ n + 1) }
@@ -148,28 +143,23 @@ fn write_map(kinds: &[u8], cells: u32, map: &mut [u32])
     clearing::clear_words(map);
     let mut cell = 0;
     let mut free = cells;
-    let mut i = 0;
-    while i < kinds.len() {
-        let kind = kinds[i];
+    for (i, &kind) in kinds.iter().enumerate() {
         map[i] = map_number(cell, free, kind);
         cell = count_bit(CELL, kind, cell);
         free = count_bit(FREE, kind, free);
-        i += 1;
     }
 }
 
 // What the cell-to-argument list holds for a Cell: its position if it is an argument cell, else none.
+#[tactic(auto, unfolding(crate::specs::Lists::argument_of, crate::specs::Lists::argument_cell))]
 fn argument_of(sum: u32, position: u32, kind: u8) -> u32
     ensures { result ≡ argument_of sum position kind }
 {
-    if has_bit(LOCAL, kind) {
-        if has_bit(CELL, kind) {
-            if position < sum {
-                return position;
-            }
-        }
+    if has_bit(LOCAL, kind) && has_bit(CELL, kind) && position < sum {
+        position
+    } else {
+        refusals::NOTHING
     }
-    refusals::NOTHING
 }
 
 // Whether some cell is an argument cell.
@@ -177,12 +167,10 @@ fn any_argument(kinds: &[u8], sum: u32) -> bool
     requires { length kinds.now ≤ most_bytes }
     ensures { result ≡ present sum kinds.now }
 {
-    let mut i = 0;
-    while i < kinds.len() {
-        if argument_of(sum, i as u32, kinds[i]) != refusals::NOTHING {
+    for (i, &kind) in kinds.iter().enumerate() {
+        if argument_of(sum, i as u32, kind) != refusals::NOTHING {
             return true;
         }
-        i += 1;
     }
     false
 }
@@ -194,14 +182,11 @@ fn write_arguments(kinds: &[u8], sum: u32, out: &mut [u32])
 {
     clearing::clear_words(out);
     let mut n = 0;
-    let mut i = 0;
-    while i < kinds.len() {
-        let kind = kinds[i];
+    for (i, &kind) in kinds.iter().enumerate() {
         if has_bit(CELL, kind) {
             out[n] = argument_of(sum, i as u32, kind);
             n += 1;
         }
-        i += 1;
     }
 }
 
@@ -231,7 +216,7 @@ pub fn split_localplus(
     frees: &mut [u32],
     map: &mut [u32],
     arguments: &mut [u32],
-) -> Split
+) -> Result<Split, Fault>
     ensures { IsSplit kinds.now names args kwonly flags
         locals.old cells.old frees.old map.old arguments.old
         result
@@ -246,26 +231,26 @@ pub fn split_localplus(
     };
     let sum = argument_sum(args, kwonly, flags);
     match check(kinds.len(), names, sum, rooms) {
-        Checked::Fails(number, place) => {
+        Err(fault) => {
             clearing::clear_words(locals);
             clearing::clear_words(cells);
             clearing::clear_words(frees);
             clearing::clear_words(map);
             clearing::clear_words(arguments);
-            Split::Refused(number, place)
+            Err(fault)
         }
-        Checked::Fits(sum) => {
+        Ok(sum) => {
             let local_count = write_positions(kinds, LOCAL, locals);
             let cell_count = write_positions(kinds, CELL, cells);
             let free_count = write_positions(kinds, FREE, frees);
             write_map(kinds, cell_count, map);
             let present = cell_to_argument(kinds, sum, arguments);
-            Split::Done {
+            Ok(Split {
                 locals: local_count,
                 cells: cell_count,
                 frees: free_count,
                 present,
-            }
+            })
         }
     }
 }

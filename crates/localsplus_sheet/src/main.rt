@@ -3,34 +3,29 @@
 #![tactic(auto)]
 
 use localsplus::Split;
-use printing::{say, say_field, say_refused, say_store};
+use printing::{say, say_fault, say_field, say_store};
+use refusals::Fault;
 use std::io::{self, BufWriter, Write};
 
-fn say_answer(out: &mut impl Write, answer: Split) -> io::Result<()> {
+fn say_answer(out: &mut impl Write, answer: Result<Split, Fault>) -> io::Result<()> {
     match answer {
-        Split::Done {
-            locals,
-            cells,
-            frees,
-            present,
-        } => {
+        Ok(split) => {
             say(out, b"  Local, Cell, Free:")?;
-            say_field(out, locals)?;
-            say_field(out, cells)?;
-            say_field(out, frees)?;
-            if present {
-                say(out, b"; cell-to-argument present\n")?;
+            say_field(out, split.locals)?;
+            say_field(out, split.cells)?;
+            say_field(out, split.frees)?;
+            if split.present {
+                say(out, b"; cell-to-argument present\n")
             } else {
-                say(out, b"; cell-to-argument absent\n")?;
+                say(out, b"; cell-to-argument absent\n")
             }
         }
-        Split::Refused(number, place) => {
+        Err(fault) => {
             say(out, b"  ")?;
-            say_refused(out, number, place)?;
-            say(out, b"\n")?;
+            say_fault(out, fault)?;
+            say(out, b"\n")
         }
     }
-    Ok(())
 }
 
 // One split: its title, its answer and its five stores, the last of which is lent.

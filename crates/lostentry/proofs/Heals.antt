@@ -9,13 +9,11 @@ use lib.ListN.{length, drop, get_or, length-append, get_or-append}
 use lib.Seq.{drop-append-le}
 use lib.Dec.{ltb, eqb}
 use borrow.Author.Tests.{lt-ltb, le-ltb, ltb-true, eqb-true}
+use Rattle.std.specs.Prelude.{Option, Some, None}
 use Rattle.lineentry.specs.declared.Varint.{Varint}
-use Rattle.lineentry.specs.declared.Varint.TheVariants.{Value, TooLong}
-use Rattle.lineentry.specs.declared.Moved.{Moved}
-use Rattle.lineentry.specs.declared.Moved.TheVariants.{To, Outside}
 use Rattle.lineentry.specs.declared.Span.{Span}
 use Rattle.lineentry.specs.declared.Entry.TheVariants.{Covers, Stop, OutOfRange}
-use Rattle.lineentry.specs.Varint.{digits, number, cut, varint_at, signed_of}
+use Rattle.lineentry.specs.Varint.{read_as, digits, number, cut, varint_at, signed_of}
 use Rattle.lineentry.specs.Line.{origin, moved, as_signed, shown}
 use Rattle.lineentry.specs.Entry.{location, long_columns, long_form, by_code, entry_at}
 use Rattle.lineentry.proofs.Entries.{refused-inside}
@@ -66,8 +64,8 @@ number_lt (b ∷ d) zero h = absurd (omega arith)
 number_lt (b ∷ d) (suc j) h = omega (arith, number_lt d j (omega arith))
 
 -- the number with its digits filled up
-healed : (u : List ℕ) (q y q₁ : ℕ) → q ≤ length u → varint_at u q ≡ Value y q₁ true → q₁ - q < 6
-    → varint_at (u ++ pad (5 - (q₁ - q))) q ≡ Value (y + 3221225472) (q + 6) false
+healed : (u : List ℕ) (q y q₁ : ℕ) → q ≤ length u → varint_at u q ≡ read_as y q₁ true → q₁ - q < 6
+    → varint_at (u ++ pad (5 - (q₁ - q))) q ≡ read_as (y + 3221225472) (q + 6) false
 healed u q y q₁ h e k =
     let a = parsed u q y q₁ true e in
     let d = drop q u in
@@ -101,7 +99,7 @@ long_of s line c e = on (ltb (get_or s 0 0) 128) refl (sym (entry-code s line 0 
   on true z k = stopped k
   on false z k = record { inside = refused-inside s line 0 e; high = z; long = sym (code_14 s line (get_or s 0 0 / 8 % 16) (get_or s 0 0 % 8 + 1) 1 c) ∙ k }
 
-long-ends : (s : List ℕ) (line n x q y q₁ : ℕ) (m m₁ : Bool) → varint_at s 1 ≡ Value x q m → varint_at s q ≡ Value y q₁ m₁ → long_form s line n 1 ≡ ends s line n x y q₁
+long-ends : (s : List ℕ) (line n x q y q₁ : ℕ) (m m₁ : Bool) → varint_at s 1 ≡ read_as x q m → varint_at s q ≡ read_as y q₁ m₁ → long_form s line n 1 ≡ ends s line n x y q₁
 unfolding long_form
 long-ends s line n x q y q₁ m m₁ a b = signed_at_lem s 1 _ ∙ rw (a, b)
 
@@ -111,8 +109,8 @@ unfolding long_columns
 columns_none s to end n p h =
     (record { instructions = n; line = to; location = location (shown to) 1 (shown end) 1; next = p; missing = true }, rw (varint_end 6 s p (omega arith), varint_end 6 s p (omega arith)), refl)
 
-covers-long : (s : List ℕ) (line x q y q₁ to end : ℕ) → 0 < length s → ltb (get_or s 0 0) 128 ≡ false → get_or s 0 0 / 8 % 16 ≡ 14 → varint_at s 1 ≡ Value x q false → varint_at s q ≡ Value y q₁ false
-    → moved line (signed_of x) ≡ To to → moved to (as_signed y) ≡ To end → q₁ ≡ length s → (e : Span) × (entry_at s line 0 ≡ Covers e) × (e.missing ≡ true)
+covers-long : (s : List ℕ) (line x q y q₁ to end : ℕ) → 0 < length s → ltb (get_or s 0 0) 128 ≡ false → get_or s 0 0 / 8 % 16 ≡ 14 → varint_at s 1 ≡ read_as x q false → varint_at s q ≡ read_as y q₁ false
+    → moved line (signed_of x) ≡ Some to → moved to (as_signed y) ≡ Some end → q₁ ≡ length s → (e : Span) × (entry_at s line 0 ≡ Covers e) × (e.missing ≡ true)
 covers-long s line x q y q₁ to end h b c v w t z l =
     let f = columns_none s to end (get_or s 0 0 % 8 + 1) q₁ l in
     let g : ends s line (get_or s 0 0 % 8 + 1) x y q₁ ≡ Covers f.0 = rw (t, z) f.1 in
@@ -123,7 +121,7 @@ abbrev pub healing : ℕ → List ℕ
 healing k = pad (5 - k)
 
 -- THEOREM: an entry of code 14 whose end-line step is cut within five bytes covers with some bytes more, and is then still cut.
-heals : (u : List ℕ) (line x q to y q₁ : ℕ) → get_or u 0 0 / 8 % 16 ≡ 14 → varint_at u 1 ≡ Value x q false → moved line (signed_of x) ≡ To to → varint_at u q ≡ Value y q₁ true → q₁ - q < 6
+heals : (u : List ℕ) (line x q to y q₁ : ℕ) → get_or u 0 0 / 8 % 16 ≡ 14 → varint_at u 1 ≡ read_as x q false → moved line (signed_of x) ≡ Some to → varint_at u q ≡ read_as y q₁ true → q₁ - q < 6
     → entry_at u line 0 ≡ OutOfRange → (e : Span) × (entry_at (u ++ healing (q₁ - q)) line 0 ≡ Covers e) × (e.missing ≡ true)
 unfolding as_signed
 heals u line x q to y q₁ c a t b k now =
@@ -138,16 +136,16 @@ heals u line x q to y q₁ c a t b k now =
     let vy : number (drop q u) ≡ y = rw d.1 at p.value in
     let ly : number (drop q u) < 1073741824 = number_lt (drop q u) 5 (omega (arith, p.wide, ap length d.1)) in
     let low : ltb y origin ≡ true = lt-ltb y origin (omega arith) in
-    let o : moved to (as_signed y) ≡ Outside =
+    let o : moved to (as_signed y) ≡ None =
     line_out (moved to (as_signed y)) (λ end. long_columns u to end n q₁) (λ end _ z. columns_end u to end n q₁ (r.late refl) z)
     (rw t at (sym (long-ends u line n x q y q₁ false true a b) ∙ w.long)) in
-    let o' : moved to (y + origin) ≡ Outside = rw low at o in
+    let o' : moved to (y + origin) ≡ None = rw low at o in
     let above = outside_above to (y + origin) o' (omega arith) in
     let below = to_lt line (signed_of x) to t in
     let high : ltb (y + 3221225472) origin ≡ false = le-ltb (y + 3221225472) origin (omega arith) in
     let g : y + 3221225472 - origin ≡ y + 1073741824 = omega arith in
     let end = to + (y + 1073741824) - origin in
-    let z : moved to (as_signed (y + 3221225472)) ≡ To end = rw (high, g) (moved_to to (y + 1073741824) (omega arith) (omega arith)) in
+    let z : moved to (as_signed (y + 3221225472)) ≡ Some end = rw (high, g) (moved_to to (y + 1073741824) (omega arith) (omega arith)) in
     let lu = length-append u v in
     let lv = pad_length (5 - (q₁ - q)) in
     let i : get_or (u ++ v) 0 0 ≡ get_or u 0 0 = get_or-append u v 0 0 h in
@@ -162,19 +160,24 @@ pub record Healed (u : List ℕ) (line : ℕ) : Type 0 where
 
 open_heals : (u : List ℕ) (line : ℕ) → get_or u 0 0 / 8 % 16 ≡ 14 → entry_at u line 0 ≡ OutOfRange → end_open u line (varint_at u 1) ≡ true → Healed u line
 open_heals u line c l e = on (varint_at u 1) refl e where
-  on : (w : Varint) → varint_at u 1 ≡ w → end_open u line w ≡ true → Healed u line
-  on TooLong a h = never (sym h)
-  on (Value x q true) a h = never (sym h)
-  on (Value x q false) a h = at (moved line (signed_of x)) refl h where
-    at : (m : Moved) → moved line (signed_of x) ≡ m → (in_range m && cut_early q (varint_at u q)) ≡ true → Healed u line
-    at Outside t k = never (sym k)
-    at (To to) t k = last (varint_at u q) refl k where
-      last : (w : Varint) → varint_at u q ≡ w → cut_early q w ≡ true → Healed u line
-      last TooLong b j = never (sym j)
-      last (Value y q₁ false) b j = never (sym j)
-      last (Value y q₁ true) b j =
-          let r = heals u line x q to y q₁ c a t b (ltb-true (q₁ - q) 6 j) l in
-          record { bytes = healing (q₁ - q); span = r.0; covers = r.1; missing = r.2 }
+  on : (w : Option Varint) → varint_at u 1 ≡ w → end_open u line w ≡ true → Healed u line
+  on None a h = never (sym h)
+  on (Some v) a h = of v.value v.next v.missing a h where
+    of : (x q : ℕ) (m : Bool) → varint_at u 1 ≡ read_as x q m → end_open u line (read_as x q m) ≡ true → Healed u line
+    of x q true a h = never (sym h)
+    of x q false a h = at (moved line (signed_of x)) refl h where
+      at : (m : Option ℕ) → moved line (signed_of x) ≡ m → (in_range m && cut_early q (varint_at u q)) ≡ true → Healed u line
+      at None t k = never (sym k)
+      at (Some to) t k = last (varint_at u q) refl k where
+        ended : (y q₁ : ℕ) (m : Bool) → varint_at u q ≡ read_as y q₁ m → cut_early q (read_as y q₁ m) ≡ true → Healed u line
+        ended y q₁ false b j = never (sym j)
+        ended y q₁ true b j =
+            let r = heals u line x q to y q₁ c a t b (ltb-true (q₁ - q) 6 j) l in
+            record { bytes = healing (q₁ - q); span = r.0; covers = r.1; missing = r.2 }
+
+        last : (w : Option Varint) → varint_at u q ≡ w → cut_early q w ≡ true → Healed u line
+        last None b j = never (sym j)
+        last (Some w) b j = ended w.value w.next w.missing b j
 
 -- THEOREM: what refuses as it stands and is not lost by the test covers with some bytes more.
 pub not_lost_heals : (u : List ℕ) (line : ℕ) → entry_at u line 0 ≡ OutOfRange → lost u line ≡ false → Healed u line

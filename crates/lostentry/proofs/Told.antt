@@ -7,48 +7,46 @@ use native.Mathlib.Omega.{arith}
 use lib.ListN.{length, get_or}
 use lib.Dec.{ltb}
 use borrow.Author.Tests.{eq-eqb, ne_eqb}
+use Rattle.std.specs.Prelude.{Option, Some, None}
 use Rattle.lineentry.specs.declared.Varint.{Varint}
-use Rattle.lineentry.specs.declared.Varint.TheVariants.{Value, TooLong}
-use Rattle.lineentry.specs.declared.Moved.{Moved}
-use Rattle.lineentry.specs.declared.Moved.TheVariants.{To, Outside}
 use Rattle.lineentry.specs.declared.Span.{Span}
 use Rattle.lineentry.specs.declared.Entry.{Entry}
 use Rattle.lineentry.specs.declared.Entry.TheVariants.{Covers, Stop, OutOfRange}
-use Rattle.lineentry.specs.Varint.{varint_at, signed_of}
+use Rattle.lineentry.specs.Varint.{read_as, varint_at, signed_of}
 use Rattle.lineentry.specs.Line.{moved}
 use Rattle.lineentry.specs.Entry.{entry_at}
 use Rattle.rows.proofs.Local.{parsed}
 use Rattle.lostentry.specs.Lost.{cut_early, end_open, may_heal, lost}
 
-pub reads_on : (s : List ℕ) (p : ℕ) {x q : ℕ} {m : Bool} {r : Varint} → r ≡ varint_at s p → r ≡ Value x q m → p ≤ q
+pub reads_on : (s : List ℕ) (p : ℕ) {x q : ℕ} {m : Bool} {r : Option Varint} → r ≡ varint_at s p → r ≡ read_as x q m → p ≤ q
 reads_on s p {x} {q} {m} a b = omega (arith, (parsed s p x q m (sym a ∙ b)).wide)
 
-pub early_long : (s : List ℕ) (p : ℕ) {r : Varint} → r ≡ varint_at s p → r ≡ TooLong → false ≡ cut_early p (varint_at s p)
+pub early_long : (s : List ℕ) (p : ℕ) {r : Option Varint} → r ≡ varint_at s p → r ≡ None → false ≡ cut_early p (varint_at s p)
 early_long s p a b = sym (ap (cut_early p) (sym a ∙ b))
 
-pub early_cut : (s : List ℕ) (p : ℕ) {x q : ℕ} {m : Bool} {r : Varint} → r ≡ varint_at s p → r ≡ Value x q m → m ≡ true → ltb (q - p) 6 ≡ cut_early p (varint_at s p)
+pub early_cut : (s : List ℕ) (p : ℕ) {x q : ℕ} {m : Bool} {r : Option Varint} → r ≡ varint_at s p → r ≡ read_as x q m → m ≡ true → ltb (q - p) 6 ≡ cut_early p (varint_at s p)
 early_cut s p {q = q} a b h = sym (ap (cut_early p) (sym a ∙ b) ∙ ap (λ t. t && ltb (q - p) 6) h)
 
-pub early_all : (s : List ℕ) (p : ℕ) {x q : ℕ} {m : Bool} {r : Varint} → r ≡ varint_at s p → r ≡ Value x q m → m ≡ false → false ≡ cut_early p (varint_at s p)
+pub early_all : (s : List ℕ) (p : ℕ) {x q : ℕ} {m : Bool} {r : Option Varint} → r ≡ varint_at s p → r ≡ read_as x q m → m ≡ false → false ≡ cut_early p (varint_at s p)
 early_all s p {q = q} a b h = sym (ap (cut_early p) (sym a ∙ b) ∙ ap (λ t. t && ltb (q - p) 6) h)
 
 -- ---- the two steps of code 14
-module _ (s : List ℕ) (line : ℕ) {r : Varint} (a : r ≡ varint_at s 1) where
-  pub open_long : r ≡ TooLong → false ≡ end_open s line (varint_at s 1)
+module _ (s : List ℕ) (line : ℕ) {r : Option Varint} (a : r ≡ varint_at s 1) where
+  pub open_long : r ≡ None → false ≡ end_open s line (varint_at s 1)
   open_long b = sym (ap (end_open s line) (sym a ∙ b))
 
-  of : (x q : ℕ) (m : Bool) → r ≡ Value x q m → end_open s line (varint_at s 1) ≡ end_open s line (Value x q m)
+  of : (x q : ℕ) (m : Bool) → r ≡ read_as x q m → end_open s line (varint_at s 1) ≡ end_open s line (read_as x q m)
   of x q m b = ap (end_open s line) (sym a ∙ b)
 
-  pub open_cut : {x q : ℕ} {m : Bool} → r ≡ Value x q m → m ≡ true → false ≡ end_open s line (varint_at s 1)
+  pub open_cut : {x q : ℕ} {m : Bool} → r ≡ read_as x q m → m ≡ true → false ≡ end_open s line (varint_at s 1)
   open_cut {x} {q} {m} b h = sym (of x q m b ∙ rw h)
 
-  pub open_outside : {x q : ℕ} {m : Bool} {step : ℕ} {l : Moved} → r ≡ Value x q m → m ≡ false → step ≡ signed_of x → l ≡ moved line step → l ≡ Outside → false ≡ end_open s line (varint_at s 1)
-  open_outside {x} {q} {m} b h e f g = let o : moved line (signed_of x) ≡ Outside = sym (ap (moved line) e) ∙ sym f ∙ g in sym (of x q m b ∙ rw (h, o))
+  pub open_outside : {x q : ℕ} {m : Bool} {step : ℕ} {l : Option ℕ} → r ≡ read_as x q m → m ≡ false → step ≡ signed_of x → l ≡ moved line step → l ≡ None → false ≡ end_open s line (varint_at s 1)
+  open_outside {x} {q} {m} b h e f g = let o : moved line (signed_of x) ≡ None = sym (ap (moved line) e) ∙ sym f ∙ g in sym (of x q m b ∙ rw (h, o))
 
-  pub open_to : {x q to : ℕ} {m t : Bool} {step : ℕ} {l : Moved} → r ≡ Value x q m → m ≡ false → step ≡ signed_of x → l ≡ moved line step → l ≡ To to → t ≡ cut_early q (varint_at s q)
+  pub open_to : {x q to : ℕ} {m t : Bool} {step : ℕ} {l : Option ℕ} → r ≡ read_as x q m → m ≡ false → step ≡ signed_of x → l ≡ moved line step → l ≡ Some to → t ≡ cut_early q (varint_at s q)
       → t ≡ end_open s line (varint_at s 1)
-  open_to {x} {q} {to} {m} b h e f g k = let o : moved line (signed_of x) ≡ To to = sym (ap (moved line) e) ∙ sym f ∙ g in sym (of x q m b ∙ rw (h, o) (sym k))
+  open_to {x} {q} {to} {m} b h e f g k = let o : moved line (signed_of x) ≡ Some to = sym (ap (moved line) e) ∙ sym f ∙ g in sym (of x q m b ∙ rw (h, o) (sym k))
 
 -- ---- the first byte
 pub heal_none : (s : List ℕ) (line : ℕ) → length s ≡ 0 → false ≡ may_heal s line

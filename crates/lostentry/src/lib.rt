@@ -5,21 +5,16 @@ ghost use Rattle.std.specs.Prelude.{◌≡◌};
 ghost use Rattle.lineentry.specs.Varint.{varint_at, signed_of};
 ghost use Rattle.lostentry.specs.Lost.{cut_early, end_open, may_heal, lost};
 
-use lineentry::{Entry, Moved, Varint};
+use lineentry::Entry;
 
 // A number that is cut within five bytes.
 fn cut_early(held: &[u8], at: usize) -> bool
     ensures { result ≡ cut_early at (varint_at held.now at) }
 {
-    let Varint::Value {
-        value: _,
-        next,
-        missing,
-    } = lineentry::lt_read_varint(held, at)
-    else {
+    let Some(read) = lineentry::lt_read_varint(held, at) else {
         return false;
     };
-    if missing { next - at < 6 } else { false }
+    read.missing && read.next - at < 6
 }
 
 // The step that a number stands for, plus 2^31.
@@ -34,23 +29,20 @@ fn step_of(value: u32) -> u32
 }
 
 // The line step of code 14 is all there and its line in range, and the end-line step is cut within five bytes.
+// As a chain of `&&` the join loses which test failed, and the proof would take the branches apart by hand.
+// `held` and `line` are what a piece holds of an entry: as a struct, piecestate and pieces would build one for one call each: no plainer.
 fn end_open(held: &[u8], line: u32) -> bool
     ensures { result ≡ end_open held.now line (varint_at held.now 1) }
 {
-    let Varint::Value {
-        value,
-        next,
-        missing,
-    } = lineentry::lt_read_varint(held, 1)
-    else {
+    let Some(step) = lineentry::lt_read_varint(held, 1) else {
         return false;
     };
-    if missing {
+    if step.missing {
         return false;
     }
-    match lineentry::move_line(line, step_of(value)) {
-        Moved::Outside => false,
-        Moved::To(_) => cut_early(held, next),
+    match lineentry::move_line(line, step_of(step.value)) {
+        None => false,
+        Some(_) => cut_early(held, step.next),
     }
 }
 
@@ -58,14 +50,10 @@ fn end_open(held: &[u8], line: u32) -> bool
 fn may_heal(held: &[u8], line: u32) -> bool
     ensures { result ≡ may_heal held.now line }
 {
-    if held.len() == 0 {
+    if held.is_empty() {
         return false;
     }
-    let head = signed::wide(held[0]);
-    if head / 8 % 16 == 14 {
-        return end_open(held, line);
-    }
-    false
+    held[0] / 8 % 16 == 14 && end_open(held, line)
 }
 
 // The entry that these bytes begin, at the line so far, refuses however they go on.

@@ -1,18 +1,15 @@
 -- The question as the code asks it: along one chain, of one node, and of node after node, by how many of each are used.
-use Rattle.std.specs.Prelude.{ℕ, zero, suc, ◌+◌, ◌-◌, Bool, true, cond, ◌&&◌, List, [], ltb}
-use Rattle.std.proofs.Math.Option.{Option, none, some}
-use Rattle.refusals.specs.Numbers.{bad_table}
+use Rattle.std.specs.Prelude.{ℕ, zero, suc, ◌+◌, ◌-◌, Bool, true, cond, ◌&&◌, List, [], ltb, Option, Some, None, Result, Ok, Err}
+use Rattle.refusals.specs.Faults.{refused}
+use Rattle.refusals.specs.declared.Fault.{Fault}
+use Rattle.refusals.specs.declared.Refusal.TheVariants.{BadTable}
 use Rattle.grammar.specs.Reading.{Answer, gives, stops}
 use Rattle.grammar.specs.State.{node_at, entry_at}
 use Rattle.grammar.specs.Record.{Tables, tables_of}
 use Rattle.nodespan.specs.Span.{Span, inside, flagged_before}
 use Rattle.nodespan.specs.declared.Bounds.{Bounds}
 use Rattle.nodespan.specs.declared.Walked.{Walked}
-use Rattle.nodespan.specs.declared.Walked.TheVariants as walked
-use Rattle.nodespan.specs.declared.Asked.{Asked}
-use Rattle.nodespan.specs.declared.Asked.TheVariants as asked
-use Rattle.nodespan.specs.declared.Answered.{Answered}
-use Rattle.nodespan.specs.declared.Answered.TheVariants as answered
+use Rattle.nodespan.specs.declared.Found.{Found}
 
 -- where a header stands is asked of the nodes alone, and of the input whether it is flagged
 abbrev pub among : (input nodes : List ℕ) → Tables
@@ -36,60 +33,55 @@ abbrev pub has : Within → ℕ → Bool
 has w v = inside (among [] w.nodes) w.source w.start w.end v
 
 abbrev pub joined : Bool → Option Bool → Option Bool
-joined b none = none
-joined b (some c) = some (b && c)
+joined b None = None
+joined b (Some c) = Some (b && c)
 
 -- so many children, linked from an entry on: none where one is no entry or no node, else whether all are inside
 unfoldable pub along : Within → (count e : ℕ) → Option Bool
-along w zero e = some true
+along w zero e = Some true
 along w (suc more) e =
     cond (ltb e w.room)
     (cond (ltb (entry_at w.entries e).child w.many)
     (joined (has w (entry_at w.entries e).child) (along w more (entry_at w.entries e).next))
-    none)
-    none
+    None)
+    None
 
 -- what a walk of so many steps tells
-abbrev pub told_of : ℕ → Option Bool → Walked
-told_of count none = walked.Faulty
-told_of count (some truth) = walked.Took count truth
+abbrev pub told_of : ℕ → Option Bool → Option Walked
+told_of count None = None
+told_of count (Some truth) = Some (record { took = count; all = truth })
 
 -- one node, with so many steps left
-abbrev pub visits : Within → (steps node : ℕ) → Walked
+abbrev pub visits : Within → (steps node : ℕ) → Option Walked
 visits w steps m =
     cond (has w m)
-    (cond (ltb steps (node_at w.nodes m).count) walked.Faulty
+    (cond (ltb steps (node_at w.nodes m).count) None
     (told_of (node_at w.nodes m).count (along w (node_at w.nodes m).count (node_at w.nodes m).first)))
-    (walked.Took 0 true)
+    (Some (record { took = 0; all = true }))
 
-abbrev pub also : Bool → Asked → Asked
-also b (asked.Is c) = asked.Is (b && c)
-also b (asked.Fails m) = asked.Fails m
+abbrev pub also : Bool → Result Bool Fault → Result Bool Fault
+also b (Ok c) = Ok (b && c)
+also b (Err fault) = Err fault
 
-abbrev pub after : ℕ → Walked → (ℕ → Asked) → Asked
-after m walked.Faulty rest = asked.Fails m
-after m (walked.Took taken truth) rest = also truth (rest taken)
+abbrev pub after : ℕ → Option Walked → (ℕ → Result Bool Fault) → Result Bool Fault
+after m None rest = refused BadTable m
+after m (Some walked) rest = also walked.all (rest walked.took)
 
 -- node after node
-unfoldable pub asks : Within → (more node steps : ℕ) → Asked
-asks w zero m steps = asked.Is true
+unfoldable pub asks : Within → (more node steps : ℕ) → Result Bool Fault
+asks w zero m steps = Ok true
 asks w (suc more) m steps = after m (visits w steps m) (λ taken. asks w more (m + 1) (steps - taken))
 
--- the question's answer in the definition's words, and the span's in the code's
-abbrev pub answer_of : Asked → Answer Bool
-answer_of (asked.Is truth) = gives truth
-answer_of (asked.Fails m) = stops bad_table m
-
-abbrev pub answered_of : Answer Span → Answered
-answered_of (gives s) =
-    answered.Told (record { start = s.start; end = s.end; closed = s.closed; slots_before = s.slots_before })
-answered_of (stops number place) = answered.Refused number place
+-- the span in the code's words
+abbrev pub answered_of : Answer Span → Answer Found
+answered_of (gives s) = gives (record { start = s.start; end = s.end; closed = s.closed; slots_before = s.slots_before })
+answered_of (stops number place) = stops number place
 
 -- a sound node's, where the question came to this
-abbrev pub spanned_by : Tables → Bounds → Asked → Answered
-spanned_by t b (asked.Is truth) =
-    answered.Told (record { start = b.start; end = b.end; closed = truth; slots_before = flagged_before t b.source b.start b.many 0 })
-spanned_by t b (asked.Fails m) = answered.Refused bad_table m
+abbrev pub spanned_by : Tables → Bounds → Result Bool Fault → Result Found Fault
+spanned_by t b (Ok truth) =
+    Ok (record { start = b.start; end = b.end; closed = truth; slots_before = flagged_before t b.source b.start b.many 0 })
+spanned_by t b (Err fault) = Err fault
 
-abbrev pub span_at : (input nodes entries : List ℕ) → Bounds → Answered
+abbrev pub span_at : (input nodes entries : List ℕ) → Bounds → Result Found Fault
 span_at input nodes entries b = spanned_by (among input nodes) b (asks (bounded nodes entries b) b.many 0 b.room)

@@ -7,13 +7,16 @@ ghost use Rattle.refusals.specs.Limits.{most_records};
 ghost use Rattle.grammar.specs.Letters.{flag_of, class_of};
 ghost use Rattle.grammar.specs.State.{node_at};
 ghost use Rattle.grammar.specs.Record.{tables_of};
+ghost use Rattle.grammar.specs.Numbered.{numbered};
 ghost use Rattle.stores.specs.Written.{node_of};
 ghost use Rattle.nodespan.specs.Header;
 ghost use Rattle.nodespan.specs.Span as definition;
-ghost use Rattle.nodespan.specs.Walk.{among, along, told_of, visits, asks, bounded, span_at, answered_of};
+ghost use Rattle.nodespan.specs.Walk.{among, along, visits, asks, bounded, span_at, answered_of};
+
+use refusals::{Fault, Refusal};
 
 // The span of a node, whether it stands alone, and how many slots are reserved before it.
-#[derive(Clone, Copy)]
+#[derive(Clone, Copy, Debug, PartialEq, Eq)]
 pub struct Found {
     pub start: u32,
     pub end: u32,
@@ -21,14 +24,9 @@ pub struct Found {
     pub slots_before: u32,
 }
 
-#[derive(Clone, Copy)]
-pub enum Answered {
-    Told(Found),
-    Refused(u32, u32),
-}
-
 // How many nodes and entries are used, and a span of the input of this number.
-#[derive(Clone, Copy)]
+// No ghost field says that the nodes are few: the definitions name this struct, and such a field would need a file of its own.
+#[derive(Clone, Copy, Debug, PartialEq, Eq)]
 struct Bounds {
     many: u32,
     room: u32,
@@ -37,18 +35,11 @@ struct Bounds {
     end: u32,
 }
 
-// Of one node: how many steps its chain took and whether all its children are inside, or that its chain fails.
-#[derive(Clone, Copy)]
-enum Walked {
-    Took(u32, bool),
-    Faulty,
-}
-
-// What the question comes to, or the container at which it fails.
-#[derive(Clone, Copy)]
-enum Asked {
-    Is(bool),
-    Fails(u32),
+// Of one node whose chain does not fail: how many steps it took, and whether all its children are inside.
+#[derive(Clone, Copy, Debug, PartialEq, Eq)]
+struct Walked {
+    took: u32,
+    all: bool,
 }
 
 // How many bytes a node's header stands before its place.
@@ -95,83 +86,74 @@ fn spanned(s: &[u8], node: stores::Node) -> bool
     node.end as usize <= s.len()
 }
 
-// Whether a node is of this input and its header stands in a span.
-fn inside(nodes: &[u32], source: u32, start: u32, end: u32, node: u32) -> bool
-    ensures { result ≡ definition.inside (among [] nodes.now) source start end node }
+// Whether a node is of the span's input and its header stands in the span.
+fn inside(nodes: &[u32], b: Bounds, node: u32) -> bool
+    ensures { result ≡ definition.inside (among [] nodes.now) b.source b.start b.end node }
 {
-    if stores::input_of(nodes, node) != source {
+    if stores::input_of(nodes, node) != b.source {
         return false;
     }
     let header = header_of(nodes, node);
-    if header < start {
+    if header < b.start {
         return false;
     }
-    header < end
-}
-
-fn both(a: bool, b: bool) -> bool
-    ensures { result ≡ (a && b) }
-{
-    if a { b } else { false }
+    header < b.end
 }
 
 // So many children, linked from an entry on: whether all are inside, where all are entries and nodes.
-fn walk(nodes: &[u32], entries: &[u32], b: Bounds, first: u32, count: u32) -> Walked
-    ensures { result ≡ told_of count (along (bounded nodes.now entries.now b) count first) }
+fn walk(nodes: &[u32], entries: &[u32], b: Bounds, first: u32, count: u32) -> Option<bool>
+    ensures { result ≡ along (bounded nodes.now entries.now b) count first }
 {
     let mut all = true;
     let mut e = first;
-    let mut i = 0u32;
-    while i < count {
+    for i in 0..count {
         if b.room <= e {
-            return Walked::Faulty;
+            return None;
         }
         let child = stores::child_of(entries, e);
         if b.many <= child {
-            return Walked::Faulty;
+            return None;
         }
-        all = both(all, inside(nodes, b.source, b.start, b.end, child));
+        all = inside(nodes, b, child) && all;
         e = stores::next_of(entries, e);
-        i += 1;
     }
-    Walked::Took(count, all)
+    Some(all)
 }
 
 // One node, with so many steps left for its chain.
-fn visit(nodes: &[u32], entries: &[u32], b: Bounds, steps: u32, node: u32) -> Walked
+fn visit(nodes: &[u32], entries: &[u32], b: Bounds, steps: u32, node: u32) -> Option<Walked>
     ensures { result ≡ visits (bounded nodes.now entries.now b) steps node }
 {
-    if !inside(nodes, b.source, b.start, b.end, node) {
-        return Walked::Took(0, true);
+    if !inside(nodes, b, node) {
+        return Some(Walked { took: 0, all: true });
     }
     let count = stores::count_of(nodes, node);
     if steps < count {
-        return Walked::Faulty;
+        return None;
     }
-    walk(nodes, entries, b, stores::first_of(nodes, node), count)
+    let all = walk(nodes, entries, b, stores::first_of(nodes, node), count)?;
+    Some(Walked { took: count, all })
 }
 
 // Whether no entry of a node inside names a node outside.
-fn closed(nodes: &[u32], entries: &[u32], b: Bounds) -> Asked
+fn closed(nodes: &[u32], entries: &[u32], b: Bounds) -> Result<bool, Fault>
     requires { b.many ≤ most_records }
     ensures { result ≡ asks (bounded nodes.now entries.now b) b.many 0 b.room }
 {
     let mut all = true;
     let mut steps = b.room;
-    let mut node = 0u32;
-    while node < b.many {
+    for node in 0..b.many {
         match visit(nodes, entries, b, steps, node) {
-            Walked::Faulty => {
-                return Asked::Fails(node);
+            None => {
+                return Err(Refusal::BadTable.at(node));
             }
-            Walked::Took(taken, yes) => {
-                steps -= taken;
-                all = both(all, yes);
+            Some(walked) => {
+                steps -= walked.took;
+                all = walked.all && all;
             }
         }
-        node += 1;
     }
-    Asked::Is(all)
+    Ok(all)
 }
 
 fn word(byte: u8) -> u32
@@ -191,51 +173,47 @@ fn flag_at(s: &[u8], at: u32) -> u32
     word(s[at]) / 128
 }
 
-// One where a node is of this input and its header is flagged and stands before a place.
-fn reserves(s: &[u8], nodes: &[u32], source: u32, start: u32, node: u32) -> u32
-    ensures { (result ≡ definition.reserved (among s.now nodes.now) source start node) × (result ≤ 1) }
+// One where a node is of the span's input and its header is flagged and stands before the span.
+fn reserves(s: &[u8], nodes: &[u32], b: Bounds, node: u32) -> u32
+    ensures { (result ≡ definition.reserved (among s.now nodes.now) b.source b.start node) × (result ≤ 1) }
 {
-    if stores::input_of(nodes, node) != source {
+    if stores::input_of(nodes, node) != b.source {
         return 0;
     }
     let header = header_of(nodes, node);
-    if start <= header {
+    if b.start <= header {
         return 0;
     }
     flag_at(s, header)
 }
 
-// How many of so many nodes do.
-fn flagged_before(s: &[u8], nodes: &[u32], many: u32, source: u32, start: u32) -> u32
-    requires { many ≤ most_records }
-    ensures { result ≡ definition.flagged_before (among s.now nodes.now) source start many 0 }
+// How many of the nodes do.
+fn flagged_before(s: &[u8], nodes: &[u32], b: Bounds) -> u32
+    requires { b.many ≤ most_records }
+    ensures { result ≡ definition.flagged_before (among s.now nodes.now) b.source b.start b.many 0 }
 {
     let mut slots = 0u32;
-    let mut node = 0u32;
-    while node < many {
-        slots += reserves(s, nodes, source, start, node);
-        node += 1;
+    for node in 0..b.many {
+        slots += reserves(s, nodes, b, node);
     }
     slots
 }
 
 // The span of a sound node.
-fn span_at(s: &[u8], nodes: &[u32], entries: &[u32], b: Bounds) -> Answered
+fn span_at(s: &[u8], nodes: &[u32], entries: &[u32], b: Bounds) -> Result<Found, Fault>
     requires { b.many ≤ most_records }
     ensures { result ≡ span_at s.now nodes.now entries.now b }
 {
-    match closed(nodes, entries, b) {
-        Asked::Fails(node) => Answered::Refused(refusals::BAD_TABLE, node),
-        Asked::Is(closed) => Answered::Told(Found {
-            start: b.start,
-            end: b.end,
-            closed,
-            slots_before: flagged_before(s, nodes, b.many, b.source, b.start),
-        }),
-    }
+    let closed = closed(nodes, entries, b)?;
+    Ok(Found {
+        start: b.start,
+        end: b.end,
+        closed,
+        slots_before: flagged_before(s, nodes, b),
+    })
 }
 
-// The span of a node: 14 before all, then 16 at the node's number, or at that of a container whose chain fails.
+// The span of a node, whose input and stores with the counts of what is used of them C lends: 14 before all, then 16 at the node's number, or at that of a container whose chain fails.
 pub fn span_of(
     input: &[u8],
     nodes: &[u32],
@@ -243,17 +221,17 @@ pub fn span_of(
     used_nodes: u32,
     used_entries: u32,
     node: u32,
-) -> Answered
-    ensures { result ≡ answered_of (definition.span_of (tables_of input.now nodes.now entries.now used_nodes used_entries) node) }
+) -> Result<Found, Fault>
+    ensures { numbered result ≡ answered_of (definition.span_of (tables_of input.now nodes.now entries.now used_nodes used_entries) node) }
 {
     if (refusals::MOST_BYTES as usize) < input.len() {
-        return Answered::Refused(refusals::INPUT_TOO_LONG, 0);
+        return Err(Refusal::InputTooLong.at(0));
     }
     if !soundness::sound_at(input, nodes, used_nodes, node) {
-        return Answered::Refused(refusals::BAD_TABLE, node);
+        return Err(Refusal::BadTable.at(node));
     }
     if !spanned(input, stores::node_at(nodes, node)) {
-        return Answered::Refused(refusals::BAD_TABLE, node);
+        return Err(Refusal::BadTable.at(node));
     }
     let b = Bounds {
         many: stores::nodes_in(nodes, used_nodes),

@@ -4,22 +4,24 @@ use Prim.Native.Nat.{ℕ, zero, suc, ◌+◌, ◌-◌, ◌*◌, ◌/◌, ◌%◌
 use native.Mathlib.Omega.{arith}
 use mathlib.Core.Bool.{Bool, true, false, not}
 use mathlib.Core.List.{List, ◌∷◌, ◌++◌}
-use lib.ListN.{length, get_or, set, length-set}
-use lib.Seq.{sets}
+use lib.ListN.{length, get_or, set}
+use lib.Seq.{sets, length-sets}
 use lib.Dec.{ltb}
 use borrow.Author.Tests.{lt-ltb, le-ltb}
-use Rattle.refusals.specs.Numbers.{no_room}
+use Rattle.refusals.specs.Faults.{fault}
+use Rattle.refusals.specs.declared.Fault.{Fault}
+use Rattle.refusals.specs.declared.Refusal.TheVariants.{NoRoom}
 use Rattle.grammar.specs.Letters as letter
-use Rattle.grammar.specs.Fields.{contents, le16, le32, le64, fields, span, items, digit_count}
+use Rattle.grammar.specs.Fields.{contents, le16, le32, fields, span, items, digit_count}
 use Rattle.grammar.specs.Leaf.{magnitude}
 use Rattle.writing.specs.Writing.{ended, emit}
-use Rattle.writing.specs.Canonical.{bytes32, of_bits, bits_of, digits_of, digit_bytes, long_bytes, integer_bytes}
+use Rattle.writing.specs.Canonical.{bytes16, bytes32, of_bits, bits_of, digits_of, digit_bytes, long_bytes, integer_bytes}
 use Rattle.writing.specs.Shape.{long_at}
-use Rattle.writing.proofs.Numbers.{word_bytes, word_below, low_half, high_half, small_positive, small-negative, great_positive, great_negative, not_negative, is_negative}
+use Rattle.writing.proofs.Numbers.{small_positive, small-negative, great_positive, great_negative, not_negative, is_negative}
 use Rattle.writing.proofs.Digits.{digit_bytes-length, digits_none, digits-next, long-within, long-counted, long_as_stored, many-digits, negative-above}
-use Rattle.output.specs.declared.Wrote.TheVariants as wrote
 use Rattle.output.specs.Puts.{Puts}
-use Rattle.output.proofs.Laws.{full, placed, sets-second, sets-sized}
+use Rattle.output.proofs.Laws.{full, placed, sets-append, sets-sized}
+use Rattle.std.specs.Prelude.{Ok, Err}
 
 -- The digits of a number, two bytes each.
 
@@ -35,18 +37,18 @@ digiting_none h = record { same = refl; room = h; comes = refl }
 pub digiting_room : {o₀ : List ℕ} {at m : ℕ} {o : List ℕ} {left place : ℕ} → Digiting o₀ at m o left place → 0 < left → place + 2 ≤ length o
 digiting_room {o₀} {at} {m} {o} {left} {place} k h = omega (arith, k.room, ap length (digits-next left h))
 
-pub digiting_more : {o₀ : List ℕ} {at m : ℕ} {o : List ℕ} {left place : ℕ} → Digiting o₀ at m o left place → 0 < left
-    → Digiting o₀ at m (set (set o place (left % 32768 % 256)) (place + 1) (left % 32768 / 256 % 256)) (left / 32768) (place + 2)
+pub digiting_more : {o₀ : List ℕ} {at m : ℕ} {o o' : List ℕ} {left place : ℕ} → Digiting o₀ at m o left place → 0 < left
+    → o' ≡ sets o place (bytes16 (left % 32768)) → Digiting o₀ at m o' (left / 32768) (place + 2)
 unfolding digit_bytes
-digiting_more {o₀} {at} {m} {o} {left} {place} k h =
+digiting_more {o₀} {at} {m} {o} {o'} {left} {place} k h e =
     let n = digits-next left h in
-    let d = left % 32768 in
+    let d = bytes16 (left % 32768) in
     let rest = digit_bytes (digits_of (left / 32768)) in
+    let u : length o' ≡ length o = ap length e ∙ length-sets o place d in
     record {
-      same = length-set (set o place (d % 256)) (place + 1) (d / 256 % 256) ∙ length-set o place (d % 256) ∙ k.same;
-      room =
-          omega (arith, k.room, ap length n, length-set (set o place (d % 256)) (place + 1) (d / 256 % 256), length-set o place (d % 256));
-      comes = sets-second o place (d % 256) (d / 256 % 256) rest ∙ ap (λ ds. sets o place (digit_bytes ds)) (sym n) ∙ k.comes;
+      same = u ∙ k.same;
+      room = omega (arith, k.room, ap length n, u);
+      comes = ap (λ x. sets x (place + 2) rest) e ∙ sets-append o place d rest ∙ ap (λ ds. sets o place (digit_bytes ds)) (sym n) ∙ k.comes;
     }
 
 pub digiting_all : {o₀ : List ℕ} {at m : ℕ} {o : List ℕ} {left place : ℕ} → Digiting o₀ at m o left place → left ≤ 0
@@ -63,12 +65,13 @@ module _ (o : List ℕ) (at : ℕ) (negative : Bool) (m count : ℕ) (is : count
   whole_length : length whole ≡ 5 + 2 * count
   whole_length = omega (arith, digit_bytes-length (digits_of m), is)
 
-  pub digits_full : {n : ℕ} → at ≤ length o → length o < at + (5 + 2 * count) → n ≡ length o → Puts (emit whole ended) at o (wrote.Refused no_room n) o
-  digits_full k l e = full k (omega (arith, whole_length)) e
+  pub digits_full : {n : ℕ} → at ≤ length o → length o < at + (5 + 2 * count) → n ≡ length o → {stop : Fault} → stop ≡ fault NoRoom n
+      → Puts (emit whole ended) at o (Err stop) o
+  digits_full k l e is = full k (omega (arith, whole_length)) e is
 
   pub digits-placed : {o₁ o₂ : List ℕ} {w : ℕ} → at + 5 + 2 * count ≤ length o → w ≡ bits_of 4294967296 (record { negative = negative; magnitude = count })
       → o₁ ≡ sets (set o at 0x6C) (at + 1) (bytes32 w) → o₂ ≡ sets o₁ (at + 5) (digit_bytes (digits_of m))
-      → Puts (emit whole ended) at o (wrote.Done (at + 5 + 2 * count)) o₂
+      → Puts (emit whole ended) at o (Ok (at + 5 + 2 * count)) o₂
   digits-placed {o₁} {o₂} {w} l u e f =
       let v : w ≡ bits_of 4294967296 (record { negative = negative; magnitude = length (digits_of m) }) =
       u ∙ ap (λ n. bits_of 4294967296 (record { negative = negative; magnitude = n })) is in
@@ -77,34 +80,27 @@ module _ (o : List ℕ) (at : ℕ) (negative : Bool) (m count : ℕ) (is : count
       placed (omega (arith, whole_length)) (omega (arith, whole_length)) q
 
 -- Integers of 64 bits.
-module _ (s : List ℕ) (small : (i : ℕ) → get_or s i 0 < 256) (at : ℕ) (h : at + 8 ≤ length s) where
-  low-bytes : bytes32 (le64 s at % 4294967296) ≡ contents s at 4
-  low-bytes = ap bytes32 (low_half s small at) ∙ word_bytes s small at (omega arith)
+module _ (bits : ℕ) where
+  pub int64_low : bits < 2147483648 → integer_bytes (of_bits 9223372036854775808 bits) ≡ 0x69 ∷ bytes32 bits
+  int64_low l = ap integer_bytes (not_negative 9223372036854775808 bits (omega arith)) ∙ small_positive bits l
 
-  pub int64_low : le64 s at < 2147483648 → integer_bytes (of_bits 9223372036854775808 (le64 s at)) ≡ 0x69 ∷ contents s at 4
-  int64_low l =
-      let e : le64 s at ≡ le64 s at % 4294967296 = omega arith in
-      ap integer_bytes (not_negative 9223372036854775808 (le64 s at) (omega arith))
-      ∙ small_positive (le64 s at) l ∙ ap (λ x. 0x69 ∷ bytes32 x) e ∙ ap (λ bs. 0x69 ∷ bs) low-bytes
+  pub int64_high : 18446744071562067968 ≤ bits → bits < 18446744073709551616
+      → integer_bytes (of_bits 9223372036854775808 bits) ≡ 0x69 ∷ bytes32 (bits % 4294967296)
+  int64_high l b =
+      let e : 4294967296 - (18446744073709551616 - bits) ≡ bits % 4294967296 = omega arith in
+      ap integer_bytes (is_negative 9223372036854775808 bits (omega arith))
+      ∙ small-negative (18446744073709551616 - bits) (omega arith) ∙ ap (λ x. 0x69 ∷ bytes32 x) e
 
-  pub int64_high : 18446744071562067968 ≤ le64 s at → integer_bytes (of_bits 9223372036854775808 (le64 s at)) ≡ 0x69 ∷ contents s at 4
-  int64_high l =
-      let b = word_below s small at in
-      let c = word_below s small (at + 4) in
-      let p = low_half s small at in
-      let q = high_half s small at in
-      let e : 4294967296 - (18446744073709551616 - le64 s at) ≡ le64 s at % 4294967296 = omega arith in
-      ap integer_bytes (is_negative 9223372036854775808 (le64 s at) (omega arith))
-      ∙ small-negative (18446744073709551616 - le64 s at) (omega arith) ∙ ap (λ x. 0x69 ∷ bytes32 x) e ∙ ap (λ bs. 0x69 ∷ bs) low-bytes
+  pub int64_positive : 2147483648 ≤ bits → bits < 9223372036854775808
+      → integer_bytes (of_bits 9223372036854775808 bits) ≡ long_bytes (record { negative = false; magnitude = bits })
+  int64_positive k l = ap integer_bytes (not_negative 9223372036854775808 bits l) ∙ great_positive bits k
 
-  pub int64_positive : 2147483648 ≤ le64 s at → le64 s at < 9223372036854775808
-      → integer_bytes (of_bits 9223372036854775808 (le64 s at)) ≡ long_bytes (record { negative = false; magnitude = le64 s at })
-  int64_positive k l = ap integer_bytes (not_negative 9223372036854775808 (le64 s at) l) ∙ great_positive (le64 s at) k
-
-  pub int64_negative : 9223372036854775808 ≤ le64 s at → le64 s at < 18446744071562067968
-      → integer_bytes (of_bits 9223372036854775808 (le64 s at)) ≡ long_bytes (record { negative = true; magnitude = 18446744073709551616 - le64 s at })
+  pub int64_negative : 9223372036854775808 ≤ bits → bits < 18446744071562067968
+      → integer_bytes (of_bits 9223372036854775808 bits) ≡ long_bytes (record { negative = true; magnitude = 18446744073709551615 - bits + 1 })
   int64_negative k l =
-      ap integer_bytes (is_negative 9223372036854775808 (le64 s at) k) ∙ great_negative (18446744073709551616 - le64 s at) (omega arith)
+      let e : 18446744073709551616 - bits ≡ 18446744073709551615 - bits + 1 = omega arith in
+      ap integer_bytes (is_negative 9223372036854775808 bits k)
+      ∙ great_negative (18446744073709551616 - bits) (omega arith) ∙ ap (λ m. long_bytes (record { negative = true; magnitude = m })) e
 
 -- Longs.
 

@@ -2,67 +2,54 @@
 // What is written is `writing`'s Canonical `code_string`; room is tested by `output`'s rules.
 #![tactic(auto)]
 
-ghost use Rattle.std.specs.Prelude.{◌≡◌, ◌∷◌, ◌+◌, ◌≤◌, ◌<◌, length};
+ghost use Rattle.std.specs.Prelude.{◌≡◌, ◌∷◌, ◌<◌, length};
 ghost use Rattle.grammar.specs.LetterNames.{short_letter};
-ghost use Rattle.grammar.specs.Fields.{contents};
 ghost use Rattle.writing.specs.Writing.{emit, ended};
 ghost use Rattle.writing.specs.Canonical.{ascii, code_string};
 ghost use Rattle.output.specs.Puts.{Open, Puts};
 ghost use Rattle.outputtext.specs.Short.{Short};
 
 use grammar::{WRITTEN_SHORT, WRITTEN_UNICODE};
-use output::Wrote;
+use refusals::{Fault, Refusal};
 
-// Whether bytes of the input are all below 128.
-fn is_ascii(s: &[u8], from: usize, size: usize) -> bool
-    requires { from + size ≤ length s.now }
-    ensures { result ≡ ascii (contents s.now from size) }
+// Whether bytes are all below 128.
+fn is_ascii(bytes: &[u8]) -> bool
+    ensures { result ≡ ascii bytes.now }
 {
-    let mut i = 0;
-    while i < size {
-        if 128 <= s[from + i] {
-            return false;
-        }
-        i += 1;
-    }
-    true
+    bytes.iter().all(|byte| *byte < 128)
 }
 
-// Whether bytes of the input are few and ASCII.
-fn is_short(s: &[u8], from: u32, size: u32) -> bool
-    requires { from + size ≤ length s.now }
-    ensures { Short s.now from size result }
+// Whether bytes are few and ASCII.
+fn is_short(bytes: &[u8]) -> bool
+    ensures { Short bytes.now result }
 {
-    if 255 < size {
-        return false;
-    }
-    is_ascii(s, from as usize, size as usize)
+    bytes.len() < 256 && is_ascii(bytes)
 }
 
-// A one-byte length, and so many bytes of the input.
-fn write_short(out: &mut [u8], at: u32, s: &[u8], from: u32, size: u32) -> Wrote
-    requires { Open at out.old × (from + size ≤ length s.now) × (size < 256) }
-    ensures { Puts (emit (short_letter ∷ length (contents s.now from size) ∷ contents s.now from size) ended) at out.old result out.new }
+// A one-byte length, and so many bytes.
+fn write_short(out: &mut [u8], at: u32, bytes: &[u8]) -> Result<u32, Fault>
+    requires { Open at out.old × (length bytes.now < 256) }
+    ensures { Puts (emit (short_letter ∷ length bytes.now ∷ bytes.now) ended) at out.old result out.new }
 {
     let room = out.len();
     let place = at as usize;
-    let count = size as usize;
-    if room - place < 2 + count {
-        return Wrote::Refused(refusals::NO_ROOM, room as u32);
+    if room - place < 2 + bytes.len() {
+        return Err(Refusal::NoRoom.at(room as u32));
     }
+    let size = bytes.len() as u8;
     out[place] = WRITTEN_SHORT;
-    out[place + 1] = size as u8;
-    output::store_slice(out, place + 2, s, from as usize, count);
-    Wrote::Done(at + 2 + size)
+    out[place + 1] = size;
+    output::store_slice(out, place + 2, bytes);
+    Ok(at + 2 + u32::from(size))
 }
 
 // A code string.
-pub fn write_marshal_str(out: &mut [u8], at: u32, s: &[u8], from: u32, size: u32) -> Wrote
-    requires { Open at out.old × (from + size ≤ length s.now) }
-    ensures { Puts (emit (code_string (contents s.now from size)) ended) at out.old result out.new }
+pub fn write_marshal_str(out: &mut [u8], at: u32, bytes: &[u8]) -> Result<u32, Fault>
+    requires { Open at out.old }
+    ensures { Puts (emit (code_string bytes.now) ended) at out.old result out.new }
 {
-    if is_short(s, from, size) {
-        return write_short(out, at, s, from, size);
+    if is_short(bytes) {
+        return write_short(out, at, bytes);
     }
-    output::write_vec(out, at, WRITTEN_UNICODE, s, from, size)
+    output::write_vec(out, at, WRITTEN_UNICODE, bytes)
 }

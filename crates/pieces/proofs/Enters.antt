@@ -8,7 +8,6 @@ use lib.ListN.{length}
 use lib.Seq.{sets}
 use lib.Dec.{leb, ltb, eqb}
 use borrow.Author.Tests.{lt-ltb, le-ltb, ltb-false, leb-true, eq-eqb, ne_eqb, eqb-true, eqb-false}
-use Rattle.refusals.specs.Numbers.{input_too_long}
 use Rattle.refusals.specs.Limits.{most_bytes}
 use Rattle.rows.proofs.Local.{never}
 use Rattle.piecestate.specs.declared.Kept.{Kept}
@@ -16,6 +15,8 @@ use Rattle.piecestate.specs.State.{over, held_in, held_at, open_entry, counted, 
 use Rattle.piecestate.specs.Answers.{left, told, stuck}
 use Rattle.pieces.specs.Piece.{walked, piece_by}
 use Rattle.pieces.specs.Facts.{Opened, Entered}
+use Rattle.refusals.specs.Faults.{fault}
+use Rattle.refusals.specs.declared.Refusal.TheVariants.{InputTooLong}
 
 pub record Counts (k : Kept) : Type 0 where
   pub few : k.placed ≤ k.count
@@ -100,11 +101,11 @@ module _ (k : Kept) (s rs : List ℕ) (g : Entered k s rs) where
         opens = λ y. subst (λ n. open_entry (held_in s n) k.line ≡ true) (ap (λ x. x.size) g.keeps) (a.opens y);
       }
 
-  pub piece-long : (v : List ℕ) → most_bytes < k.bytes + length v → piece_by v s rs k ≡ stuck s rs input_too_long 0
+  pub piece-long : (v : List ℕ) → most_bytes < k.bytes + length v → piece_by v s rs k ≡ stuck s rs (fault InputTooLong 0)
   unfolding piece_by
   piece-long v h = rw (lt-ltb most_bytes (k.bytes + length v) h)
 
-  pub piece-over : (v : List ℕ) → k.bytes + length v ≤ most_bytes → k.status ≡ over → piece_by v s rs k ≡ left (told 0 0 k.placed false) (sets s 5 ((k.bytes + length v) ∷ [])) rs
+  pub piece-over : (v : List ℕ) → k.bytes + length v ≤ most_bytes → k.status ≡ over → piece_by v s rs k ≡ left (told k.placed false) (sets s 5 ((k.bytes + length v) ∷ [])) rs
   unfolding piece_by
   piece-over v h e = rw (le-ltb most_bytes (k.bytes + length v) h, eq-eqb k.status 2 e)
 

@@ -7,13 +7,15 @@ use native.Mathlib.Omega.{arith}
 use lib.ListN.{length}
 use lib.Dec.{ltb, eqb}
 use borrow.Author.Tests.{lt-ltb, le-ltb, ltb-false, eq-eqb, ne_eqb, eqb-false}
-use Rattle.refusals.specs.Numbers.{already_ended, no_room}
+use Rattle.std.specs.Prelude.{Err}
+use Rattle.refusals.specs.declared.Fault.{Fault}
+use Rattle.refusals.specs.declared.Refusal.TheVariants.{AlreadyEnded, NoRoom}
+use Rattle.refusals.specs.Faults.{fault}
 use Rattle.piecestate.specs.declared.Kept.{Kept}
 use Rattle.piecestate.specs.declared.Gate.{Gate}
 use Rattle.piecestate.specs.declared.Gate.TheVariants.{Open, Shut, Stuck}
-use Rattle.piecestate.specs.declared.Pieced.{Pieced}
-use Rattle.piecestate.specs.State.{refusing, ended, kept_at, sound_by}
-use Rattle.piecestate.specs.Answers.{Left, Leaves, told, shut, stuck, no_state, gate}
+use Rattle.piecestate.specs.State.{refusing, ended, kept_at, kept_why, sound_by}
+use Rattle.piecestate.specs.Answers.{Answer, Left, Leaves, shut, stuck, no_state, gate}
 use Rattle.pieces.specs.Facts.{Entered}
 use Rattle.pieces.specs.Calls.{through, called}
 
@@ -27,22 +29,22 @@ record Opens (s : List ℕ) (k : Kept) (room : ℕ) : Type 0 where
 opens : (s : List ℕ) (k : Kept) (room : ℕ) → gate s k room ≡ Open → Opens s k room
 unfolding gate
 opens s k room h = a (sound_by s k) refl h where
-  d : sound_by s k ≡ true → eqb k.status refusing ≡ false → eqb k.status ended ≡ false → (t : Bool) → ltb room k.count ≡ t → cond t (Stuck no_room room) Open ≡ Open → Opens s k room
+  d : sound_by s k ≡ true → eqb k.status refusing ≡ false → eqb k.status ended ≡ false → (t : Bool) → ltb room k.count ≡ t → cond t (Stuck (fault NoRoom room)) Open ≡ Open → Opens s k room
   d x y z true e q = let w : ◌≡◌ {A = ℕ} 0 1 = cc in absurd (omega arith)
   d x y z false e q = record { sounds = x; stands = eqb-false k.status refusing y; lasts = eqb-false k.status ended z; enough = ltb-false room k.count e }
 
   c : sound_by s k ≡ true → eqb k.status refusing ≡ false → (t : Bool) → eqb k.status ended ≡ t
-      → cond t (Shut already_ended 0) (cond (ltb room k.count) (Stuck no_room room) Open) ≡ Open → Opens s k room
+      → cond t (Shut (fault AlreadyEnded 0)) (cond (ltb room k.count) (Stuck (fault NoRoom room)) Open) ≡ Open → Opens s k room
   c x y true e q = let w : ◌≡◌ {A = ℕ} 0 1 = cc in absurd (omega arith)
   c x y false e q = d x y e (ltb room k.count) refl q
 
   b : sound_by s k ≡ true → (t : Bool) → eqb k.status refusing ≡ t
-      → cond t (Shut k.refusal k.place) (cond (eqb k.status ended) (Shut already_ended 0) (cond (ltb room k.count) (Stuck no_room room) Open)) ≡ Open → Opens s k room
+      → cond t (Shut (fault (kept_why k.refusal) k.place)) (cond (eqb k.status ended) (Shut (fault AlreadyEnded 0)) (cond (ltb room k.count) (Stuck (fault NoRoom room)) Open)) ≡ Open → Opens s k room
   b x true e q = let w : ◌≡◌ {A = ℕ} 0 1 = cc in absurd (omega arith)
   b x false e q = c x e (eqb k.status ended) refl q
 
   a : (t : Bool) → sound_by s k ≡ t
-      → cond t (cond (eqb k.status refusing) (Shut k.refusal k.place) (cond (eqb k.status ended) (Shut already_ended 0) (cond (ltb room k.count) (Stuck no_room room) Open))) (Shut already_ended 0) ≡ Open → Opens s k room
+      → cond t (cond (eqb k.status refusing) (Shut (fault (kept_why k.refusal) k.place)) (cond (eqb k.status ended) (Shut (fault AlreadyEnded 0)) (cond (ltb room k.count) (Stuck (fault NoRoom room)) Open))) (Shut (fault AlreadyEnded 0)) ≡ Open → Opens s k room
   a true e q = b e (eqb k.status refusing) refl q
   a false e q = let w : ◌≡◌ {A = ℕ} 0 1 = cc in absurd (omega arith)
 
@@ -57,19 +59,19 @@ module _ (s : List ℕ) (k : Kept) (room : ℕ) where
   unfolding gate
   open_gate a b c d = rw (a, ne_eqb k.status 3 b, ne_eqb k.status 4 c, le-ltb room k.count d)
 
-  pub refused-gate : sound_by s k ≡ true → k.status ≡ 3 → gate s k room ≡ Shut k.refusal k.place
+  pub refused-gate : sound_by s k ≡ true → k.status ≡ 3 → gate s k room ≡ Shut (fault (kept_why k.refusal) k.place)
   unfolding gate
   refused-gate a b = rw (a, eq-eqb k.status 3 b)
 
-  pub ended-gate : sound_by s k ≡ true → k.status ≡ 4 → gate s k room ≡ Shut already_ended 0
+  pub ended-gate : sound_by s k ≡ true → k.status ≡ 4 → gate s k room ≡ Shut (fault AlreadyEnded 0)
   unfolding gate
   ended-gate a b = rw (a, ne_eqb k.status 3 (λ y. absurd (omega arith)), eq-eqb k.status 4 b)
 
-  pub room-gate : sound_by s k ≡ true → (k.status ≡ 3 → ⊥) → (k.status ≡ 4 → ⊥) → room < k.count → gate s k room ≡ Stuck no_room room
+  pub room-gate : sound_by s k ≡ true → (k.status ≡ 3 → ⊥) → (k.status ≡ 4 → ⊥) → room < k.count → gate s k room ≡ Stuck (fault NoRoom room)
   unfolding gate
   room-gate a b c d = rw (a, ne_eqb k.status 3 b, ne_eqb k.status 4 c, lt-ltb room k.count d)
 
-  pub other-gate : sound_by s k ≡ false → gate s k room ≡ Shut already_ended 0
+  pub other-gate : sound_by s k ≡ false → gate s k room ≡ Shut (fault AlreadyEnded 0)
   unfolding gate
   other-gate a = rw a
 
@@ -85,17 +87,17 @@ module _ (s rs : List ℕ) (h : 40 ≤ length s) where
     is : gate s (kept_at s) (length rs / 4) ≡ g
     is = ap (λ y. gate s y (length rs / 4)) (sym e) ∙ sym a
 
-    pub goes_in : (on : Kept → Left) → g ≡ Open → {y : Pieced} {s' rs' : List ℕ} → Leaves (on k) y s' rs' → Leaves (called s rs (on (kept_at s))) y s' rs'
+    pub goes_in : (on : Kept → Left) → g ≡ Open → {y : Answer} {s' rs' : List ℕ} → Leaves (on k) y s' rs' → Leaves (called s rs (on (kept_at s))) y s' rs'
     goes_in on o {y} {s'} {rs'} l =
         subst (λ x. Leaves x y s' rs') (sym (by_gate (on (kept_at s)) Open (is ∙ o) ∙ ap on (sym e))) l
 
-    pub is_shut : (on : Left) (number place : ℕ) → g ≡ Shut number place → {y : Pieced} {rs' : List ℕ} → (y ≡ told number place 0 false) × (rs' ≡ (shut s rs number place).records) → Leaves (called s rs on) y s rs'
-    is_shut on number place o {y} {rs'} l =
-        subst (λ x. Leaves x y s rs') (sym (by_gate on (Shut number place) (is ∙ o))) (record { answers = l.0; states = refl; fills = l.1 })
+    pub is_shut : (on : Left) (why : Fault) → g ≡ Shut why → {y : Answer} {rs' : List ℕ} → (y ≡ Err why) × (rs' ≡ (shut s rs why).records) → Leaves (called s rs on) y s rs'
+    is_shut on why o {y} {rs'} l =
+        subst (λ x. Leaves x y s rs') (sym (by_gate on (Shut why) (is ∙ o))) (record { answers = l.0; states = refl; fills = l.1 })
 
-    pub is_stuck : (on : Left) (number place : ℕ) → g ≡ Stuck number place → {y : Pieced} {s' rs' : List ℕ} → Leaves (stuck s rs number place) y s' rs' → Leaves (called s rs on) y s' rs'
-    is_stuck on number place o {y} {s'} {rs'} l = subst (λ x. Leaves x y s' rs') (sym (by_gate on (Stuck number place) (is ∙ o))) l
+    pub is_stuck : (on : Left) (why : Fault) → g ≡ Stuck why → {y : Answer} {s' rs' : List ℕ} → Leaves (stuck s rs why) y s' rs' → Leaves (called s rs on) y s' rs'
+    is_stuck on why o {y} {s'} {rs'} l = subst (λ x. Leaves x y s' rs') (sym (by_gate on (Stuck why) (is ∙ o))) l
 
-pub is_none : (s rs : List ℕ) (on : Left) → length s < 40 → {y : Pieced} {s' rs' : List ℕ} → Leaves (no_state s rs) y s' rs' → Leaves (called s rs on) y s' rs'
+pub is_none : (s rs : List ℕ) (on : Left) → length s < 40 → {y : Answer} {s' rs' : List ℕ} → Leaves (no_state s rs) y s' rs' → Leaves (called s rs on) y s' rs'
 is_none s rs on h {y} {s'} {rs'} l =
     subst (λ t. Leaves (cond t (no_state s rs) (through s rs on (gate s (kept_at s) (length rs / 4)))) y s' rs') (sym (lt-ltb (length s) 40 h)) l

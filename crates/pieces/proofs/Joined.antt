@@ -4,15 +4,15 @@ use mathlib.Core.Bool.{Bool, true, false}
 use mathlib.Core.List.{List, [], ◌++◌}
 use Prim.Native.Nat.{ℕ, ◌+◌, min}
 use native.Mathlib.Omega.{arith}
-use lib.ListN.{length, take, length-append}
-use lib.Seq.{sets, length-take-le, take_all}
+use lib.ListN.{length, take}
+use lib.Seq.{sets, length-sets, length-take-le, take_all}
 use lib.Dec.{ltb}
 use borrow.Author.Tests.{ltb-true, ltb-false}
-use Rattle.linetable.proofs.Stores.{sets-append}
+use borrow.Rule.Slice.PartMut.{put_mid}
+use Rattle.std.proofs.lemmas.Slice.{take-put_mid}
 use Rattle.piecestate.specs.declared.Kept.{Kept}
-use Rattle.piecestate.specs.declared.Pieced.{Pieced}
 use Rattle.piecestate.specs.State.{held_in, held_at}
-use Rattle.piecestate.specs.Answers.{Leaves}
+use Rattle.piecestate.specs.Answers.{Answer, Leaves}
 use Rattle.pieces.specs.Piece.{walked}
 use Rattle.pieces.specs.Facts.{Walking, Opened, Fronted}
 use Rattle.piecestate.proofs.Stores.{length_held, front-sets}
@@ -37,24 +37,23 @@ module _ (v : List ℕ) (bytes : ℕ) (k : Kept) (s rs : List ℕ) (g : Opened v
   pub bare_walks : k.size ≡ 0 → Walking v k.start k.placed k.count s rs
   bare_walks h = record { numbers = g.numbers; small = omega (arith, g.small); few = g.few; room = g.room }
 
-  pub bare_leaves : k.size ≡ 0 → {y : Pieced} {s' rs' : List ℕ} → Leaves (walked v k.start bytes k.line k.placed k.count s rs) y s' rs'
+  pub bare_leaves : k.size ≡ 0 → {y : Answer} {s' rs' : List ℕ} → Leaves (walked v k.start bytes k.line k.placed k.count s rs) y s' rs'
       → Leaves (walked (held_at s ++ v) k.start bytes k.line k.placed k.count s rs) y s' rs'
   bare_leaves h {y} {s'} {rs'} l =
       let e : held_at s ≡ [] = sym held_is ∙ ap (held_in s) h in
       subst (λ t. Leaves (walked (t ++ v) k.start bytes k.line k.placed k.count s rs) y s' rs') (sym e) l
 
-  pub fronts : (out : List ℕ) {a b : List ℕ} {m : ℕ} → length out ≡ 50 → m ≡ min (length v) 25 → a ≡ sets out 0 (held_in s k.size) → b ≡ sets a k.size (take m v) → (k.size ≡ 0 → ⊥)
-      → Fronted (take (k.size + m) b) v bytes k s rs
-  fronts out {a} {b} {m} o e p q z =
+  pub fronts : (out : List ℕ) (n : ℕ) {a w : List ℕ} {m : ℕ} → length out ≡ 50 → m ≡ min (length v) 25 → a ≡ sets out 0 (held_in s k.size) → w ≡ take m v → (k.size ≡ 0 → ⊥)
+      → Fronted (take (k.size + m) (put_mid k.size n a w)) v bytes k s rs
+  fronts out n {a} {w} {m} o e p q z =
       let l = length_held s k.size g.short g.numbers in
       let t = take-most v m e in
-      let i : k.size ≡ 0 + length (held_in s k.size) = omega (arith, l) in
-      let c : b ≡ sets out 0 (held_in s k.size ++ take m v) = q ∙ ap (λ x. sets x k.size (take m v)) p ∙ ap (λ j. sets (sets out 0 (held_in s k.size)) j (take m v)) i ∙ sym (sets-append out 0 (held_in s k.size) (take m v)) in
-      let n : length (held_in s k.size ++ take m v) ≡ k.size + m = omega (arith, length-append (held_in s k.size) (take m v), l, t.1) in
+      let c : length a ≡ 50 = ap length p ∙ length-sets out 0 (held_in s k.size) ∙ o in
       record {
         opened = g;
         some = omega (arith, z);
         begins =
-            ap (take (k.size + m)) c ∙ front-sets out (held_in s k.size ++ take m v) (k.size + m) n (omega (arith, g.short, e, o))
-            ∙ ap (λ x. x ++ take m v) held_is ∙ ap (λ x. held_at s ++ x) t.0;
+            take-put_mid k.size n a w (k.size + m) (omega (arith, ap length q, t.1)) (omega (arith, c, g.short))
+            ∙ ap (λ x. x ++ w) (ap (take k.size) p ∙ front-sets out (held_in s k.size) k.size l (omega (arith, g.short, o)) ∙ held_is)
+            ∙ ap (λ x. held_at s ++ x) (q ∙ t.0);
       }

@@ -1,5 +1,4 @@
 -- Laws on rows that go on, on what a piece makes of held bytes, and on the definitions of the calls.
-pub mod Firsts
 pub mod Placing
 pub mod Fold
 pub mod Settled

@@ -18,7 +18,7 @@ use Rattle.rows.proofs.Chains.{row_ends}
 use Rattle.lostentry.specs.Lost.{Lost, lost}
 use Rattle.lostentry.proofs.Losing.{lost-refuses}
 use Rattle.lostentry.proofs.Heals.{refuses-lost}
-use Rattle.pieces.specs.declared.First.TheVariants.{Whole, Other}
+use Rattle.std.specs.Prelude.{Some, None}
 use Rattle.pieces.specs.Piece.{by_ending, after, walked, first_of}
 use Rattle.pieces.proofs.Settled.{Settled, stop, past, gone, row_settled}
 use Rattle.pieces.proofs.Short.{Goes, incomplete, unsure, held_short}
@@ -56,7 +56,7 @@ module _ (f w : List ℕ) (start bytes line placed count : ℕ) (s rs : List ℕ
       let l' : lost (f ++ w) line ≡ true = refuses-lost (f ++ w) line (λ v. subst (λ t. entry_at t line 0 ≡ OutOfRange) (sym (append_assoc f w v)) (g (w ++ v))) in
       alike f (f ++ w) start bytes line placed count s rs out_of_range e (settles out_of_range e (gone g)) (λ m ys. rw (l, l'))
 
-  covers : 0 < count - placed → (e : Span) → entry_at f line 0 ≡ Covers e → (b c : Bool) → e.missing ≡ b → ltb (count - placed) e.instructions ≡ c → Other ≡ cond b Other (cond c Other (Whole e))
+  covers : 0 < count - placed → (e : Span) → entry_at f line 0 ≡ Covers e → (b c : Bool) → e.missing ≡ b → ltb (count - placed) e.instructions ≡ c → None ≡ cond b None (cond c None (Some e))
       → walked (f ++ w) start bytes line placed count s rs ≡ walked f start bytes line placed count s rs
   covers h e q true c m l o = few (cut_short e) (row_ends f line 0 (count - placed) (cut_short e) (h, q, m)) incomplete
   covers h e q false true m l o =
@@ -64,14 +64,14 @@ module _ (f w : List ℕ) (start bytes line placed count : ℕ) (s rs : List ℕ
       alike f (f ++ w) start bytes line placed count s rs (past_count e) d (settles (past_count e) d past) (λ m ys. refl)
   covers h e q false false m l o = let z : ◌≡◌ {A = ℕ} 0 1 = cc in absurd (omega arith)
 
-  some : 0 < length f → 0 < count - placed → (e : Entry) → entry_at f line 0 ≡ e → Other ≡ first_of (count - placed) e → walked (f ++ w) start bytes line placed count s rs ≡ walked f start bytes line placed count s rs
+  some : 0 < length f → 0 < count - placed → (e : Entry) → entry_at f line 0 ≡ e → None ≡ first_of (count - placed) e → walked (f ++ w) start bytes line placed count s rs ≡ walked f start bytes line placed count s rs
   some k h (Covers e) q o = covers h e q e.missing (ltb (count - placed) e.instructions) refl refl o
   some k h Stop q o =
       let d = row_ends f line 0 (count - placed) stop_byte (h, k, q) in
       alike f (f ++ w) start bytes line placed count s rs stop_byte d (settles stop_byte d stop) (λ m ys. refl)
   some k h OutOfRange q o = out h q (lost f line) refl
 
-  any : 0 < length f → Other ≡ first_of (count - placed) (entry_at f line 0) → walked (f ++ w) start bytes line placed count s rs ≡ walked f start bytes line placed count s rs
+  any : 0 < length f → None ≡ first_of (count - placed) (entry_at f line 0) → walked (f ++ w) start bytes line placed count s rs ≡ walked f start bytes line placed count s rs
   any k o = on (ltb 0 (count - placed)) refl where
     on : (t : Bool) → ltb 0 (count - placed) ≡ t → walked (f ++ w) start bytes line placed count s rs ≡ walked f start bytes line placed count s rs
     on true h = some k (ltb-true 0 (count - placed) h) (entry_at f line 0) refl o
@@ -80,7 +80,7 @@ module _ (f w : List ℕ) (start bytes line placed count : ℕ) (s rs : List ℕ
         alike f (f ++ w) start bytes line placed count s rs placed_all (row_ends f line 0 (count - placed) placed_all z) (row_ends (f ++ w) line 0 (count - placed) placed_all z) (λ m ys. refl)
 
 pub front-other : (held v : List ℕ) (start bytes line placed count : ℕ) (s rs : List ℕ) → line < 4294967296 → 0 < length held
-    → Other ≡ first_of (count - placed) (entry_at (held ++ take 25 v) line 0)
+    → None ≡ first_of (count - placed) (entry_at (held ++ take 25 v) line 0)
     → walked (held ++ v) start bytes line placed count s rs ≡ walked (held ++ take 25 v) start bytes line placed count s rs
 front-other held v start bytes line placed count s rs b h o =
     let l = length-append held (take 25 v) in

@@ -7,15 +7,13 @@ use native.Mathlib.Omega.{arith}
 use lib.ListN.{length, drop, get_or, length-drop}
 use lib.Dec.{ltb, eqb}
 use borrow.Author.Tests.{ltb-true}
+use Rattle.std.specs.Prelude.{Option, Some, None}
 use Rattle.lineentry.specs.declared.Byte.{Byte}
 use Rattle.lineentry.specs.declared.Varint.{Varint}
-use Rattle.lineentry.specs.declared.Varint.TheVariants.{Value, TooLong}
-use Rattle.lineentry.specs.declared.Moved.{Moved}
-use Rattle.lineentry.specs.declared.Moved.TheVariants.{To, Outside}
 use Rattle.lineentry.specs.declared.Span.{Span}
 use Rattle.lineentry.specs.declared.Entry.{Entry}
 use Rattle.lineentry.specs.declared.Entry.TheVariants.{Covers, Stop, OutOfRange}
-use Rattle.lineentry.specs.Varint.{byte_at, varint_at, signed_of}
+use Rattle.lineentry.specs.Varint.{read_as, byte_at, varint_at, signed_of}
 use Rattle.lineentry.specs.Line.{origin, moved, as_signed}
 use Rattle.lineentry.specs.Entry.{with_number, with_line, short_form, one_line, no_columns, long_columns, long_form, by_code, entry_of, entry_at}
 use Rattle.lineentry.proofs.Entries.{refused-inside}
@@ -36,13 +34,13 @@ UpTo b OutOfRange = Unit {0}
 
 upto-number : (s : List ℕ) (p b : ℕ) (go : ℕ → ℕ → Bool → Entry) → ((x q : ℕ) (m : Bool) → q ≤ p + 6 → UpTo b (go x q m)) → UpTo b (with_number (varint_at s p) go)
 upto-number s p b go f = on (varint_at s p) refl where
-  on : (v : Varint) → varint_at s p ≡ v → UpTo b (with_number v go)
-  on (Value x q m) e = let a = parsed s p x q m e in f x q m (omega (arith, a.wide, a.few))
-  on TooLong e = tt
+  on : (v : Option Varint) → varint_at s p ≡ v → UpTo b (with_number v go)
+  on (Some v) e = let a = parsed s p v.value v.next v.missing e in f v.value v.next v.missing (omega (arith, a.wide, a.few))
+  on None e = tt
 
-upto-line : (b : ℕ) (l : Moved) (go : ℕ → Entry) → ((x : ℕ) → UpTo b (go x)) → UpTo b (with_line l go)
-upto-line b (To x) go f = f x
-upto-line b Outside go f = tt
+upto-line : (b : ℕ) (l : Option ℕ) (go : ℕ → Entry) → ((x : ℕ) → UpTo b (go x)) → UpTo b (with_line l go)
+upto-line b (Some x) go f = f x
+upto-line b None go f = tt
 
 upto-cond : (b : ℕ) (t : Bool) (x y : Entry) → UpTo b x → UpTo b y → UpTo b (cond t x y)
 upto-cond b true x y p q = p
@@ -93,18 +91,23 @@ pub data Goes (u : List ℕ) (line p : ℕ) : Ending → Type 0 where
 
 heal_short : (u : List ℕ) (line : ℕ) → 0 < length u → end_open u line (varint_at u 1) ≡ true → length u ≤ 25
 heal_short u line h e = on (varint_at u 1) refl e where
-  on : (w : Varint) → varint_at u 1 ≡ w → end_open u line w ≡ true → length u ≤ 25
-  on TooLong a k = never (sym k)
-  on (Value x q true) a k = never (sym k)
-  on (Value x q false) a k = at (varint_at u q) refl (and_split (in_range (moved line (signed_of x))) (cut_early q (varint_at u q)) k).1 where
-    at : (w : Varint) → varint_at u q ≡ w → cut_early q w ≡ true → length u ≤ 25
-    at TooLong b j = never (sym j)
-    at (Value y q₁ false) b j = never (sym j)
-    at (Value y q₁ true) b j =
-        let z = h in
-        let p = parsed u 1 x q false a in
-        let r = ran u 1 x q false (omega arith) a in
-        omega (arith, p.wide, p.few, (ran u q y q₁ true r.upto b).late refl, ltb-true (q₁ - q) 6 j)
+  on : (w : Option Varint) → varint_at u 1 ≡ w → end_open u line w ≡ true → length u ≤ 25
+  on None a k = never (sym k)
+  on (Some v) a k = of v.value v.next v.missing a k where
+    of : (x q : ℕ) (m : Bool) → varint_at u 1 ≡ read_as x q m → end_open u line (read_as x q m) ≡ true → length u ≤ 25
+    of x q true a k = never (sym k)
+    of x q false a k = at (varint_at u q) refl (and_split (in_range (moved line (signed_of x))) (cut_early q (varint_at u q)) k).1 where
+      ended : (y q₁ : ℕ) (m : Bool) → varint_at u q ≡ read_as y q₁ m → cut_early q (read_as y q₁ m) ≡ true → length u ≤ 25
+      ended y q₁ false b j = never (sym j)
+      ended y q₁ true b j =
+          let z = h in
+          let p = parsed u 1 x q false a in
+          let r = ran u 1 x q false (omega arith) a in
+          omega (arith, p.wide, p.few, (ran u q y q₁ true r.upto b).late refl, ltb-true (q₁ - q) 6 j)
+
+      at : (w : Option Varint) → varint_at u q ≡ w → cut_early q w ≡ true → length u ≤ 25
+      at None b j = never (sym j)
+      at (Some w) b j = ended w.value w.next w.missing b j
 
 open_of : (u : List ℕ) (line : ℕ) → entry_at u line 0 ≡ OutOfRange → lost u line ≡ false → end_open u line (varint_at u 1) ≡ true
 unfolding lost

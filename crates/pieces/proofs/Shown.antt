@@ -7,11 +7,9 @@ use Prim.Native.Nat.{ℕ, ◌+◌, ◌-◌, ◌/◌, ◌%◌, ◌≤◌, ◌<◌
 use native.Mathlib.Omega.{arith}
 use lib.ListN.{length, drop}
 use lib.Dec.{ltb, eqb}
+use Rattle.std.specs.Prelude.{Option, Some, None}
 use Rattle.refusals.specs.Numbers.{number_range}
 use Rattle.lineentry.specs.declared.Varint.{Varint}
-use Rattle.lineentry.specs.declared.Varint.TheVariants.{Value, TooLong}
-use Rattle.lineentry.specs.declared.Moved.{Moved}
-use Rattle.lineentry.specs.declared.Moved.TheVariants.{To, Outside}
 use Rattle.lineentry.specs.declared.Location.{Location}
 use Rattle.lineentry.specs.declared.Span.{Span}
 use Rattle.lineentry.specs.declared.Entry.{Entry}
@@ -38,19 +36,19 @@ Within (Covers e) = e.line < 4294967296
 Within Stop = Unit {0}
 Within OutOfRange = Unit {0}
 
-within-number : (v : Varint) (go : ℕ → ℕ → Bool → Entry) → ((x q : ℕ) (m : Bool) → Within (go x q m)) → Within (with_number v go)
-within-number (Value x q m) go f = f x q m
-within-number TooLong go f = tt
+within-number : (v : Option Varint) (go : ℕ → ℕ → Bool → Entry) → ((x q : ℕ) (m : Bool) → Within (go x q m)) → Within (with_number v go)
+within-number (Some v) go f = f v.value v.next v.missing
+within-number None go f = tt
 
 within-line : (line step : ℕ) (go : ℕ → Entry) → ((x : ℕ) → x < 4294967296 → Within (go x)) → Within (with_line (moved line step) go)
 within-line line step go f = on (moved line step) refl where
-  on : (m : Moved) → moved line step ≡ m → Within (with_line m go)
-  on (To x) e = f x (to_lt line step x e)
-  on Outside e = tt
+  on : (m : Option ℕ) → moved line step ≡ m → Within (with_line m go)
+  on (Some x) e = f x (to_lt line step x e)
+  on None e = tt
 
-within-any : (m : Moved) (go : ℕ → Entry) → ((x : ℕ) → Within (go x)) → Within (with_line m go)
-within-any (To x) go f = f x
-within-any Outside go f = tt
+within-any : (m : Option ℕ) (go : ℕ → Entry) → ((x : ℕ) → Within (go x)) → Within (with_line m go)
+within-any (Some x) go f = f x
+within-any None go f = tt
 
 within-cond : (t : Bool) (a b : Entry) → Within a → Within b → Within (cond t a b)
 within-cond true a b x y = x

@@ -14,12 +14,10 @@ use Rattle.lineentry.specs.declared.Entry.TheVariants.{Covers, Stop, OutOfRange}
 use Rattle.lineentry.specs.Entry.{entry_at}
 use Rattle.linetable.specs.Answer.{numbers}
 use Rattle.rows.proofs.Extent.{entry_runs}
-use Rattle.pieces.specs.declared.First.{First}
-use Rattle.pieces.specs.declared.First.TheVariants.{Whole, Other}
+use Rattle.std.specs.Prelude.{Option, Some, None}
 use Rattle.piecestate.specs.declared.Kept.{Kept}
-use Rattle.piecestate.specs.declared.Pieced.{Pieced}
 use Rattle.piecestate.specs.State.{held_at, open_entry}
-use Rattle.piecestate.specs.Answers.{Leaves}
+use Rattle.piecestate.specs.Answers.{Answer, Leaves}
 use Rattle.pieces.specs.Piece.{walked, first_of}
 use Rattle.pieces.specs.Facts.{Walking, Fronted}
 use Rattle.piecestate.proofs.Stores.{length_held, part_all}
@@ -32,9 +30,9 @@ pub record WholeIs (n : ℕ) (x : Entry) (e : Span) : Type 0 where
   pub there : e.missing ≡ false
   pub fits : e.instructions ≤ n
 
-pub whole_is : (n : ℕ) (x : Entry) (e : Span) → first_of n x ≡ Whole e → WholeIs n x e
+pub whole_is : (n : ℕ) (x : Entry) (e : Span) → first_of n x ≡ Some e → WholeIs n x e
 whole_is n (Covers y) e h = on y.missing refl (ltb n y.instructions) refl h where
-  on : (a : Bool) → y.missing ≡ a → (b : Bool) → ltb n y.instructions ≡ b → cond a Other (cond b Other (Whole y)) ≡ Whole e → WholeIs n (Covers y) e
+  on : (a : Bool) → y.missing ≡ a → (b : Bool) → ltb n y.instructions ≡ b → cond a None (cond b None (Some y)) ≡ Some e → WholeIs n (Covers y) e
   on true p b q k = let z : ◌≡◌ {A = ℕ} 0 1 = cc in absurd (omega arith)
   on false p true q k = let z : ◌≡◌ {A = ℕ} 0 1 = cc in absurd (omega arith)
   on false p false q k =
@@ -66,14 +64,14 @@ module _ (front v : List ℕ) (bytes : ℕ) (k : Kept) (s rs : List ℕ) (g : Fr
   pub other_walks : Walking front k.start k.placed k.count s rs
   other_walks = record { numbers = g.opened.numbers; small = omega (arith, g.opened.small, front_length); few = g.opened.few; room = g.opened.room }
 
-  pub other-leaves : {r : First} → k.line < 4294967296 → r ≡ first_of (k.count - k.placed) (entry_at front k.line 0) → r ≡ Other → {y : Pieced} {s' rs' : List ℕ}
+  pub other-leaves : {r : Option Span} → k.line < 4294967296 → r ≡ first_of (k.count - k.placed) (entry_at front k.line 0) → r ≡ None → {y : Answer} {s' rs' : List ℕ}
       → Leaves (walked front k.start bytes k.line k.placed k.count s rs) y s' rs' → Leaves (walked (held_at s ++ v) k.start bytes k.line k.placed k.count s rs) y s' rs'
   other-leaves b a o {y} {s'} {rs'} l =
-      let q : Other ≡ first_of (k.count - k.placed) (entry_at (held_at s ++ take 25 v) k.line 0) = subst (λ f. Other ≡ first_of (k.count - k.placed) (entry_at f k.line 0)) g.begins (sym o ∙ a) in
+      let q : None ≡ first_of (k.count - k.placed) (entry_at (held_at s ++ take 25 v) k.line 0) = subst (λ f. None ≡ first_of (k.count - k.placed) (entry_at f k.line 0)) g.begins (sym o ∙ a) in
       let w = front-other (held_at s) v k.start bytes k.line k.placed k.count s rs b (omega (arith, size_is, g.some)) q in
       subst (λ x. Leaves x y s' rs') (sym (w ∙ ap (λ f. walked f k.start bytes k.line k.placed k.count s rs) (sym g.begins))) l
 
-  module _ {r : First} (e : Span) (a : r ≡ first_of (k.count - k.placed) (entry_at front k.line 0)) (w : r ≡ Whole e) where
+  module _ {r : Option Span} (e : Span) (a : r ≡ first_of (k.count - k.placed) (entry_at front k.line 0)) (w : r ≡ Some e) where
     is : WholeIs (k.count - k.placed) (entry_at front k.line 0) e
     is = whole_is (k.count - k.placed) (entry_at front k.line 0) e (sym a ∙ w)
 
@@ -99,7 +97,7 @@ module _ (front v : List ℕ) (bytes : ℕ) (k : Kept) (s rs : List ℕ) (g : Fr
           room = omega (arith, g.opened.room, h);
         }
 
-    pub whole-leaves : {rs₁ : List ℕ} → rs₁ ≡ sets rs (4 * k.placed) (numbers (replicate e.instructions e.location)) → {y : Pieced} {s' rs' : List ℕ}
+    pub whole-leaves : {rs₁ : List ℕ} → rs₁ ≡ sets rs (4 * k.placed) (numbers (replicate e.instructions e.location)) → {y : Answer} {s' rs' : List ℕ}
         → Leaves (walked (take (length v - (e.next - k.size)) (drop (e.next - k.size) v)) (k.start + e.next) bytes e.line (k.placed + e.instructions) k.count s rs₁) y s' rs'
         → Leaves (walked (held_at s ++ v) k.start bytes k.line k.placed k.count s rs) y s' rs'
     whole-leaves {rs₁} f {y} {s'} {rs'} l =

@@ -2,40 +2,22 @@
 // leaves in the state where the reading then stands.
 #![tactic(auto)]
 
-ghost use Rattle.std.specs.Prelude.{◌≡◌, false, [], ◌∷◌, ◌++◌, ◌+◌, ◌*◌, ◌≤◌, min, length, take};
+ghost use Rattle.std.specs.Prelude.{◌≡◌, false, [], ◌++◌, ◌+◌, ◌-◌, ◌*◌, ◌≤◌, length};
 ghost use Rattle.std.proofs.lemmas.List.Edits.{sets};
 ghost use Rattle.refusals.specs.Limits.{most_bytes};
 ghost use Rattle.lineentry.specs.Entry.{entry_at};
 ghost use Rattle.linetable.specs.Answer.{numbers};
 ghost use Rattle.rows.specs.Row.{row};
 ghost use Rattle.rows.specs.Summary.{summary};
-ghost use Rattle.piecestate.specs.State.{held_at, advanced};
-ghost use Rattle.piecestate.specs.Answers.{told, Leaves};
+ghost use Rattle.piecestate.specs.State.{going, held_at, advanced};
+ghost use Rattle.piecestate.specs.Answers.{pieced, Leaves};
 ghost use Rattle.pieces.specs.Facts.{Unlost, Settling, Walking, Fronted, Opened, Entered};
 ghost use Rattle.pieces.specs.Piece.{shown_of, refused_as, after, walked, first_of, piece_by};
 
 use lineentry::{Entry, Span};
-use piecestate::{Kept, Pieced};
-use rows::RowEnd;
-
-// Whether the first entry of some bytes is complete and fits.
-#[derive(Clone, Copy)]
-pub enum First {
-    Whole(Span),
-    Other,
-}
-
-// So many bytes of one slice into another.
-fn copy(out: &mut [u8], at: usize, s: &[u8], size: usize)
-    requires { (at + size ≤ length out.old) × (size ≤ length s.now) }
-    ensures { out.new ≡ sets out.old at (take size s.now) }
-{
-    let mut i = 0;
-    while i < size {
-        out[at + i] = s[i];
-        i += 1;
-    }
-}
+use piecestate::{HELD_FROM, Kept, Pieced, Standing};
+use refusals::{Fault, Refusal};
+use rows::{How, RowEnd};
 
 // The entry at a place of the table, by the ways of `quick::next_entry`, which becomes a part of its one caller, as this does.
 fn entry_here(table: &[u8], line: u32, at: usize) -> Entry
@@ -68,7 +50,7 @@ fn place_row(table: &[u8], first: u32, count: usize, records: &mut [u32], from: 
         match entry_here(table, line, at) {
             Entry::OutOfRange => {
                 return RowEnd {
-                    how: rows::REFUSED,
+                    how: How::Refused,
                     entries,
                     line,
                     place: at,
@@ -78,7 +60,7 @@ fn place_row(table: &[u8], first: u32, count: usize, records: &mut [u32], from: 
             }
             Entry::Stop => {
                 return RowEnd {
-                    how: rows::ENDED,
+                    how: How::Ended,
                     entries,
                     line,
                     place: at,
@@ -89,7 +71,7 @@ fn place_row(table: &[u8], first: u32, count: usize, records: &mut [u32], from: 
             Entry::Covers(span) => {
                 if span.missing {
                     return RowEnd {
-                        how: rows::CUT,
+                        how: How::Cut,
                         entries,
                         line,
                         place: at,
@@ -102,7 +84,7 @@ fn place_row(table: &[u8], first: u32, count: usize, records: &mut [u32], from: 
                 if left < n {
                     linetable::fill(records, 4 * i, left, location);
                     return RowEnd {
-                        how: rows::PAST_COUNT,
+                        how: How::PastCount,
                         entries,
                         line,
                         place: at,
@@ -120,7 +102,7 @@ fn place_row(table: &[u8], first: u32, count: usize, records: &mut [u32], from: 
         }
     }
     RowEnd {
-        how: rows::ALL_PLACED,
+        how: How::AllPlaced,
         entries,
         line,
         place: at,
@@ -129,162 +111,140 @@ fn place_row(table: &[u8], first: u32, count: usize, records: &mut [u32], from: 
     }
 }
 
-// Where the reading stands after a piece.
-fn advance(state: &mut [u32], line: u32, placed: u32, at: u32, bytes: u32, status: u32)
-    requires { 40 ≤ length state.old }
-    ensures { state.new ≡ sets state.old 2 (line ∷ placed ∷ at ∷ bytes ∷ status ∷ []) }
-{
-    state[2] = line;
-    state[3] = placed;
-    state[4] = at;
-    state[5] = bytes;
-    state[6] = status;
+// Where a reading stands after a piece: the line, the instructions placed, the place after the complete entries and the bytes so far. `status` is the
+// number of a `Standing`: the contracts of the two functions below say what is stored of any number.
+#[derive(Clone, Copy, Debug, PartialEq, Eq)]
+pub struct Reached {
+    pub line: u32,
+    pub placed: u32,
+    pub at: u32,
+    pub bytes: u32,
+    pub status: u32,
 }
 
-// The same with the bytes that are held, and the answer.
-pub fn go_on(
-    state: &mut [u32],
-    line: u32,
-    placed: u32,
-    at: u32,
-    bytes: u32,
-    status: u32,
-    held: &[u8],
-) -> Pieced
-    requires { (40 ≤ length state.old) × (length held.now ≤ 25) }
-    ensures { (result ≡ told 0 0 placed false) × (state.new ≡ advanced state.old line placed at bytes status held.now) }
-{
-    advance(state, line, placed, at, bytes, status);
-    piecestate::hold(state, held);
-    Pieced {
-        refusal: 0,
-        place: 0,
-        from_entries: placed,
-        whole: false,
-    }
-}
-
-// The same where no bytes are held.
-pub fn go_bare(
-    state: &mut [u32],
-    line: u32,
-    placed: u32,
-    at: u32,
-    bytes: u32,
-    status: u32,
-) -> Pieced
+// A state that holds no bytes there, and the answer.
+#[inline]
+pub fn go_bare(state: &mut [u32], to: Reached) -> Pieced
     requires { 40 ≤ length state.old }
-    ensures { (result ≡ told 0 0 placed false) × (state.new ≡ advanced state.old line placed at bytes status []) }
+    ensures { (result ≡ pieced to.placed false)
+        × (state.new ≡ advanced state.old to.line to.placed to.at to.bytes to.status []) }
 {
-    advance(state, line, placed, at, bytes, status);
+    state[2] = to.line;
+    state[3] = to.placed;
+    state[4] = to.at;
+    state[5] = to.bytes;
+    state[6] = to.status;
     state[9] = 0;
     Pieced {
-        refusal: 0,
-        place: 0,
-        from_entries: placed,
+        from_entries: to.placed,
         whole: false,
     }
+}
+
+// The same with the bytes that are held.
+#[inline]
+pub fn go_on(state: &mut [u32], to: Reached, held: &[u8]) -> Pieced
+    requires { (40 ≤ length state.old) × (length held.now ≤ 25) }
+    ensures { (result ≡ pieced to.placed false)
+        × (state.new ≡ advanced state.old to.line to.placed to.at to.bytes to.status held.now) }
+{
+    let told = go_bare(state, to);
+    piecestate::hold(state, held);
+    told
 }
 
 // The bytes of an entry that is refused as it stands: an 18 if it is lost, and else they are held.
 fn settle_refused(
     held: &[u8],
-    line: u32,
-    placed: u32,
-    at: u32,
-    bytes: u32,
+    to: Reached,
     state: &mut [u32],
     records: &mut [u32],
-) -> Pieced
-    requires { (40 ≤ length state.old) × Unlost held.now line }
-    ensures { Leaves (refused_as state.old records.old line placed at bytes held.now) result state.new records.new }
+) -> Result<Pieced, Fault>
+    requires { (40 ≤ length state.old) × (to.status ≡ going) × Unlost held.now to.line }
+    ensures { Leaves (refused_as state.old records.old to.line to.placed to.at to.bytes held.now) result state.new records.new }
 {
-    if lostentry::lost_entry(held, line) {
-        return piecestate::stick(state, records, refusals::NUMBER_RANGE, at);
+    if lostentry::lost_entry(held, to.line) {
+        return piecestate::stick(state, records, Refusal::NumberRange.at(to.at));
     }
-    go_on(state, line, placed, at, bytes, piecestate::GOING, held)
+    Ok(go_on(state, to, held))
 }
 
-// What is left of the bytes after their row, by how it ends.
+// What is left of the bytes after their row, by how it ends. `k`, how the reading stands, is beside the state that it was read from, here and in what
+// follows, in bypiece too: in a struct with the two stores it would be no plainer, as at piecestate `stick`.
 fn settle(
     table: &[u8],
-    start: u32,
     bytes: u32,
-    count: u32,
-    line: u32,
-    left: usize,
+    k: Kept,
     x: RowEnd,
     state: &mut [u32],
     records: &mut [u32],
-) -> Pieced
-    requires { Settling table.now start count line left x state.old }
-    ensures { Leaves (after table.now start bytes count line left state.old records.old (row table.now line 0 left))
+) -> Result<Pieced, Fault>
+    requires { Settling table.now k.start k.count k.line (k.count - k.placed) x state.old }
+    ensures { let left = k.count - k.placed in
+        Leaves (after table.now k.start bytes k.count k.line left state.old records.old (row table.now k.line 0 left))
         result state.new records.new }
 {
     let place = x.place;
-    let how = x.how;
-    let to = x.line;
-    let at = start + place as u32;
-    let placed = count - x.left as u32;
-    if how == rows::REFUSED {
-        return settle_refused(&table[place..], to, placed, at, bytes, state, records);
-    }
-    if how == rows::CUT {
-        return go_on(
+    let to = Reached {
+        line: x.line,
+        placed: k.count - x.left as u32,
+        at: k.start + place as u32,
+        bytes,
+        status: Standing::Going as u32,
+    };
+    let over = Standing::Over as u32;
+    match x.how {
+        How::Refused => settle_refused(&table[place..], to, state, records),
+        How::Cut => Ok(go_on(state, to, &table[place..])),
+        How::PastCount => Ok(go_bare(
             state,
-            to,
-            placed,
-            at,
-            bytes,
-            piecestate::GOING,
-            &table[place..],
-        );
-    }
-    if how == rows::PAST_COUNT {
-        return go_bare(state, to, count, at, bytes, piecestate::OVER);
-    }
-    if how == rows::ENDED {
-        if place < table.len() {
-            return go_bare(state, to, placed, at, bytes, piecestate::OVER);
+            Reached {
+                placed: k.count,
+                status: over,
+                ..to
+            },
+        )),
+        How::Ended => {
+            if place < table.len() {
+                return Ok(go_bare(state, Reached { status: over, ..to }));
+            }
+            Ok(go_bare(state, to))
         }
-        return go_bare(state, to, placed, at, bytes, piecestate::GOING);
+        How::AllPlaced => Ok(go_bare(state, to)),
     }
-    go_bare(state, to, placed, at, bytes, piecestate::GOING)
 }
 
-// The bytes from a place of the joined table on, at a line, with so many instructions placed.
+// The bytes from a place of the joined table on, where `k` says at which line and with how many instructions placed.
 fn walk_on(
     table: &[u8],
-    start: u32,
     bytes: u32,
-    line: u32,
-    placed: u32,
-    count: u32,
+    k: Kept,
     state: &mut [u32],
     records: &mut [u32],
-) -> Pieced
-    requires { Walking table.now start placed count state.old records.old }
-    ensures { Leaves (walked table.now start bytes line placed count state.old records.old) result state.new records.new }
+) -> Result<Pieced, Fault>
+    requires { Walking table.now k.start k.placed k.count state.old records.old }
+    ensures { Leaves (walked table.now k.start bytes k.line k.placed k.count state.old records.old) result state.new records.new }
 {
-    let left = (count - placed) as usize;
-    let x = place_row(table, line, left, records, placed as usize);
-    settle(table, start, bytes, count, line, left, x, state, records)
+    let left = (k.count - k.placed) as usize;
+    let x = place_row(table, k.line, left, records, k.placed as usize);
+    settle(table, bytes, k, x, state, records)
 }
 
-fn first_of(table: &[u8], line: u32, left: usize) -> First
+// The first entry of some bytes, if it is complete and fits.
+fn first_of(table: &[u8], line: u32, left: usize) -> Option<Span>
     ensures { result ≡ first_of left (entry_at table.now line 0) }
 {
     match lineentry::read_entry(table, line, 0) {
-        Entry::OutOfRange => First::Other,
-        Entry::Stop => First::Other,
+        Entry::OutOfRange => None,
+        Entry::Stop => None,
         Entry::Covers(span) => {
             if span.missing {
-                return First::Other;
+                return None;
             }
             if left < span.instructions {
-                return First::Other;
+                return None;
             }
-            First::Whole(span)
+            Some(span)
         }
     }
 }
@@ -297,26 +257,27 @@ fn take_front(
     k: Kept,
     state: &mut [u32],
     records: &mut [u32],
-) -> Pieced
+) -> Result<Pieced, Fault>
     requires { Fronted front.now piece.now bytes k state.old records.old }
     ensures { Leaves (walked (held_at state.old ++ piece.now) k.start bytes k.line k.placed k.count state.old records.old)
         result state.new records.new }
 {
     match first_of(front, k.line, (k.count - k.placed) as usize) {
-        First::Other => walk_on(
-            front, k.start, bytes, k.line, k.placed, k.count, state, records,
-        ),
-        First::Whole(span) => {
+        None => walk_on(front, bytes, k, state, records),
+        Some(span) => {
             let n = span.instructions;
             let next = span.next;
             linetable::fill(records, 4 * (k.placed as usize), n, span.location);
+            let behind = Kept {
+                line: span.line,
+                placed: k.placed + n as u32,
+                start: k.start + next as u32,
+                ..k
+            };
             walk_on(
                 &piece[next - k.size as usize..],
-                k.start + next as u32,
                 bytes,
-                span.line,
-                k.placed + n as u32,
-                k.count,
+                behind,
                 state,
                 records,
             )
@@ -324,48 +285,49 @@ fn take_front(
     }
 }
 
-fn at_most(n: usize, most: usize) -> usize
-    ensures { result ≡ min n most }
-{
-    if n <= most { n } else { most }
-}
-
 // A piece of a reading that goes on.
-fn take_going(piece: &[u8], bytes: u32, k: Kept, state: &mut [u32], records: &mut [u32]) -> Pieced
+fn take_going(
+    piece: &[u8],
+    bytes: u32,
+    k: Kept,
+    state: &mut [u32],
+    records: &mut [u32],
+) -> Result<Pieced, Fault>
     requires { Opened piece.now bytes k state.old records.old }
     ensures { Leaves (walked (held_at state.old ++ piece.now) k.start bytes k.line k.placed k.count state.old records.old)
         result state.new records.new }
 {
     if k.size == 0 {
-        return walk_on(
-            piece, k.start, bytes, k.line, k.placed, k.count, state, records,
-        );
+        return walk_on(piece, bytes, k, state, records);
     }
     let size = k.size as usize;
     let mut front = [0u8; 50];
-    piecestate::fetch(&mut front, state, size);
-    let m = at_most(piece.len(), 25);
-    copy(&mut front, size, piece, m);
+    piecestate::fetch(&mut front, &state[HELD_FROM..HELD_FROM + size]);
+    let m = piece.len().min(25);
+    front[size..size + m].copy_from_slice(&piece[..m]);
     take_front(&front[..size + m], piece, bytes, k, state, records)
 }
 
 // A piece, once nothing is refused before it: "pieces above 16 MiB together 14"; where nothing more is read its bytes are counted.
-pub fn take_piece(piece: &[u8], k: Kept, state: &mut [u32], records: &mut [u32]) -> Pieced
+pub fn take_piece(
+    piece: &[u8],
+    k: Kept,
+    state: &mut [u32],
+    records: &mut [u32],
+) -> Result<Pieced, Fault>
     requires { Entered k state.old records.old }
     ensures { Leaves (piece_by piece.now state.old records.old k) result state.new records.new }
 {
     if ((refusals::MOST_BYTES - k.bytes) as usize) < piece.len() {
-        return piecestate::stick(state, records, refusals::INPUT_TOO_LONG, 0);
+        return piecestate::stick(state, records, Refusal::InputTooLong.at(0));
     }
     let bytes = k.bytes + piece.len() as u32;
-    if k.status == piecestate::OVER {
+    if k.status == Standing::Over as u32 {
         state[5] = bytes;
-        return Pieced {
-            refusal: 0,
-            place: 0,
+        return Ok(Pieced {
             from_entries: k.placed,
             whole: false,
-        };
+        });
     }
     take_going(piece, bytes, k, state, records)
 }

@@ -4,6 +4,8 @@ use Rattle.std.specs.Prelude.{Bool, true, false, not, ◌||◌, cond, List, [], 
 use Rattle.std.proofs.lemmas.List.Edits.{sets}
 use Rattle.refusals.specs.Numbers.{input_too_long, no_room, number_range}
 use Rattle.refusals.specs.Limits.{most_bytes}
+use Rattle.refusals.specs.declared.Refusal.{Refusal}
+use Rattle.refusals.specs.declared.Refusal.TheVariants.{InputTooLong, NoRoom, NumberRange}
 use Rattle.lineentry.specs.declared.Entry.{Entry}
 use Rattle.lineentry.specs.declared.Entry.TheVariants.{Covers, Stop, OutOfRange}
 use Rattle.lineentry.specs.Entry.{entry_at}
@@ -84,6 +86,10 @@ sound_going s k =
 -- 14, 17 and 18 are what a call may refuse with and keep
 abbrev pub kept_refusal : ℕ → Bool
 kept_refusal n = eqb n input_too_long || (eqb n no_room || eqb n number_range)
+
+-- which of the three it is
+abbrev pub kept_why : ℕ → Refusal
+kept_why n = cond (eqb n input_too_long) InputTooLong (cond (eqb n no_room) NoRoom NumberRange)
 
 unfoldable pub sound_by : List ℕ → Kept → Bool
 sound_by s k =

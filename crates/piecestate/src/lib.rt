@@ -2,30 +2,35 @@
 // that a call leaves.
 #![tactic(auto)]
 
-ghost use Rattle.std.specs.Prelude.{◌≡◌, false, ◌∷◌, ◌≤◌, ◌<◌, length};
+ghost use Rattle.std.specs.Prelude.{◌≡◌, ◌∷◌, map, ◌≤◌, ◌<◌, length, Err};
 ghost use Rattle.std.proofs.lemmas.List.Edits.{sets};
 ghost use Rattle.clearing.specs.Lent.{zeros};
-ghost use Rattle.piecestate.specs.State.{kept_at, held_in, open_entry, counted, sound_going, kept_refusal, sound_by};
-ghost use Rattle.piecestate.specs.Answers.{told, Leaves, no_state, stuck, gate};
+ghost use Rattle.piecestate.specs.State.{kept_at, low, open_entry, counted, sound_going, kept_refusal, kept_why, sound_by};
+ghost use Rattle.piecestate.specs.Answers.{Leaves, no_state, stuck, gate};
 
 use lineentry::Entry;
+use refusals::{Fault, Refusal};
 
 // How many numbers a state has, and how many bytes it holds at most.
 pub const STATE_NUMBERS: usize = 40;
 
+// Where the numbers of those bytes start.
+pub const HELD_FROM: usize = 10;
+
 const MOST_HELD: u32 = 25;
 
-// Where a reading stands.
-pub const GOING: u32 = 1;
+// Where a reading stands, by the number that a state has for it.
+#[derive(Clone, Copy, Debug, PartialEq, Eq)]
+pub enum Standing {
+    Going = 1,
+    Over = 2,
+    Refusing = 3,
+    Ended = 4,
+}
 
-pub const OVER: u32 = 2;
-
-pub const REFUSING: u32 = 3;
-
-pub const ENDED: u32 = 4;
-
-// The numbers of a state but for the bytes that it holds.
-#[derive(Clone, Copy)]
+// The numbers of a state but for the bytes that it holds. They are lent, and may be any: `status` and `refusal` are kept as the numbers they are,
+// of which `is_sound` says whether a call leaves them (`sound_by` of specs/State answers for every number).
+#[derive(Clone, Copy, Debug, PartialEq, Eq)]
 pub struct Kept {
     pub first: u32,
     pub count: u32,
@@ -39,23 +44,25 @@ pub struct Kept {
     pub size: u32,
 }
 
-// What is looked at before a piece or the end: the call goes on, or is refused, which a state may keep.
-#[derive(Clone, Copy)]
+// What is looked at before a piece or the end: the call goes on, or is refused, which a state may keep. Three answers, two of them refusals, so no
+// `Result`.
+#[derive(Clone, Copy, Debug, PartialEq, Eq)]
 pub enum Gate {
     Open,
-    Shut { number: u32, place: u32 },
-    Stuck { number: u32, place: u32 },
+    Shut(Fault),
+    Stuck(Fault),
 }
 
-// A call's answer: its refusal and place, or how many instructions came from entries so far, and whether the table was whole.
-#[derive(Clone, Copy)]
+// What a call tells: how many instructions came from entries so far, and whether the table was whole. `linetable::Located` has these fields too; to share
+// it would be no plainer, since this crate would need that one for two fields alone.
+#[derive(Clone, Copy, Debug, PartialEq, Eq)]
 pub struct Pieced {
-    pub refusal: u32,
-    pub place: u32,
     pub from_entries: u32,
     pub whole: bool,
 }
 
+// A state is any slice of at least forty numbers, as C lends it. An array of forty would ask more of a caller than `kept_at`, `hold`, `look` and `stick` do,
+// and pieces `go_bare`, `go_on` and `take_piece`, which are public; what stands between them, in bypiece too, asks what they ask.
 pub fn kept_at(state: &[u32]) -> Kept
     requires { 40 ≤ length state.now }
     ensures { result ≡ kept_at state.now }
@@ -74,15 +81,13 @@ pub fn kept_at(state: &[u32]) -> Kept
     }
 }
 
-// The bytes that a state holds.
-pub fn fetch(out: &mut [u8], state: &[u32], size: usize)
-    requires { (40 ≤ length state.now) × (size ≤ 25) × (size ≤ length out.old) }
-    ensures { out.new ≡ sets out.old 0 (held_in state.now size) }
+// The bytes of held numbers.
+pub fn fetch(out: &mut [u8], held: &[u32])
+    requires { length held.now ≤ length out.old }
+    ensures { out.new ≡ sets out.old 0 (map low held.now) }
 {
-    let mut i = 0;
-    while i < size {
-        out[i] = (state[10 + i] % 256) as u8;
-        i += 1;
+    for i in 0..held.len() {
+        out[i] = (held[i] % 256) as u8;
     }
 }
 
@@ -92,11 +97,8 @@ pub fn hold(state: &mut [u32], s: &[u8])
     ensures { state.new ≡ sets state.old 9 (length s.now ∷ s.now) }
 {
     state[9] = s.len() as u32;
-    let mut i = 0;
-    while i < s.len() {
-        let b = signed::wide(s[i]);
-        state[10 + i] = b as u32;
-        i += 1;
+    for i in 0..s.len() {
+        state[HELD_FROM + i] = s[i] as u32;
     }
 }
 
@@ -111,22 +113,19 @@ fn open_entry(held: &[u8], line: u32) -> bool
     }
 }
 
-fn open_held(state: &[u32], line: u32, size: usize) -> bool
-    requires { (40 ≤ length state.now) × (size ≤ 25) }
-    ensures { result ≡ open_entry (held_in state.now size) line }
+fn open_held(held: &[u32], line: u32) -> bool
+    requires { length held.now ≤ 25 }
+    ensures { result ≡ open_entry (map low held.now) line }
 {
-    let mut held = [0u8; 25];
-    fetch(&mut held, state, size);
-    open_entry(&held[..size], line)
+    let mut bytes = [0u8; 25];
+    fetch(&mut bytes, held);
+    open_entry(&bytes[..held.len()], line)
 }
 
 fn is_counted(k: Kept) -> bool
     ensures { result ≡ counted k }
 {
-    if k.count < k.placed {
-        return false;
-    }
-    k.bytes <= refusals::MOST_BYTES
+    k.placed <= k.count && k.bytes <= refusals::MOST_BYTES
 }
 
 // The numbers are those of a reading that goes on.
@@ -149,19 +148,27 @@ fn sound_going(state: &[u32], k: Kept) -> bool
     if k.size == 0 {
         return true;
     }
-    open_held(state, k.line, k.size as usize)
+    open_held(&state[HELD_FROM..HELD_FROM + k.size as usize], k.line)
 }
 
+// A state may be lent with any number there, which `sound_by` answers for: so here and in `kept_why` it is a number, and no `Refusal` yet.
 fn kept_refusal(number: u32) -> bool
     ensures { result ≡ kept_refusal number }
 {
-    if number == refusals::INPUT_TOO_LONG {
-        return true;
+    number == refusals::INPUT_TOO_LONG
+        || number == refusals::NO_ROOM
+        || number == refusals::NUMBER_RANGE
+}
+
+// The refusal that such a number is.
+fn kept_why(number: u32) -> Refusal
+    ensures { result ≡ kept_why number }
+{
+    match number {
+        refusals::INPUT_TOO_LONG => Refusal::InputTooLong,
+        refusals::NO_ROOM => Refusal::NoRoom,
+        _ => Refusal::NumberRange,
     }
-    if number == refusals::NO_ROOM {
-        return true;
-    }
-    number == refusals::NUMBER_RANGE
 }
 
 // The numbers are a state that a call leaves.
@@ -169,16 +176,16 @@ fn is_sound(state: &[u32], k: Kept) -> bool
     requires { 40 ≤ length state.now }
     ensures { result ≡ sound_by state.now k }
 {
-    if k.status == GOING {
+    if k.status == Standing::Going as u32 {
         return sound_going(state, k);
     }
-    if k.status == OVER {
+    if k.status == Standing::Over as u32 {
         return is_counted(k);
     }
-    if k.status == REFUSING {
+    if k.status == Standing::Refusing as u32 {
         return kept_refusal(k.refusal);
     }
-    k.status == ENDED
+    k.status == Standing::Ended as u32
 }
 
 pub fn look(state: &[u32], k: Kept, room: usize) -> Gate
@@ -186,62 +193,47 @@ pub fn look(state: &[u32], k: Kept, room: usize) -> Gate
     ensures { result ≡ gate state.now k room }
 {
     if !is_sound(state, k) {
-        return Gate::Shut {
-            number: refusals::ALREADY_ENDED,
-            place: 0,
-        };
+        return Gate::Shut(Refusal::AlreadyEnded.at(0));
     }
-    if k.status == REFUSING {
-        return Gate::Shut {
-            number: k.refusal,
-            place: k.place,
-        };
+    if k.status == Standing::Refusing as u32 {
+        return Gate::Shut(kept_why(k.refusal).at(k.place));
     }
-    if k.status == ENDED {
-        return Gate::Shut {
-            number: refusals::ALREADY_ENDED,
-            place: 0,
-        };
+    if k.status == Standing::Ended as u32 {
+        return Gate::Shut(Refusal::AlreadyEnded.at(0));
     }
     if room < k.count as usize {
-        return Gate::Stuck {
-            number: refusals::NO_ROOM,
-            place: room as u32,
-        };
+        return Gate::Stuck(Refusal::NoRoom.at(room as u32));
     }
     Gate::Open
 }
 
 // A refusal leaves the records zero.
-pub fn refuse(records: &mut [u32], number: u32, place: u32) -> Pieced
-    ensures { (result ≡ told number place 0 false) × (records.new ≡ zeros (length records.old)) }
+pub fn refuse(records: &mut [u32], why: Fault) -> Result<Pieced, Fault>
+    ensures { (result ≡ Err why) × (records.new ≡ zeros (length records.old)) }
 {
     clearing::clear_words(records);
-    Pieced {
-        refusal: number,
-        place,
-        from_entries: 0,
-        whole: false,
-    }
+    Err(why)
 }
 
-// One that the state keeps.
-pub fn stick(state: &mut [u32], records: &mut [u32], number: u32, place: u32) -> Pieced
+// One that the state keeps. The two stores are two parameters, here and in pieces and bypiece. A struct of both is no plainer: passed by `&mut`, it would
+// have each contract say besides that its two references are the same ones; by value, `lent.exit.0.now` and `lent.exit.1.0.now` for `state.new` and
+// `records.new`.
+pub fn stick(state: &mut [u32], records: &mut [u32], why: Fault) -> Result<Pieced, Fault>
     requires { 40 ≤ length state.old }
-    ensures { Leaves (stuck state.old records.old number place) result state.new records.new }
+    ensures { Leaves (stuck state.old records.old why) result state.new records.new }
 {
-    state[6] = REFUSING;
-    state[7] = number;
-    state[8] = place;
-    refuse(records, number, place)
+    state[6] = Standing::Refusing as u32;
+    state[7] = why.refusal.number();
+    state[8] = why.place;
+    refuse(records, why)
 }
 
 // Fewer numbers than a state has.
-pub fn no_state(state: &mut [u32], records: &mut [u32]) -> Pieced
+pub fn no_state(state: &mut [u32], records: &mut [u32]) -> Result<Pieced, Fault>
     requires { length state.old < 40 }
     ensures { Leaves (no_state state.old records.old) result state.new records.new }
 {
     let n = state.len();
     clearing::clear_words(state);
-    refuse(records, refusals::NO_ROOM, n as u32)
+    refuse(records, Refusal::NoRoom.at(n as u32))
 }

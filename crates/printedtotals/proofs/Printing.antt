@@ -8,13 +8,15 @@ use native.Mathlib.Numerals.{add-one}
 use borrow.Author.Tests.{lt-ltb, le-ltb}
 use lib.ListN.{length, set, get_or, length-append, length-replicate}
 use lib.Seq.{sets, length-sets}
-use Rattle.refusals.specs.Numbers.{no_room}
+use Rattle.std.specs.Prelude.{Ok, Err}
+use Rattle.refusals.specs.Faults.{fault}
+use Rattle.refusals.specs.declared.Refusal.TheVariants.{NoRoom}
+use Rattle.refusals.specs.declared.Fault.{Fault}
 use Rattle.clearing.specs.Lent.{zeros}
 use Rattle.clearing.proofs.Laws.{sets-padded}
 use Rattle.decimals.specs.Decimal.{decimal}
 use Rattle.totals.specs.Totals.{counters, Totals, held_in}
 use Rattle.printedtotals.specs.Lines.{blank, newline, refusal_text, label, line, lines_from, lines, printed_of}
-use Rattle.printedtotals.specs.declared.Printed.TheVariants as printed
 
 -- ---- bytes behind bytes
 
@@ -84,17 +86,15 @@ size-refusal i {r} h e =
     (omega (arith, l, e.0), omega (arith, e.2))
 
 -- what `put_label` leaves
-pub put_first : (out : List ℕ) (at : ℕ) {i n : ℕ} {text left : List ℕ} (c : ℕ) → label c ≡ text → n ≡ length text → i ≡ c → left ≡ sets out at text
-    → (at + n ≡ at + length (label i)) × (left ≡ sets out at (label i))
-put_first out at {i} {n} {text} {left} c e l f g =
-    let s : label i ≡ text = ap label f ∙ e in
-    (ap (λ (m : ℕ). at + m) (l ∙ sym (ap length s)), g ∙ ap (sets out at) (sym s))
+pub put_first : (out : List ℕ) (at : ℕ) {i n : ℕ} {text left : List ℕ} (c : ℕ) → label c ≡ text → i ≡ c
+    → (n ≡ at + length text) × (left ≡ sets out at text) → (n ≡ at + length (label i)) × (left ≡ sets out at (label i))
+put_first out at c e f g = rw (f, e) g
 
-pub put_more : (out : List ℕ) (at i : ℕ) {one two three : List ℕ} {q : ℕ} → 2 < i → one ≡ sets out at refusal_text
-    → (q ≡ at + 8 + length (decimal (i - 2))) × (two ≡ sets one (at + 8) (decimal (i - 2))) → three ≡ set two q blank
-    → (q + 1 ≡ at + length (label i)) × (three ≡ sets out at (label i))
-put_more out at i {one} {two} {three} {q} h e f g =
-    (omega (arith, length_more i h, f.0), three-put out at refusal_text (decimal (i - 2)) blank e refl f.1 f.0 g ∙ ap (sets out at) (sym (label_more i h)))
+pub put_more : (out : List ℕ) (at i : ℕ) {one two three : List ℕ} {p q r : ℕ} → 2 < i → (p ≡ at + 8) × (one ≡ sets out at refusal_text)
+    → (q ≡ p + length (decimal (i - 2))) × (two ≡ sets one p (decimal (i - 2))) → (r ≡ q + 1) × (three ≡ sets two q (blank ∷ []))
+    → (r ≡ at + length (label i)) × (three ≡ sets out at (label i))
+put_more out at i h e f g =
+    (omega (arith, length_more i h, e.0, f.0, g.0), three-put out at refusal_text (decimal (i - 2)) blank e.1 e.0 f.1 f.0 g.1 ∙ ap (sets out at) (sym (label_more i h)))
 
 pub length-line : (i count : ℕ) → length (line i count) ≡ length (label i) + length (decimal count) + 1
 unfolding line
@@ -110,10 +110,10 @@ pub line-put : (out : List ℕ) (at i count : ℕ) {one two three : List ℕ} {p
 unfolding line
 line-put out at i count e m f n g = three-put out at (label i) (decimal count) newline e m f n g
 
-pub put_whole : (out : List ℕ) (at i count : ℕ) {one two three : List ℕ} {p q : ℕ} → (p ≡ at + length (label i)) × (one ≡ sets out at (label i))
-    → (q ≡ p + length (decimal count)) × (two ≡ sets one p (decimal count)) → three ≡ set two q newline
-    → (q + 1 ≡ at + length (line i count)) × (three ≡ sets out at (line i count))
-put_whole out at i count e f g = (omega (arith, length-line i count, e.0, f.0), line-put out at i count e.1 e.0 f.1 f.0 g)
+pub put_whole : (out : List ℕ) (at i count : ℕ) {one two three : List ℕ} {p q r : ℕ} → (p ≡ at + length (label i)) × (one ≡ sets out at (label i))
+    → (q ≡ p + length (decimal count)) × (two ≡ sets one p (decimal count)) → (r ≡ q + 1) × (three ≡ sets two q (newline ∷ []))
+    → (r ≡ at + length (line i count)) × (three ≡ sets out at (line i count))
+put_whole out at i count e f g = (omega (arith, length-line i count, e.0, f.0, g.0), line-put out at i count e.1 e.0 f.1 f.0 g.1)
 
 -- one line of those that are left
 lines_step : (t : Totals) (i : ℕ) → i < counters → lines_from t i (counters - i) ≡ line i (t i) ++ lines_from t (i + 1) (counters - (i + 1))
@@ -191,15 +191,15 @@ module _ {store out₀ out : List ℕ} {at i : ℕ} (k : LinesSoFar store out₀
 
 -- ---- print_totals
 
-pub printed_short : (store : List ℕ) (room : ℕ) {out : List ℕ} {size : ℕ} → out ≡ zeros room → length out < size → size ≡ length (lines (held_in store))
-    → (printed.Refused no_room (length out), out) ≡ printed_of store room
+pub printed_short : (store : List ℕ) (room : ℕ) {out : List ℕ} {size : ℕ} {why : Fault} → out ≡ zeros room → length out < size → size ≡ length (lines (held_in store))
+    → why ≡ fault NoRoom (length out) → (Err why, out) ≡ printed_of store room
 unfolding printed_of
-printed_short store room {out} clear h e =
+printed_short store room {out} clear h e w =
     let l : length out ≡ room = ap length clear ∙ length-replicate room 0 in
-    rw (lt-ltb room (length (lines (held_in store))) (omega (arith, e, l)), l, clear)
+    rw (lt-ltb room (length (lines (held_in store))) (omega (arith, e, l)), w, l, clear)
 
 pub printed_all : (store : List ℕ) (room : ℕ) {out left : List ℕ} {size : ℕ} → out ≡ zeros room → size ≤ length out → size ≡ length (lines (held_in store))
-    → left ≡ sets out 0 (lines (held_in store)) → (printed.Done size, left) ≡ printed_of store room
+    → left ≡ sets out 0 (lines (held_in store)) → (Ok size, left) ≡ printed_of store room
 unfolding printed_of
 printed_all store room {out} clear h e put =
     let l : length out ≡ room = ap length clear ∙ length-replicate room 0 in

@@ -1,12 +1,12 @@
 -- The totals as text: 02, K14, "print exact counts in this form and order, zero lines included, one per line: `inputs 3`, `accepted 2`,
 -- `refused 1`, then `refusal N COUNT` for N from 1 to 26." The last line ends with a newline too.
-use Rattle.std.specs.Prelude.{ℕ, zero, suc, cond, List, [], ◌∷◌, ◌++◌, ltb, length}
-use Rattle.refusals.specs.Numbers.{no_room}
+use Rattle.std.specs.Prelude.{ℕ, zero, suc, cond, List, [], ◌∷◌, ◌++◌, ltb, length, Result, Ok}
+use Rattle.refusals.specs.Faults.{refused}
+use Rattle.refusals.specs.declared.Refusal.TheVariants.{NoRoom}
+use Rattle.refusals.specs.declared.Fault.{Fault}
 use Rattle.clearing.specs.Lent.{zeros, padded}
 use Rattle.decimals.specs.Decimal.{decimal}
 use Rattle.totals.specs.Totals.{counters, Totals, held_in}
-use Rattle.printedtotals.specs.declared.Printed.{Printed}
-use Rattle.printedtotals.specs.declared.Printed.TheVariants as printed
 
 -- `inputs `, `accepted `, `refused ` and `refusal `, each with its blank
 abbrev pub inputs_text : List ℕ
@@ -49,8 +49,8 @@ abbrev pub lines : Totals → List ℕ
 lines t = lines_from t 0 counters
 
 -- the lines, or no room for them: 17 at the output's length
-unfoldable pub printed_of : List ℕ → ℕ → Printed × List ℕ
+unfoldable pub printed_of : List ℕ → ℕ → Result ℕ Fault × List ℕ
 unfolding lines_from padded
 printed_of store room =
     let bytes = lines (held_in store) in
-    cond (ltb room (length bytes)) (printed.Refused no_room room, zeros room) (printed.Done (length bytes), padded room bytes)
+    cond (ltb room (length bytes)) (refused NoRoom room, zeros room) (Ok (length bytes), padded room bytes)

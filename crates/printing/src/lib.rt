@@ -2,6 +2,7 @@
 // Nothing of the port calls it.
 #![tactic(auto)]
 
+use refusals::Fault;
 use std::io;
 use std::io::Write;
 
@@ -53,4 +54,9 @@ pub fn say_refused(out: &mut impl Write, number: u32, place: u32) -> io::Result<
     say_number(out, number as u64)?;
     say(out, b" at ")?;
     say_number(out, place as u64)
+}
+
+// A fault: its refusal's number, and its place.
+pub fn say_fault(out: &mut impl Write, fault: Fault) -> io::Result<()> {
+    write!(out, "refused {} at {}", fault.refusal.number(), fault.place)
 }

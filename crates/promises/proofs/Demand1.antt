@@ -17,22 +17,20 @@ use Rattle.localsplus.specs.Answer.{rooms_of, split_of}
 use Rattle.varint.specs.Writing.{little_endian, big_endian, big_endian_with_start}
 use Rattle.varintread.specs.Reading.{read_varint, read_varint_with_start}
 use Rattle.varint.specs.Answers.{stored, stored_signed}
-use Rattle.varintread.proofs.Refusals.{varint_told, with_start_told}
 use Rattle.exceptiontable.specs.Reading.{decoded_of}
 use Rattle.exceptiontable.specs.Writing.{encoded_of}
 use Rattle.totals.specs.Totals.{totals_of, added_of}
 use Rattle.printedtotals.specs.Lines.{printed_of}
 use Rattle.sources.specs.Marks.{sources}
-use Rattle.sources.proofs.Beside.{beside_located}
 use Rattle.readalone.specs.Alone.{lent}
 use Rattle.goldens.specs.Moving.{to_fields, to_plain}
 use Rattle.sillgarland.proofs as sillgarland
 use Rattle.promises.specs.Calls.{sill_write}
 use Rattle.promises.specs.Demand1.{Demand1}
 use Rattle.promises.proofs.Reading.{written_by}
-use Rattle.promises.proofs.LineEnds.{locate_ends, locations_end, salvage-ends, marks_in_table, sources_end}
+use Rattle.promises.proofs.LineEnds.{locate_ends, locations_end, salvage-ends, sources_end}
 use Rattle.promises.proofs.Joins.{join-ends, line-ends}
-use Rattle.promises.proofs.Exceptions.{decoded_in_table, decoded_ends, encoded_in_table, encoded_ends}
+use Rattle.promises.proofs.Exceptions.{decoded_cleared, decoded_ends, encoded_cleared}
 use Rattle.promises.proofs.Goldens.{to_fields_tabled, to_plain_tabled, move_ends}
 use Rattle.promises.proofs.Settings.{setting_ends, rewrite_ends, save_ends, edition_ends}
 use Rattle.promises.proofs.Piecewise.{pieced-ends}
@@ -40,8 +38,8 @@ use Rattle.cuttings.proofs.Answered.{begin-ends, piece-ends, end_ends}
 use Rattle.promises.proofs.RowStarts.{index-ends, before-ends, at_ends}
 use Rattle.nodespan.specs.Span.{span_of}
 use Rattle.promises.proofs.Spans.{span_in_table, span-ends}
-use Rattle.promises.proofs.Nightly.{totals_in_table, added_in_table, totalled_ends, printed_in_table, printed_ends}
-use Rattle.promises.proofs.Numbers.{leaf_in_table, located_in_table, located_at_in_table, split_in_table, stored_in_table, signed_in_table, written_in_table}
+use Rattle.promises.proofs.Nightly.{totals_cleared, added_cleared, totalled_ends, printed_cleared}
+use Rattle.promises.proofs.Numbers.{leaf_in_table, located_in_table, located_at_in_table, stored_cleared, signed_cleared, written_in_table}
 use Rattle.promises.proofs.ValueEnds.{read-ends, write_ends, leaf_ends, varint_ends, split_ends, found-ends}
 use Rattle.promises.proofs.Reclaiming.{keep_ends, more_ends}
 
@@ -178,10 +176,7 @@ demand_1 =
                 let a = c.args in
                 let lent = a.1.1.1.0.now in
                 let first = first_line_of a.1.0 in
-                sources_end (sources a.0.now first a.1.1.0 (length lent))
-                (marks_in_table a.1.1.0 (located a.0.now first a.1.1.0 (length lent)) (sources a.0.now first a.1.1.0 (length lent))
-                (located_in_table a.0.now first a.1.1.0 (length lent)) (beside_located.agrees a.0.now first a.1.1.0 (length lent)))
-                lent _ c.result c.meets.0 c.meets.1;
+                sources_end (sources a.0.now first a.1.1.0 (length lent)) lent _ c.result c.meets.0 c.meets.1;
           };
       sill_join =
           record {
@@ -273,7 +268,7 @@ demand_1 =
                 let sum = argument_sum a.1.1.0 a.1.1.1.0 a.1.1.1.1.0 in
                 let s = c.meets.stores in
                 split_ends (split_of a.0.now a.1.0 a.1.1.0 a.1.1.1.0 a.1.1.1.1.0 rooms)
-                (split_in_table a.0.now a.1.0 a.1.1.0 a.1.1.1.0 a.1.1.1.1.0 rooms) c.result c.meets.numbers
+                c.result c.meets.numbers
                 b.0.now b.1.0.now b.1.1.0.now b.1.1.1.0.now b.1.1.1.1.0.now _ _ _ _ _
                 (positions local_bit a.0.now) (positions cell_bit a.0.now) (positions free_bit a.0.now) (deref_map a.0.now) (cell_to_argument sum a.0.now)
                 s.holds-locals s.holds-cells s.holds-frees s.holds-map s.holds_arguments;
@@ -282,25 +277,25 @@ demand_1 =
           record {
             asks_nothing = λ κs a. tt;
             returns = λ M. sillgarland.varints.sill_write_varint.Met.met;
-            ends = λ c. varint_ends (stored (length c.args.0.now) (little_endian c.args.1.0)) c.args.0.now (stored_in_table _ (little_endian c.args.1.0)) c.result _ c.meets;
+            ends = λ c. varint_ends (stored (length c.args.0.now) (little_endian c.args.1.0)) c.args.0.now (stored_cleared _ (little_endian c.args.1.0)) c.result _ c.meets;
           };
       sill_write-signed_varint =
           record {
             asks_nothing = λ κs a. tt;
             returns = λ M. sillgarland.varints.sill_write_signed_varint.Met.met;
-            ends = λ c. varint_ends (stored_signed (length c.args.0.now) (of_z w32 c.args.1.0)) c.args.0.now (signed_in_table _ (of_z w32 c.args.1.0)) c.result _ c.meets;
+            ends = λ c. varint_ends (stored_signed (length c.args.0.now) (of_z w32 c.args.1.0)) c.args.0.now (signed_cleared _ (of_z w32 c.args.1.0)) c.result _ c.meets;
           };
       sill_write_varint_be =
           record {
             asks_nothing = λ κs a. tt;
             returns = λ M. sillgarland.varints.sill_write_varint_be.Met.met;
-            ends = λ c. varint_ends (stored (length c.args.0.now) (big_endian c.args.1.0)) c.args.0.now (stored_in_table _ (big_endian c.args.1.0)) c.result _ c.meets;
+            ends = λ c. varint_ends (stored (length c.args.0.now) (big_endian c.args.1.0)) c.args.0.now (stored_cleared _ (big_endian c.args.1.0)) c.result _ c.meets;
           };
       sill_write_varint_with_start =
           record {
             asks_nothing = λ κs a. tt;
             returns = λ M. sillgarland.varints.sill_write_varint_with_start.Met.met;
-            ends = λ c. varint_ends (stored (length c.args.0.now) (big_endian_with_start c.args.1.0)) c.args.0.now (stored_in_table _ (big_endian_with_start c.args.1.0)) c.result _ c.meets;
+            ends = λ c. varint_ends (stored (length c.args.0.now) (big_endian_with_start c.args.1.0)) c.args.0.now (stored_cleared _ (big_endian_with_start c.args.1.0)) c.result _ c.meets;
           };
       sill_read_exceptions =
           record {
@@ -309,7 +304,7 @@ demand_1 =
             ends =
                 λ c.
                 let room = length c.args.1.0.now in
-                decoded_ends (decoded_of c.args.0.now room) c.args.1.0.now (decoded_in_table c.args.0.now room) c.result _ c.meets;
+                decoded_ends (decoded_of c.args.0.now room) c.args.1.0.now (decoded_cleared c.args.0.now room) c.result _ c.meets;
           };
       sill_write_exceptions =
           record {
@@ -318,7 +313,7 @@ demand_1 =
             ends =
                 λ c.
                 let room = length c.args.1.0.now in
-                encoded_ends (encoded_of c.args.0.now room) c.args.1.0.now (encoded_in_table c.args.0.now room) c.result _ c.meets;
+                varint_ends (encoded_of c.args.0.now room) c.args.1.0.now (encoded_cleared c.args.0.now room) c.result _ c.meets;
           };
       sill_totals =
           record {
@@ -327,7 +322,7 @@ demand_1 =
             ends =
                 λ c.
                 let room = length c.args.1.1.0.now in
-                totalled_ends (totals_of c.args.0.now c.args.1.0.now room) c.args.1.1.0.now (totals_in_table c.args.0.now c.args.1.0.now room) c.result _ c.meets;
+                totalled_ends (totals_of c.args.0.now c.args.1.0.now room) c.args.1.1.0.now (totals_cleared c.args.0.now c.args.1.0.now room) c.result _ c.meets;
           };
       sill_add-totals =
           record {
@@ -336,7 +331,7 @@ demand_1 =
             ends =
                 λ c.
                 let room = length c.args.1.1.0.now in
-                totalled_ends (added_of c.args.0.now c.args.1.0.now room) c.args.1.1.0.now (added_in_table c.args.0.now c.args.1.0.now room) c.result _ c.meets;
+                totalled_ends (added_of c.args.0.now c.args.1.0.now room) c.args.1.1.0.now (added_cleared c.args.0.now c.args.1.0.now room) c.result _ c.meets;
           };
       sill_print_totals =
           record {
@@ -345,24 +340,20 @@ demand_1 =
             ends =
                 λ c.
                 let room = length c.args.1.0.now in
-                printed_ends (printed_of c.args.0.now room) c.args.1.0.now (printed_in_table c.args.0.now room) c.result _ c.meets;
+                varint_ends (printed_of c.args.0.now room) c.args.1.0.now (printed_cleared c.args.0.now room) c.result _ c.meets;
           };
       sill_read_varint =
           record {
             asks_nothing = λ κs a. tt;
             returns = λ M. sillgarland.varints.sill_read_varint.Met.met;
             ends =
-                λ c.
-                let bytes = c.args.0.now in
-                found-ends (length bytes) c.args.1.0 (read_varint bytes c.args.1.0) (varint_told bytes c.args.1.0) c.result c.meets;
+                λ c. found-ends c.args.1.0 (read_varint c.args.0.now c.args.1.0) c.result c.meets;
           };
       sill_read_varint_with_start =
           record {
             asks_nothing = λ κs a. tt;
             returns = λ M. sillgarland.varints.sill_read_varint_with_start.Met.met;
             ends =
-                λ c.
-                let bytes = c.args.0.now in
-                found-ends (length bytes) c.args.1.0 (read_varint_with_start bytes c.args.1.0) (with_start_told bytes c.args.1.0) c.result c.meets;
+                λ c. found-ends c.args.1.0 (read_varint_with_start c.args.0.now c.args.1.0) c.result c.meets;
           };
     }

@@ -23,7 +23,8 @@ use Rattle.meaning.proofs.AnyStores.{found_in-order_is_written}
 use Rattle.meaning.proofs.RoundTrip.{reads_whole}
 use Rattle.promises.specs.Calls.{Reader, Writer, on_bytes, deserialize_value, sill_read, serialize_value, sill_write}
 use Rattle.promises.specs.Demand2.{ReadAs, NodeRead, Hands, WriteFits, ReadFits, WrittenBack, Demand2}
-use Rattle.promises.proofs.Reading.{Exactly, Exact, written_by, length_in, deserialize_exactly, sill_read_exactly, serialize_exact, sill_write-exact}
+use Rattle.writer.specs.Entry.{length_in}
+use Rattle.promises.proofs.Reading.{Exactly, Exact, written_by, deserialize_exactly, sill_read_exactly, serialize_exact, sill_write-exact}
 
 module _ (R : Reader) (of_bytes : (c : R.Calls) → Bytes (R.input c)) (exactly : Exactly R) where
   answered : (c : R.Calls) (counts : Counts) → (R.ends c).answer ≡ gives counts → Answered (R.input c) (R.nodes c) (R.entries c) (R.slots c) (R.nesting c) counts

@@ -21,7 +21,8 @@ use Rattle.meaning.proofs.Injective.{canonical_injective}
 use Rattle.promises.specs.Calls.{Reader, Writer, on_bytes, deserialize_value, sill_read, serialize_value, sill_write}
 use Rattle.promises.specs.Demand2.{NodeRead}
 use Rattle.promises.specs.Equal.{counted_bytes, bytes_of, WrittenNode, Equal}
-use Rattle.promises.proofs.Reading.{Exactly, Exact, written_by, length_in, deserialize_exactly, sill_read_exactly, serialize_exact, sill_write-exact}
+use Rattle.writer.specs.Entry.{length_in}
+use Rattle.promises.proofs.Reading.{Exactly, Exact, written_by, deserialize_exactly, sill_read_exactly, serialize_exact, sill_write-exact}
 use Rattle.promises.proofs.Demand2.{is, meant, read_as}
 
 -- an accepted call's bytes are those that the definition gives

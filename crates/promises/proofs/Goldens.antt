@@ -8,7 +8,8 @@ use Prim.Native.Nat.{ℕ, ◌+◌, min}
 use native.Mathlib.Omega.{arith}
 use lib.Dec.{ltb}
 use lib.ListN.{length}
-use Rattle.refusals.specs.Numbers.{accepted, bad_type, no_room, no_such_field, trailing_bytes, value_too_long}
+use Rattle.refusals.specs.declared.Fault.{Fault}
+use Rattle.refusals.specs.Numbers.{bad_type, no_room, no_such_field, trailing_bytes, value_too_long}
 use Rattle.refusals.specs.Limits.{nothing}
 use Rattle.clearing.specs.Lent.{padded}
 use Rattle.taggedfields.specs.Fields.{reading}
@@ -16,7 +17,6 @@ use Rattle.grammar.specs.Reading.{Answer, gives, stops}
 use Rattle.grammar.specs.State.{State}
 use Rattle.readalone.specs.Alone.{Room, within, placed_from, alone}
 use Rattle.goldenparts.specs.Forms.{Golden, next, is_code, judged, result_read, cut_at, old_parts, golden_fields, or_other, or_fault, in_fields, both_read, new_parts}
-use Rattle.goldens.specs.declared.Moved.{Moved}
 use Rattle.goldens.specs.Moving.{new_form, old_form, most_contents, fielded, to_fields, to_plain, refused_as, moved_as}
 use Rattle.sillgarland.specs.declared.goldenfiles.SillMoved.{SillMoved}
 use Rattle.sillgarland.specs.Goldenfiles.{moved_struct, Moves}
@@ -56,8 +56,8 @@ fields_tabled : (file : List ℕ) → Tabled (in_fields file)
 unfolding in_fields
 fields_tabled file = go (reading file).fault (golden_fields (reading file).fields) refl
   where
-    go : (o : Option (ℕ × ℕ)) (g : Option Golden) → (reading file).fault ≡ o → Tabled (or_fault o (or_other g))
-    go (some x) g e = fault_in_table file x e
+    go : (o : Option Fault) (g : Option Golden) → (reading file).fault ≡ o → Tabled (or_fault o (or_other g))
+    go (some x) g e = fault_in_table x
     go none none e = (omega arith, omega arith)
     go none (some g) e = tt
 
@@ -89,8 +89,8 @@ move_ends (stops number place) t r lent left nodes ns entries es slots ss m = re
 move_ends (gives bytes) t r lent left nodes ns entries es slots ss m = room (ltb (min (length lent) nothing) (length bytes)) m
   where
     room : (c : Bool)
-        → Moves (cond {A = Moved × List ℕ} c (refused_as no_room (min (length lent) nothing) (length lent))
-        (record { refusal = accepted; place = 0; written = length bytes }, padded (length lent) bytes)) r left nodes ns entries es slots ss
+        → Moves (cond {A = Answer ℕ × List ℕ} c (refused_as no_room (min (length lent) nothing) (length lent))
+        (gives (length bytes), padded (length lent) bytes)) r left nodes ns entries es slots ss
         → MoveEnds r (Zero lent left × Zero nodes ns × Zero entries es × Zero slots ss)
     room true m = refuses no_room (min (length lent) nothing) (omega arith, omega arith) m.numbers (m.holds, m.clear_nodes, m.clear_entries, m.clear_slots)
     room false m = answers (length bytes) m.numbers

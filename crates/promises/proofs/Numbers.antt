@@ -32,15 +32,8 @@ use Rattle.linetable.specs.Walk as table
 use Rattle.linetable.specs.Walk.{walk, after, joined}
 use Rattle.linetable.specs.Answer.{located}
 use Rattle.locate.specs.Part.{located_at}
-use Rattle.localsplus.specs.declared.Rooms.{Rooms as SplitRooms}
-use Rattle.localsplus.specs.declared.Checked.{Checked}
-use Rattle.localsplus.specs.declared.Checked.TheVariants as checked
-use Rattle.localsplus.specs.declared.Split.{Split}
-use Rattle.localsplus.specs.declared.Split.TheVariants as split
-use Rattle.localsplus.specs.Sum.{argument_sum}
-use Rattle.localsplus.specs.Answer.{in_order, room_for, checks, answered, split_of}
-use Rattle.varint.specs.declared.Written.{Written}
-use Rattle.varint.specs.declared.Written.TheVariants as varint
+use Rattle.std.specs.Prelude.{Result, Ok, Err}
+use Rattle.refusals.specs.declared.Fault.{Fault}
 use Rattle.varint.specs.Writing.{little_endian, signed_code}
 use Rattle.varint.specs.Answers.{stored, stored_signed}
 use Rattle.writing.specs.Writing.{Writing, ended, refused, emit, then, each, into}
@@ -162,61 +155,19 @@ located_at_in_table s nodes used n first count capacity =
     if_tabled_lines (ltb most_bytes (length s)) _ _ (omega arith, omega arith)
     (if_tabled_lines (sound_at s nodes used n && _) _ _ (located_in_table _ first count capacity) (omega arith, omega arith))
 
--- The split.
-abbrev pub TabledSplit : Split → Type 0
-TabledSplit (split.Done locals cells frees present) = Unit
-TabledSplit (split.Refused number place) = InTable number
+-- A fault's number is one of the table, and of an answer with a store it is to be shown alone that the store is zero where it is refused.
+abbrev pub Cleared : {A : Type 0} → (room : ℕ) → Result A Fault × List ℕ → Type 0
+Cleared room (Ok x, xs) = Unit {0}
+Cleared room (Err why, xs) = xs ≡ zeros room
 
-abbrev TabledChecks : Checked → Type 0
-TabledChecks (checked.Fits sum) = Unit
-TabledChecks (checked.Fails number place) = InTable number
-
-if_tabled_checks : (b : Bool) (x y : Checked) → TabledChecks x → TabledChecks y → TabledChecks (cond b x y)
-if_tabled_checks true x y h k = h
-if_tabled_checks false x y h k = k
-
-room_in_table : (names sum : ℕ) (rooms : List ℕ) → TabledChecks (room_for names sum rooms)
-unfolding room_for
-room_in_table names sum [] = tt
-room_in_table names sum (room ∷ rooms) = if_tabled_checks (ltb room names) _ _ (omega arith, omega arith) (room_in_table names sum rooms)
-
-checks_in_table : (count names sum : ℕ) (rooms : SplitRooms) → TabledChecks (checks count names sum rooms)
-unfolding checks
-checks_in_table count names sum rooms =
-    if_tabled_checks (ltb most_bytes count) _ _ (omega arith, omega arith)
-    (if_tabled_checks (not (eqb names count)) _ _ (omega arith, omega arith)
-    (if_tabled_checks (leb (2 ^ 32) sum) _ _ (omega arith, omega arith) (room_in_table names sum (in_order rooms))))
-
-answered_in_table : (kinds : List ℕ) (c : Checked) → TabledChecks c → TabledSplit (answered kinds c)
-unfolding answered
-answered_in_table kinds (checked.Fits sum) h = tt
-answered_in_table kinds (checked.Fails number place) h = h
-
-pub split_in_table : (kinds : List ℕ) (names args kwonly flags : ℕ) (rooms : SplitRooms) → TabledSplit (split_of kinds names args kwonly flags rooms)
-unfolding split_of
-split_in_table kinds names args kwonly flags rooms = answered_in_table kinds _ (checks_in_table (length kinds) names (argument_sum args kwonly flags) rooms)
-
--- The varints, with the store: refused, it is zero.
-abbrev pub TabledStore : (room : ℕ) → Written × List ℕ → Type 0
-TabledStore room (varint.Done count, xs) = Unit
-TabledStore room (varint.Refused number place, xs) = InTable number × (xs ≡ zeros room)
-
-if_tabled_store : (room : ℕ) (b : Bool) (x y : Written × List ℕ) → TabledStore room x → TabledStore room y → TabledStore room (cond b x y)
-if_tabled_store room true x y h k = h
-if_tabled_store room false x y h k = k
-
-pub stored_in_table : (room : ℕ) (bytes : List ℕ) → TabledStore room (stored room bytes)
+-- the varints
+pub stored_cleared : (room : ℕ) (bytes : List ℕ) → Cleared room (stored room bytes)
 unfolding stored
-stored_in_table room bytes = if_tabled_store room (leb (length bytes) room) _ _ tt ((omega arith, omega arith), refl)
+stored_cleared room bytes = either (Cleared room) (leb (length bytes) room) _ _ tt refl
 
-pub signed_in_table : (room bits : ℕ) → TabledStore room (stored_signed room bits)
+pub signed_cleared : (room bits : ℕ) → Cleared room (stored_signed room bits)
 unfolding stored_signed
-signed_in_table room bits = if_tabled_store room (eqb bits (2 ^ 31)) _ _ ((omega arith, omega arith), refl) (stored_in_table room (little_endian (signed_code bits)))
-
--- a varint that is refused: 2 or 18
-pub told_in_table : {number : ℕ} → (number ≡ data_too_short) ⊎ (number ≡ number_range) → InTable number
-told_in_table (inl e) = (omega (arith, e), omega (arith, e))
-told_in_table (inr e) = (omega (arith, e), omega (arith, e))
+signed_cleared room bits = either (Cleared room) (eqb bits (2 ^ 31)) _ _ refl (stored_cleared room (little_endian (signed_code bits)))
 
 -- The writing: nowhere on its way is it refused with another number.
 abbrev TabledOn : Writing → Type 0

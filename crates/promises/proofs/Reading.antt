@@ -11,18 +11,14 @@ use Rattle.grammar.specs.Reading.{Answer, gives, stops}
 use Rattle.grammar.specs.State.{State}
 use Rattle.grammar.specs.Answer.{Counts, answered, reading, read_of}
 use Rattle.writing.specs.Answer.{written, output_held}
-use Rattle.writer.specs.Entry.{wrote_of}
+use Rattle.writer.specs.Entry.{length_in}
 use Rattle.sillgarland.specs.Values.{read_struct, wrote_struct}
-use Rattle.promises.specs.Calls.{Reader, Writer, deserialize_value, sill_read, answer_in, serialize_value, sill_write, wrote_as, wrote_in}
+use Rattle.promises.specs.Calls.{Reader, Writer, deserialize_value, sill_read, answer_in, serialize_value, sill_write, wrote_in}
 use Rattle.promises.proofs.Numbers.{Tabled, reading_in_table, written_in_table}
 
 -- A reader whose every call ends as the definition says, and a writer so.
 abbrev pub Exactly : Reader → Type 0
 Exactly R = (c : R.Calls) → R.ends c ≡ read_of (R.input c) (R.nodes c) (R.entries c) (R.slots c) (R.nesting c)
-
-abbrev pub length_in : Answer (List ℕ) → Answer ℕ
-length_in (gives bytes) = gives (length bytes)
-length_in (stops number place) = stops number place
 
 abbrev pub written_by : (W : Writer) → W.Calls → Answer (List ℕ)
 written_by W w = written (W.tables w) (W.root w) (W.nesting w) (W.room w)
@@ -37,12 +33,8 @@ deserialize_exactly c =
     let m = c.meets in
     λ i. record { answer = m.answer i; nodes = m.nodes i; entries = m.entries i; slots = m.slots i }
 
-wrote_back : (a : Answer (List ℕ)) → wrote_as (wrote_of a) ≡ length_in a
-wrote_back (gives bytes) = refl
-wrote_back (stops number place) = refl
-
 pub serialize_exact : (w : serialize_value.Calls) → Exact serialize_value w
-serialize_exact w = record { answer = ap wrote_as w.meets.answers ∙ wrote_back (written_by serialize_value w); output = w.meets.holds }
+serialize_exact w = record { answer = w.meets.answers; output = w.meets.holds }
 
 -- The structs.
 answered_in_table : (s : List ℕ) (nodes entries slots nesting : ℕ) → Tabled (read_of s nodes entries slots nesting).answer
@@ -63,7 +55,7 @@ sill_read_exactly c =
     let e = ap answer_in m.numbers ∙ read_back _ (answered_in_table (sill_read.input c) (sill_read.nodes c) (sill_read.entries c) (sill_read.slots c) (sill_read.nesting c)) in
     λ i. record { answer = e i; nodes = m.holds-nodes i; entries = m.holds-entries i; slots = m.holds-slots i }
 
-wrote_in_lem : (a : Answer (List ℕ)) → Tabled a → wrote_in (wrote_struct (wrote_of a)) ≡ length_in a
+wrote_in_lem : (a : Answer (List ℕ)) → Tabled a → wrote_in (wrote_struct (length_in a)) ≡ length_in a
 wrote_in_lem (gives bytes) h = refl
 wrote_in_lem (stops number place) h = rw (ne_eqb number accepted (λ e. omega (arith, e, h.0))) refl
 

@@ -7,15 +7,17 @@ use mathlib.Core.List.{List}
 use lib.ListN.{length}
 use lib.Dec.{ltb}
 use borrow.Author.Tests.{ltb-false}
-use Rattle.refusals.specs.Numbers.{no_room, no_node, no_entry, input_too_long}
+use Rattle.refusals.specs.Numbers.{no_node, no_entry, input_too_long}
+use Rattle.refusals.specs.Faults.{number_of}
+use Rattle.refusals.proofs.Faults.{number_in_table}
 use Rattle.refusals.specs.Limits.{most_bytes}
 use Rattle.grammar.specs.Reading.{Answer, gives, stops}
 use Rattle.grammar.specs.Room.{Rooms, run}
 use Rattle.grammar.specs.State.{State, node_width, entry_width, node_capacity, entry_capacity}
 use Rattle.grammar.specs.Answer.{plain, rooms_of}
-use Rattle.keepvisit.specs.Visit.{Stores, Visited, bad, visited, visit_from, chains}
+use Rattle.keepvisit.specs.Visit.{chains}
 use Rattle.keep.specs.Kept as move
-use Rattle.keep.specs.Kept.{Outcome, by_visit, outcome, lent_stores, need, held_by, kept_of}
+use Rattle.keep.specs.Kept.{Outcome, outcome, lent_stores, held_by, kept_of}
 use Rattle.readmore.specs.More.{Kept, keeping, room_left, appending, counts_with, appended_to, more_of, kept_part}
 use Rattle.sillgarland.specs.Reclaiming.{KeptAs}
 use Rattle.sillgarland.specs.Values.{ReadAs, read_struct}
@@ -26,34 +28,18 @@ use Rattle.promises.proofs.Numbers.{Tabled, if_tabled, run_in_table}
 
 -- A move.
 
-abbrev Listed : Outcome → Type 0
-Listed (move.refuses number place) = InTable number
-Listed (move.moves order) = Unit
-
-visit-listed : (v : Visited) → Listed (by_visit v)
-visit-listed (bad place) = (omega arith, omega arith)
-visit-listed (visited order) = tt
-
-outcome-listed : (t : Stores) (used_nodes used_entries node size : ℕ) → Listed (outcome t used_nodes used_entries node size)
-unfolding outcome
-outcome-listed t used_nodes used_entries node size = go (ltb size (need used_nodes used_entries))
-  where
-    go : (b : Bool) → Listed (cond b (move.refuses no_room size) (by_visit (visit_from t node)))
-    go true = (omega arith, omega arith)
-    go false = visit-listed (visit_from t node)
-
 pub keep_ends : (nodes entries slots : List ℕ) (used_nodes used_entries node : ℕ) (stack : List ℕ) (r : SillKept) (ns es ss st : List ℕ)
     → KeptAs (kept_of nodes entries slots used_nodes used_entries node (length stack)) (length stack) r ns es ss st
     → KeepEnds r (AsItWas nodes ns × AsItWas entries es × AsItWas slots ss × Zero stack st)
 unfolding kept_of
 keep_ends nodes entries slots used_nodes used_entries node stack r ns es ss st h =
     let t = lent_stores nodes entries used_nodes used_entries in
-    go (outcome t used_nodes used_entries node (length stack)) (outcome-listed t used_nodes used_entries node (length stack)) h
+    go (outcome t used_nodes used_entries node (length stack)) h
   where
-    go : (o : Outcome) → Listed o → KeptAs (held_by o (lent_stores nodes entries used_nodes used_entries) slots) (length stack) r ns es ss st
+    go : (o : Outcome) → KeptAs (held_by o (lent_stores nodes entries used_nodes used_entries) slots) (length stack) r ns es ss st
         → KeepEnds r (AsItWas nodes ns × AsItWas entries es × AsItWas slots ss × Zero stack st)
-    go (move.refuses number place) i k = refuses number place i k.numbers (k.holds-nodes, k.holds-entries, k.holds-slots, k.cleared)
-    go (move.moves order) i k =
+    go (move.refuses why place) k = refuses (number_of why) place (number_in_table why) k.numbers (k.holds-nodes, k.holds-entries, k.holds-slots, k.cleared)
+    go (move.moves order) k =
         let t = lent_stores nodes entries used_nodes used_entries in
         answers (length order, length (chains t order), node_capacity (length nodes) - length order, entry_capacity (length entries) - length (chains t order)) k.numbers
 

@@ -8,20 +8,21 @@ use Prim.Native.Nat.{ℕ, ◌+◌, min}
 use native.Mathlib.Omega.{arith}
 use lib.Dec.{ltb}
 use lib.ListN.{length}
+use Rattle.std.specs.Prelude.{Result, Ok}
+use Rattle.refusals.specs.declared.Fault.{Fault}
+use Rattle.refusals.specs.declared.Refusal.TheVariants.{InputTooLong, NoRoom}
+use Rattle.refusals.specs.Faults.{number_of, fault, refused}
 use Rattle.refusals.specs.Numbers.{input_too_long, no_room, no_such_field}
+use Rattle.refusals.proofs.Faults.{number_in_table}
 use Rattle.refusals.specs.Limits.{nothing}
 use Rattle.clearing.specs.Lent.{zeros, padded}
 use Rattle.taggedfields.specs.Fields.{Field, reading, field_in}
-use Rattle.taggedfields.proofs.Parts.{fault-within, fault-most}
 use Rattle.settings.specs.Setting.{setting_from, setting_of}
 use Rattle.settings.specs.Rewriting as rewriting
 use Rattle.settings.specs.Rewriting.{rewritten, rewrite_from, rewrite_of}
-use Rattle.settings.specs.declared.rewriting.Rewritten.{Rewritten}
 use Rattle.editions.specs.Archive.{Saved, archive_of, find_edition, record_of}
 use Rattle.editions.specs.Answers as archived
 use Rattle.editions.specs.Answers.{edition_from, edition_of, if_new, saved_from, saved_of}
-use Rattle.editions.specs.declared.Kept.{Kept}
-use Rattle.editions.proofs.Finding.{archive_number, archive_most}
 use Rattle.sillgarland.specs.Settingfiles.{setting_struct, rewritten_struct, kept_struct, edition_struct}
 use Rattle.sillgarland.specs.declared.settingfiles.SillSetting.{SillSetting}
 use Rattle.sillgarland.specs.declared.settingfiles.SillRewritten.{SillRewritten}
@@ -30,19 +31,16 @@ use Rattle.sillgarland.specs.declared.settingfiles.SillEdition.{SillEdition}
 use Rattle.promises.specs.Demand1.{InTable, Ends, answers, refuses, Zero, SettingEnds, RewriteEnds, SaveEnds, EditionEnds}
 
 -- a fault's number is one of the table
-pub fault_in_table : (file : List ℕ) (x : ℕ × ℕ) → (reading file).fault ≡ some x → InTable x.0
-fault_in_table file x e = ((fault-within file x e).0, omega (arith, fault-most file x e))
-
-archive_in_table : (archive : List ℕ) (x : ℕ × ℕ) → (archive_of archive).fault ≡ some x → InTable x.0
-archive_in_table archive x e = (archive_number archive x e, omega (arith, archive_most archive x e))
+pub fault_in_table : (x : Fault) → InTable (number_of x.refusal)
+fault_in_table x = number_in_table x.refusal
 
 pub setting_ends : (own fallback : List ℕ) (t : ℕ) (r : SillSetting) → r ≡ setting_struct (setting_of own fallback t) → SettingEnds r
 unfolding setting_of
 setting_ends own fallback t r e = go (reading own).fault (reading fallback).fault (field_in own t) (field_in fallback t) refl refl e
   where
-    go : (o d : Option (ℕ × ℕ)) (f g : Option Field) → (reading own).fault ≡ o → (reading fallback).fault ≡ d → r ≡ setting_struct (setting_from o d f g) → SettingEnds r
-    go (some x) d f g p q e = refuses x.0 x.1 (fault_in_table own x p) e tt
-    go none (some x) f g p q e = refuses x.0 x.1 (fault_in_table fallback x q) e tt
+    go : (o d : Option Fault) (f g : Option Field) → (reading own).fault ≡ o → (reading fallback).fault ≡ d → r ≡ setting_struct (setting_from o d f g) → SettingEnds r
+    go (some x) d f g p q e = refuses (number_of x.refusal) x.place (fault_in_table x) e tt
+    go none (some x) f g p q e = refuses (number_of x.refusal) x.place (fault_in_table x) e tt
     go none none (some f) g p q e = answers (0, f.place + 3, length f.contents) e
     go none none none (some g) p q e = answers (1, g.place + 3, length g.contents) e
     go none none none none p q e = refuses no_such_field 0 (omega arith, omega arith) e tt
@@ -56,19 +54,19 @@ rewrite_ends file changes lent left r e h = go (reading file).fault (reading cha
     bytes = rewritten file changes
 
     room : (c : Bool)
-        → r ≡ rewritten_struct (cond {A = Rewritten × List ℕ} c (rewriting.refused_as (no_room, min (length lent) nothing) (length lent))
-        (record { refusal = 0; place = 0; written = length bytes }, padded (length lent) bytes)).0
-        → left ≡ (cond {A = Rewritten × List ℕ} c (rewriting.refused_as (no_room, min (length lent) nothing) (length lent))
-        (record { refusal = 0; place = 0; written = length bytes }, padded (length lent) bytes)).1
+        → r ≡ rewritten_struct (cond {A = Result ℕ Fault × List ℕ} c (rewriting.refused_as (fault NoRoom (min (length lent) nothing)) (length lent))
+        (Ok (length bytes), padded (length lent) bytes)).0
+        → left ≡ (cond {A = Result ℕ Fault × List ℕ} c (rewriting.refused_as (fault NoRoom (min (length lent) nothing)) (length lent))
+        (Ok (length bytes), padded (length lent) bytes)).1
         → RewriteEnds r (Zero lent left)
     room true e h = refuses no_room (min (length lent) nothing) (omega arith, omega arith) e h
     room false e h = answers (length bytes) e
 
-    go : (o d : Option (ℕ × ℕ)) → (reading file).fault ≡ o → (reading changes).fault ≡ d → r ≡ rewritten_struct (rewrite_from o d bytes (length lent)).0
+    go : (o d : Option Fault) → (reading file).fault ≡ o → (reading changes).fault ≡ d → r ≡ rewritten_struct (rewrite_from o d bytes (length lent)).0
         → left ≡ (rewrite_from o d bytes (length lent)).1
         → RewriteEnds r (Zero lent left)
-    go (some x) d p q e h = refuses x.0 x.1 (fault_in_table file x p) e h
-    go none (some x) p q e h = refuses x.0 x.1 (fault_in_table changes x q) e h
+    go (some x) d p q e h = refuses (number_of x.refusal) x.place (fault_in_table x) e h
+    go none (some x) p q e h = refuses (number_of x.refusal) x.place (fault_in_table x) e h
     go none none p q e h = room (ltb (min (length lent) nothing) (length bytes)) e h
 
 pub save_ends : (archive file lent left : List ℕ) (r : SillSaved) → r ≡ kept_struct (saved_of archive file (length lent)).0 → left ≡ (saved_of archive file (length lent)).1
@@ -82,11 +80,11 @@ save_ends archive file lent left r e h = long (ltb nothing (length archive)) e h
     files : List Saved
     files = (archive_of archive).files
 
-    Ended : Kept × List ℕ → Type 0
+    Ended : Result ℕ Fault × List ℕ → Type 0
     Ended x = r ≡ kept_struct x.0 → left ≡ x.1 → SaveEnds r (Zero lent left)
 
-    room : (c : Bool) → Ended (cond {A = Kept × List ℕ} c (archived.refused_as no_room (min (length lent) nothing) (length lent))
-        (record { refusal = 0; place = 0; written = length bytes }, padded (length lent) bytes))
+    room : (c : Bool) → Ended (cond {A = Result ℕ Fault × List ℕ} c (archived.refused_as (fault NoRoom (min (length lent) nothing)) (length lent))
+        (Ok (length bytes), padded (length lent) bytes))
     room true e h = refuses no_room (min (length lent) nothing) (omega arith, omega arith) e h
     room false e h = answers (length bytes) e
 
@@ -94,13 +92,13 @@ save_ends archive file lent left r e h = long (ltb nothing (length archive)) e h
     new (some s) e h = refuses no_such_field 0 (omega arith, omega arith) e h
     new none e h = room (ltb (min (length lent) nothing) (length bytes)) e h
 
-    go : (a c : Option (ℕ × ℕ)) (f : Option Field) → (archive_of archive).fault ≡ a → (reading file).fault ≡ c → Ended (saved_from files a c f bytes (length lent))
-    go (some x) c f p q e h = refuses x.0 x.1 (archive_in_table archive x p) e h
-    go none (some x) f p q e h = refuses x.0 x.1 (fault_in_table file x q) e h
+    go : (a c : Option Fault) (f : Option Field) → (archive_of archive).fault ≡ a → (reading file).fault ≡ c → Ended (saved_from files a c f bytes (length lent))
+    go (some x) c f p q e h = refuses (number_of x.refusal) x.place (fault_in_table x) e h
+    go none (some x) f p q e h = refuses (number_of x.refusal) x.place (fault_in_table x) e h
     go none none none p q e h = refuses no_such_field 0 (omega arith, omega arith) e h
     go none none (some f) p q e h = new (find_edition f.contents files) e h
 
-    long : (c : Bool) → Ended (cond {A = Kept × List ℕ} c (archived.refused_as input_too_long 0 (length lent)) (saved_from files (archive_of archive).fault (reading file).fault
+    long : (c : Bool) → Ended (cond {A = Result ℕ Fault × List ℕ} c (archived.refused_as (fault InputTooLong 0) (length lent)) (saved_from files (archive_of archive).fault (reading file).fault
         (field_in file 1) bytes (length lent)))
     long true e h = refuses input_too_long 0 (omega arith, omega arith) e h
     long false e h = go (archive_of archive).fault (reading file).fault (field_in file 1) refl refl e h
@@ -109,12 +107,12 @@ pub edition_ends : (archive edition : List ℕ) (r : SillEdition) → r ≡ edit
 unfolding edition_of
 edition_ends archive edition r e = long (ltb nothing (length archive)) e
   where
-    go : (a : Option (ℕ × ℕ)) (s : Option Saved) → (archive_of archive).fault ≡ a → r ≡ edition_struct (edition_from a s) → EditionEnds r
-    go (some x) s p e = refuses x.0 x.1 (archive_in_table archive x p) e tt
+    go : (a : Option Fault) (s : Option Saved) → (archive_of archive).fault ≡ a → r ≡ edition_struct (edition_from a s) → EditionEnds r
+    go (some x) s p e = refuses (number_of x.refusal) x.place (fault_in_table x) e tt
     go none none p e = refuses no_such_field 0 (omega arith, omega arith) e tt
     go none (some s) p e = answers (s.start, length s.file) e
 
-    long : (c : Bool) → r ≡ edition_struct (cond c (archived.refused_with input_too_long 0) (edition_from (archive_of archive).fault
+    long : (c : Bool) → r ≡ edition_struct (cond c (refused InputTooLong 0) (edition_from (archive_of archive).fault
         (find_edition edition (archive_of archive).files))) → EditionEnds r
     long true e = refuses input_too_long 0 (omega arith, omega arith) e tt
     long false e = go (archive_of archive).fault (find_edition edition (archive_of archive).files) refl e

@@ -16,7 +16,6 @@ use Rattle.nodespan.specs.Header.{header_of, spanned}
 use Rattle.nodespan.specs.Span.{Span, inside, all_inside, all_used, of_chain, children_at, and_then, onward, closed_from, told, span_of}
 use Rattle.nodespan.specs.Walk.{answered_of}
 use Rattle.nodespan.specs.declared.Found.{Found}
-use Rattle.nodespan.specs.declared.Answered.TheVariants as span
 use Rattle.sillgarland.specs.Spans.{span_struct}
 use Rattle.sillgarland.specs.declared.spans.SillSpan.{SillSpan}
 use Rattle.promises.specs.Demand1.{Ends, answers, refuses}
@@ -67,6 +66,6 @@ span_in_table t n =
     steps = entries_in t.entries t.used_entries
 
 pub span-ends : (a : Answer Span) → Tabled a → (r : SillSpan) → r ≡ span_struct (answered_of a)
-    → Ends r (λ found. span_struct (span.Told found)) (λ number place. span_struct (span.Refused number place)) Unit
+    → Ends r (λ found. span_struct (gives found)) (λ number place. span_struct (stops number place)) Unit
 span-ends (gives s) t r h = answers (record { start = s.start; end = s.end; closed = s.closed; slots_before = s.slots_before }) h
 span-ends (stops n p) t r h = refuses n p t h tt

@@ -11,7 +11,8 @@ use denote.MutBor.{MutBor}
 use Rattle.clearing.specs.Lent.{zeros}
 use Rattle.grammar.specs.Input.{Bytes}
 use Rattle.grammar.specs.Reading.{Answer, gives, stops}
-use Rattle.grammar.specs.Answer.{Counts, counts_of, read_of}
+use Rattle.grammar.specs.State.{State}
+use Rattle.grammar.specs.Answer.{Counts, counts_of, reading, answered, read_of}
 use Rattle.grammar.specs.Letters.{among}
 use Rattle.grammar.proofs.Tests.{same_some}
 use Rattle.grammar.proofs.Sheets.{p1, p4, sheets}
@@ -31,6 +32,8 @@ use Rattle.promises.specs.Demand2.{ReadFits, Demand2, root_read}
 use Rattle.promises.specs.Demand3.{Demand3}
 use Rattle.promises.specs.Substance.{CallWith, Callable, RefusesAll, Constant, MadeUp, tuple, Invents, ReadsChildren, ShutOut}
 use Rattle.agreement.proofs.Reader.{outcome_from}
+use Rattle.refusals.proofs.Faults.{number_back}
+use Rattle.promises.proofs.Numbers.{reading_in_table}
 use Rattle.promises.proofs.Reading.{Exactly}
 use Rattle.promises.proofs.Demand3.{exactly_so}
 
@@ -161,6 +164,7 @@ abbrev lent_for_writing : List ℕ → MutBor (List ℕ)
 lent_for_writing xs = record { ref_ptr = (0, 0); ghost_name = 0; now = xs }
 
 pub deserialize_callable : Callable deserialize_value
+unfolding read_of
 deserialize_callable s bytes small nodes entries slots nesting ln le ls lg =
     let o = read_of s (length (zeros nodes)) (length (zeros entries)) (length (zeros slots)) nesting in
     record {
@@ -171,7 +175,7 @@ deserialize_callable s bytes small nodes entries slots nesting ln le ls lg =
             meant = tt;
             result = outcome_from o.answer;
             last = (tt, (o.nodes, (o.entries, (o.slots, (tt, tt)))));
-            meets = record { answer = told o.answer; nodes = refl; entries = refl; slots = refl };
+            meets = record { answer = told (reading s (length (zeros nodes)) (length (zeros entries)) (length (zeros slots)) nesting) refl; nodes = refl; entries = refl; slots = refl };
           };
       input = refl;
       nodes-lent = length-replicate nodes 0;
@@ -180,9 +184,12 @@ deserialize_callable s bytes small nodes entries slots nesting ln le ls lg =
       allowed = refl;
     }
   where
-    told : (a : Answer Counts) → answer_of (outcome_from a) ≡ a
-    told (gives counts) = refl
-    told (stops number place) = refl
+    told : (a : Answer (ℕ × State)) → reading s (length (zeros nodes)) (length (zeros entries)) (length (zeros slots)) nesting ≡ a
+        → answer_of (outcome_from (answered a)) ≡ answered a
+    told (gives r) e = refl
+    told (stops number place) e =
+        let t = reading_in_table s (length (zeros nodes)) (length (zeros entries)) (length (zeros slots)) nesting number place e in
+        ap (λ n. stops n place) (number_back number t.0 t.1)
 
 pub sill_read_callable : Callable sill_read
 sill_read_callable s bytes small nodes entries slots nesting ln le ls lg =

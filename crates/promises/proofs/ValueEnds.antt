@@ -2,7 +2,6 @@
 -- Numbers. Assumes nothing.
 use mathlib.Core.Path.{◌≡◌, refl, ap, ◌∙◌}
 use Prim.Native.Nat.{ℕ}
-use mathlib.Core.Bool.{Bool}
 use mathlib.Core.List.{List}
 use mathlib.Core.Option.{none, some}
 use lib.ListN.{length}
@@ -11,16 +10,13 @@ use Rattle.grammar.specs.State.{State}
 use Rattle.grammar.specs.Answer.{outcome_of, reading, read_of}
 use Rattle.grammar.specs.Leaf.{Leaf}
 use Rattle.leaf.specs.Answers.{told_of, answered_of}
-use Rattle.leaf.specs.declared.Answered.TheVariants as leaf
 use Rattle.localsplus.specs.declared.Split.{Split}
-use Rattle.localsplus.specs.declared.Split.TheVariants as split
 use Rattle.localsplus.specs.Answer.{stored as stored_of}
-use Rattle.varint.specs.declared.Written.{Written}
-use Rattle.varint.specs.declared.Written.TheVariants as varint
-use Rattle.varintread.specs.declared.Found.{Found}
-use Rattle.varintread.specs.declared.Found.TheVariants as found
-use Rattle.varintread.proofs.Refusals.{Told}
-use Rattle.output.specs.declared.Wrote.TheVariants as wrote
+use Rattle.std.specs.Prelude.{Result, Ok, Err, Some, None}
+use Rattle.refusals.specs.Faults.{number_of}
+use Rattle.refusals.specs.declared.Fault.{Fault}
+use Rattle.refusals.proofs.Faults.{number_in_table}
+use Rattle.varintread.specs.Reading.{Reading}
 use Rattle.sillgarland.specs.Leaves.{leaf_struct}
 use Rattle.sillgarland.specs.Locals.{split_struct}
 use Rattle.sillgarland.specs.Values.{read_struct, ReadAs, wrote_struct, WroteAs}
@@ -31,7 +27,7 @@ use Rattle.sillgarland.specs.declared.values.SillRead.{SillRead}
 use Rattle.sillgarland.specs.declared.varints.SillWritten.{SillWritten}
 use Rattle.sillgarland.specs.declared.varints.SillFound.{SillFound}
 use Rattle.promises.specs.Demand1.{Ends, answers, refuses, Zero, VarintEnds, FoundEnds}
-use Rattle.promises.proofs.Numbers.{Tabled, reading_in_table, TabledSplit, TabledStore, told_in_table}
+use Rattle.promises.proofs.Numbers.{Tabled, reading_in_table, Cleared}
 
 -- Each kind of definition: what its contract says of an outcome gives the end.
 pub read-ends : (s : List ℕ) (nodes entries slots : List ℕ) (nesting : ℕ) (r : SillRead) (ns es ss : List ℕ)
@@ -47,28 +43,29 @@ read-ends s nodes entries slots nesting r ns es ss h = go (reading s (length nod
         refuses n p (reading_in_table s (length nodes) (length entries) (length slots) nesting n p e) k.numbers (k.holds-nodes, k.holds-entries, k.holds-slots)
 
 pub write_ends : (a : Answer (List ℕ)) → Tabled a → (out : List ℕ) (r : SillWritten) (left : List ℕ) → WroteAs a (length out) r left
-    → Ends r (λ count. wrote_struct (wrote.Done count)) (λ number place. wrote_struct (wrote.Refused number place)) (Zero out left)
+    → Ends r (λ count. wrote_struct (gives count)) (λ number place. wrote_struct (stops number place)) (Zero out left)
 write_ends (gives bytes) t out r left h = answers _ h.numbers
 write_ends (stops n p) t out r left h = refuses n p t h.numbers h.holds
 
 pub leaf_ends : (a : Answer Leaf) → Tabled a → (r : SillLeaf) → r ≡ leaf_struct (answered_of a)
-    → Ends r (λ told. leaf_struct (leaf.Told told)) (λ number place. leaf_struct (leaf.Refused number place)) Unit
+    → Ends r (λ told. leaf_struct (gives told)) (λ number place. leaf_struct (stops number place)) Unit
 leaf_ends (gives l) t r h = answers (told_of l) h
 leaf_ends (stops n p) t r h = refuses n p t h tt
 
-pub varint_ends : (o : Written × List ℕ) (lent : List ℕ) → TabledStore (length lent) o → (r : SillWritten) (left : List ℕ) → (r, left) ≡ written_as o → VarintEnds r (Zero lent left)
-varint_ends (varint.Done count, xs) lent t r left e = answers count (ap (λ x. x.0) e)
-varint_ends (varint.Refused n p, xs) lent t r left e = refuses n p t.0 (ap (λ x. x.0) e) (ap (λ x. x.1) e ∙ t.1)
+pub varint_ends : (o : Result ℕ Fault × List ℕ) (lent : List ℕ) → Cleared (length lent) o → (r : SillWritten) (left : List ℕ) → (r, left) ≡ written_as o → VarintEnds r (Zero lent left)
+varint_ends (Ok count, xs) lent t r left e = answers count (ap (λ x. x.0) e)
+varint_ends (Err f, xs) lent t r left e = refuses (number_of f.refusal) f.place (number_in_table f.refusal) (ap (λ x. x.0) e) (ap (λ x. x.1) e ∙ t)
 
-pub split_ends : (x : Split) → TabledSplit x → (r : SillSplit) → r ≡ split_struct x → (l c f m a l' c' f' m' a' ls cs fs ms bs : List ℕ)
+pub split_ends : (x : Result Split Fault) → (r : SillSplit) → r ≡ split_struct x → (l c f m a l' c' f' m' a' ls cs fs ms bs : List ℕ)
     → l' ≡ stored_of x (length l) ls → c' ≡ stored_of x (length c) cs → f' ≡ stored_of x (length f) fs → m' ≡ stored_of x (length m) ms → a' ≡ stored_of x (length a) bs
-    → Ends r (λ (d : ℕ × ℕ × ℕ × Bool). split_struct (split.Done d.0 d.1 d.2 d.3)) (λ number place. split_struct (split.Refused number place))
+    → Ends r (λ told. split_struct (Ok told)) (λ number place. record { refusal = number; place = place; locals = 0; cells = 0; frees = 0; present = 0 })
     (Zero l l' × Zero c c' × Zero f f' × Zero m m' × Zero a a')
 unfolding stored_of
-split_ends (split.Done locals cells frees present) t r e l c f m a l' c' f' m' a' ls cs fs ms bs hl hc hf hm ha = answers (locals, cells, frees, present) e
-split_ends (split.Refused n p) t r e l c f m a l' c' f' m' a' ls cs fs ms bs hl hc hf hm ha = refuses n p t e (hl, hc, hf, hm, ha)
+split_ends (Ok told) r e l c f m a l' c' f' m' a' ls cs fs ms bs hl hc hf hm ha = answers told e
+split_ends (Err fault) r e l c f m a l' c' f' m' a' ls cs fs ms bs hl hc hf hm ha =
+    refuses (number_of fault.refusal) fault.place (number_in_table fault.refusal) e (hl, hc, hf, hm, ha)
 
-pub found-ends : (count at : ℕ) (x : Found) → Told count at at x → (r : SillFound) → r ≡ found_struct at x → FoundEnds at r
-found-ends count at (found.Number value next) t r e = answers (some (value, next)) e
-found-ends count at found.Nothing t r e = answers none e
-found-ends count at (found.Refused n p) t r e = refuses n p (told_in_table t.1) e tt
+pub found-ends : (at : ℕ) (x : Reading) → (r : SillFound) → r ≡ found_struct at x → FoundEnds at r
+found-ends at (Ok (Some f)) r e = answers (some (f.value, f.next)) e
+found-ends at (Ok None) r e = answers none e
+found-ends at (Err f) r e = refuses (number_of f.refusal) f.place (number_in_table f.refusal) e tt

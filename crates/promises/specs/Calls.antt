@@ -6,14 +6,13 @@ use denote.Triple.Entry.{Args, Res}
 use denote.Triple.Clauses.{Ended, Lasts, at_exit}
 use Rattle.refusals.specs.Numbers.{accepted}
 use Rattle.grammar.specs.Input.{Bytes}
+use Rattle.grammar.specs.Numbered.{numbered}
 use Rattle.grammar.specs.Reading.{Answer, gives, stops}
 use Rattle.grammar.specs.Answer.{Counts, Outcome}
 use Rattle.grammar.specs.Record.{Tables, tables_of}
 use Rattle.reader.specs.Delivered.{answer_of}
 use Rattle.reader.proofs as reader
 use Rattle.reader.specs.contracts as reader_contracts
-use Rattle.output.specs.declared.Wrote.{Wrote}
-use Rattle.output.specs.declared.Wrote.TheVariants as wrote
 use Rattle.writer.proofs as writer
 use Rattle.writer.specs.contracts as writer_contracts
 use Rattle.sillgarland.specs.declared.values.SillRead.{SillRead}
@@ -109,10 +108,6 @@ sill_read =
     }
 
 -- `serialize_value`
-abbrev pub wrote_as : Wrote → Answer ℕ
-wrote_as (wrote.Done bytes) = gives bytes
-wrote_as (wrote.Refused number place) = stops number place
-
 abbrev pub Serialize : Type 0
 Serialize = Call writer_contracts.serialize_value.ended writer.serialize_value.Reads.Asked writer.serialize_value.Reads.Learnt
 
@@ -124,7 +119,7 @@ serialize_value =
       root = λ c. c.args.1.1.1.1.1.0;
       nesting = λ c. c.args.1.1.1.1.1.1.0;
       room = λ c. length c.args.1.1.1.1.1.1.1.0.now;
-      answer = λ c. wrote_as c.result;
+      answer = λ c. numbered c.result;
       output = λ c. c.last.1.1.1.1.1.1.1.0;
     }
 

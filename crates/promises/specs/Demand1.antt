@@ -1,6 +1,6 @@
 -- Demand 1 of the request, over the calls of every exported function: "For any bytes, stores and limits, each call ends in its answer or a
 -- numbered refusal with a place. A refusal fills every store lent for writing with zero."
-use Rattle.std.specs.Prelude.{◌≡◌, ℕ, ◌-◌, ◌*◌, ◌<◌, ◌≤◌, Bool, List, ◌++◌, length, take, replicate}
+use Rattle.std.specs.Prelude.{◌≡◌, ℕ, ◌-◌, ◌*◌, ◌<◌, ◌≤◌, Bool, List, ◌++◌, length, take, replicate, pos, Ok, Err}
 use Rattle.std.proofs.Math.Option.{Option, none, some}
 use seplogic.Ra.Ura.{Ura}
 use base.Logic.{SProp, ent, emp}
@@ -15,38 +15,22 @@ use Rattle.refusals.specs.Numbers.{accepted, last_number}
 use Rattle.clearing.specs.Lent.{zeros}
 use Rattle.grammar.specs.Reading.{gives, stops}
 use Rattle.grammar.specs.State.{node_width, entry_width}
-use Rattle.keep.specs.Kept.{need, refused_as}
-use Rattle.leaf.specs.declared.Answered.TheVariants as leaf
-use Rattle.nodespan.specs.declared.Answered.TheVariants as span
-use Rattle.linetable.specs.declared.Located.TheVariants as lines
-use Rattle.linetable.specs.Answer.{blank}
-use Rattle.localsplus.specs.declared.Split.TheVariants as split
+use Rattle.keep.specs.Kept.{need}
+use Rattle.linetable.specs.Answer.{tells, blank}
 use Rattle.salvage.specs.Salvage.{Account}
-use Rattle.salvage.specs.Repair.{refused_with, listed}
+use Rattle.salvage.specs.Repair.{listed}
 use Rattle.sources.specs.declared.Counts.{Counts}
-use Rattle.sources.specs.Marks.{counts, told}
 use Rattle.join.specs.Whole as table
 use Rattle.join.specs.Join as joined
-use Rattle.settings.specs.Setting as setting
-use Rattle.editions.specs.Answers as archived
-use Rattle.startindex.specs.Index.{told as told_indexed}
-use Rattle.starts.specs.Questions.{told as told_start}
-use Rattle.varint.specs.declared.Written.TheVariants as varint
-use Rattle.varintread.specs.declared.Found.TheVariants as found
-use Rattle.output.specs.declared.Wrote.TheVariants as wrote
-use Rattle.exceptiontable.specs.declared.Decoded.TheVariants as decoded
-use Rattle.exceptiontable.specs.declared.Encoded.TheVariants as encoded
-use Rattle.totals.specs.declared.Totalled.TheVariants as totalled
-use Rattle.printedtotals.specs.declared.Printed.TheVariants as printed
-use Rattle.sillgarland.specs.Exceptions.{decoded_struct, encoded_struct}
+use Rattle.varintread.specs.Reading.{found, nothing}
+use Rattle.sillgarland.specs.Exceptions.{decoded_struct}
 use Rattle.sillgarland.specs.Joins.{joined_struct, line_struct}
-use Rattle.sillgarland.specs.Nightly.{totalled_struct, printed_struct}
+use Rattle.sillgarland.specs.Nightly.{totalled_struct}
 use Rattle.sillgarland.specs.Leaves.{leaf_struct}
 use Rattle.sillgarland.specs.Locals.{split_struct}
 use Rattle.sillgarland.specs.Locations.{located_struct}
 use Rattle.sillgarland.specs.Reclaiming.{keep_struct}
-use Rattle.sillgarland.specs.Salvage.{salvaged_struct}
-use Rattle.sillgarland.specs.Settingfiles.{setting_struct, rewritten_struct, kept_struct, edition_struct}
+use Rattle.sillgarland.specs.Salvage.{unsalvaged, salvaged_struct}
 use Rattle.sillgarland.specs.Goldenfiles.{moved_struct}
 use Rattle.sillgarland.specs.Sources.{sourced_struct}
 use Rattle.sillgarland.specs.Spans.{span_struct}
@@ -109,57 +93,58 @@ pub record EachCallInModels (f : Ended) (clauses : InModels f) (statement : Type
       (κs : Lfts f.signature.lifetimes) (a : Args f.signature κs) (g : (clauses M 𝓤 𝓛 mem run κs a).ghost) (r : Res f.signature κs) (ws : Lasts f κs a)
       → ent 𝓤 ((clauses M 𝓤 𝓛 mem run κs a).ensures g r (at_exit f κs a ws)) (fact 𝓤 (end κs a r ws))
 
--- the ends of the exports whose answers are alike: of line tables, and of varints that are written
+-- the ends of the exports whose answers are alike: of line tables, and of varints, exception tables and totals that are written
 abbrev pub LocateEnds : SillLocated → Type 0 → Type 0
-LocateEnds r = Ends r (λ (l : ℕ × Bool). located_struct (lines.Done l.0 l.1)) (λ number place. located_struct (lines.Refused number place))
+LocateEnds r = Ends r (λ (l : ℕ × Bool). located_struct (tells l.0 l.1)) (λ number place. located_struct (Err (number, place)))
 
 abbrev pub VarintEnds : SillWritten → Type 0 → Type 0
-VarintEnds r = Ends r (λ count. written_struct (varint.Done count)) (λ number place. written_struct (varint.Refused number place))
+VarintEnds r = Ends r (λ count. written_struct (Ok count)) (λ number place. record { refusal = number; place = place; written = 0 })
 
 -- the end of a reader of varints at a position, where nothing found is an answer
 abbrev pub read_as : ℕ → Option (ℕ × ℕ) → SillFound
-read_as at none = found_struct at found.Nothing
-read_as at (some number) = found_struct at (found.Number number.0 number.1)
+read_as at none = found_struct at nothing
+read_as at (some number) = found_struct at (found number.0 number.1)
 
 abbrev pub FoundEnds : ℕ → SillFound → Type 0
-FoundEnds at r = Ends r (read_as at) (λ number place. found_struct at (found.Refused number place)) Unit
+FoundEnds at r =
+    Ends r (read_as at) (λ number place. record { refusal = number; found = 0; value = 0; pad = 0; place = place; next = at }) Unit
 
 -- the ends of a join, and of the running line of one table, for which no store is lent
 abbrev pub JoinEnds : SillJoined → Type 0 → Type 0
-JoinEnds r = Ends r (λ (d : ℕ × ℕ × ℕ). joined_struct (joined.joins d.0 d.1 d.2)) (λ number place. joined_struct (joined.refused_with number place))
+JoinEnds r = Ends r (λ (d : ℕ × ℕ × ℕ). joined_struct (Ok (joined.joins d.0 d.1 d.2))) (λ number place. record { refusal = number; place = place; written = 0; count = 0; line = pos 0 })
 
 abbrev pub LineEnds : SillLine → Type 0
-LineEnds r = Ends r (λ (d : Bool × ℕ). line_struct (table.told d.0 d.1)) (λ number place. line_struct (table.no_line number place)) Unit
+LineEnds r = Ends r (λ (d : Bool × ℕ). line_struct (Ok (table.told d.0 d.1))) (λ number place. record { refusal = number; place = place; whole = 0; line = pos 0 }) Unit
 
 -- the end of a question about row starts, which is lent nothing for writing
 abbrev pub StartEnds : SillStart → Type 0
-StartEnds r = Ends r (λ value. start_struct (told_start accepted 0 value)) (λ number place. start_struct (told_start number place 0)) Unit
+StartEnds r = Ends r (λ value. start_struct (Ok value)) (λ number place. record { refusal = number; place = place; value = 0 }) Unit
 
 -- the ends over settings files: a part of a file, a file that is written, an archive that is written, a part of an archive
 abbrev pub SettingEnds : SillSetting → Type 0
 SettingEnds r =
-    Ends r (λ (d : ℕ × ℕ × ℕ). setting_struct (record { refusal = accepted; place = 0; file = d.0; start = d.1; size = d.2 })) (λ number place. setting_struct (setting.refused_with number place)) Unit
+    Ends r (λ (d : ℕ × ℕ × ℕ). record { refusal = accepted; place = 0; file = d.0; start = d.1; size = d.2 }) (λ number place. record { refusal = number; place = place; file = 0; start = 0; size = 0 }) Unit
 
 abbrev pub RewriteEnds : SillRewritten → Type 0 → Type 0
-RewriteEnds r = Ends r (λ written. rewritten_struct (record { refusal = accepted; place = 0; written = written })) (λ number place. rewritten_struct (record { refusal = number; place = place; written = 0 }))
+RewriteEnds r = Ends r (λ (written : ℕ). record { refusal = accepted; place = 0; written = written }) (λ number place. record { refusal = number; place = place; written = 0 })
 
 abbrev pub SaveEnds : SillSaved → Type 0 → Type 0
-SaveEnds r = Ends r (λ written. kept_struct (record { refusal = accepted; place = 0; written = written })) (λ number place. kept_struct (record { refusal = number; place = place; written = 0 }))
+SaveEnds r = Ends r (λ (written : ℕ). record { refusal = accepted; place = 0; written = written }) (λ number place. record { refusal = number; place = place; written = 0 })
 
 abbrev pub EditionEnds : SillEdition → Type 0
 EditionEnds r =
-    Ends r (λ (d : ℕ × ℕ). edition_struct (record { refusal = accepted; place = 0; start = d.0; size = d.1 })) (λ number place. edition_struct (archived.refused_with number place)) Unit
+    Ends r (λ (d : ℕ × ℕ). record { refusal = accepted; place = 0; start = d.0; size = d.1 }) (λ number place. record { refusal = number; place = place; start = 0; size = 0 }) Unit
 
 -- the end of a move of a golden file
 abbrev pub MoveEnds : SillMoved → Type 0 → Type 0
-MoveEnds r = Ends r (λ written. moved_struct (record { refusal = accepted; place = 0; written = written })) (λ number place. moved_struct (record { refusal = number; place = place; written = 0 }))
+MoveEnds r = Ends r (λ (written : ℕ). moved_struct (gives written)) (λ number place. moved_struct (stops number place))
 
 -- the end of a move of a node to the front of the stores
 abbrev pub KeepEnds : SillKept → Type 0 → Type 0
 KeepEnds r =
     Ends r
-    (λ (d : ℕ × ℕ × ℕ × ℕ). keep_struct (record { refusal = accepted; place = 0; nodes = d.0; entries = d.1; freenodes = d.2; freeentries = d.3 }))
-    (λ number place. keep_struct (refused_as number place))
+    (λ (d : ℕ × ℕ × ℕ × ℕ). keep_struct (Ok (record { nodes = d.0; entries = d.1; freenodes = d.2; freeentries = d.3 })))
+    (λ number place. record { refusal = number; place = place; nodes = 0; entries = 0; free_nodes = 0; free_entries = 0 })
 
 -- Each export. Arguments and last contents are counted from the left: the third parameter is `.1 .1 .0`.
 pub record Demand1 : Type 2 where
@@ -171,7 +156,7 @@ pub record Demand1 : Type 2 where
   pub sill_write_here :
       EachCall sillgarland_contracts.values.sill_write.ended sillgarland.values.sill_write.Reads.Asked sillgarland.values.sill_write.Reads.Learnt sillgarland.values.sill_write.Statement.statement
       (λ c.
-      Ends c.result (λ count. wrote_struct (wrote.Done count)) (λ number place. wrote_struct (wrote.Refused number place))
+      Ends c.result (λ count. wrote_struct (gives count)) (λ number place. wrote_struct (stops number place))
       (Zero c.args.1.1.1.1.1.1.1.0.now c.last.1.1.1.1.1.1.1.0))
   -- K11's two exemptions: a refused move clears the stack alone, and a refused append clears what is behind the kept part
   pub sill_keep :
@@ -192,10 +177,10 @@ pub record Demand1 : Type 2 where
       × KeptThenZero (c.args.1.1.1.1.1.1.0 * entry_width) c.args.1.1.0.now c.last.1.1.0 × Zero c.args.1.1.1.0.now c.last.1.1.1.0))
   pub sill_leaf :
       EachCall sillgarland_contracts.leaves.sill_leaf.ended sillgarland.leaves.sill_leaf.Reads.Asked sillgarland.leaves.sill_leaf.Reads.Learnt sillgarland.leaves.sill_leaf.Statement.statement
-      (λ c. Ends c.result (λ told. leaf_struct (leaf.Told told)) (λ number place. leaf_struct (leaf.Refused number place)) Unit)
+      (λ c. Ends c.result (λ told. leaf_struct (gives told)) (λ number place. leaf_struct (stops number place)) Unit)
   pub sill_span :
       EachCall sillgarland_contracts.spans.sill_span.ended sillgarland.spans.sill_span.Reads.Asked sillgarland.spans.sill_span.Reads.Learnt sillgarland.spans.sill_span.Statement.statement
-      (λ c. Ends c.result (λ found. span_struct (span.Told found)) (λ number place. span_struct (span.Refused number place)) Unit)
+      (λ c. Ends c.result (λ found. span_struct (gives found)) (λ number place. span_struct (stops number place)) Unit)
   pub sill_locate :
       EachCall sillgarland_contracts.locations.sill_locate.ended sillgarland.locations.sill_locate.Reads.Asked sillgarland.locations.sill_locate.Reads.Learnt sillgarland.locations.sill_locate.Statement.statement
       (λ c. LocateEnds c.result (Zero c.args.1.1.1.0.now c.last.1.1.1.0))
@@ -218,12 +203,12 @@ pub record Demand1 : Type 2 where
   pub sill_salvage :
       EachCall sillgarland_contracts.repairs.sill_salvage.ended sillgarland.repairs.sill_salvage.Reads.Asked sillgarland.repairs.sill_salvage.Reads.Learnt sillgarland.repairs.sill_salvage.Statement.statement
       (λ c.
-      Ends c.result (λ (d : ℕ × Account). salvaged_struct (listed d.0 d.1)) (λ number place. salvaged_struct (refused_with number place))
+      Ends c.result (λ (d : ℕ × Account). salvaged_struct (Ok (listed d.0 d.1))) unsalvaged
       (Zero c.args.1.1.1.0.now c.last.1.1.1.0))
   pub sill_sources :
       EachCall sillgarland_contracts.origins.sill_sources.ended sillgarland.origins.sill_sources.Reads.Asked sillgarland.origins.sill_sources.Reads.Learnt sillgarland.origins.sill_sources.Statement.statement
       (λ c.
-      Ends c.result (λ (d : Counts). sourced_struct (told accepted 0 d)) (λ number place. sourced_struct (told number place (counts 0 0 0 0)))
+      Ends c.result (λ (d : Counts). sourced_struct (Ok d)) (λ number place. record { refusal = number; place = place; from_entries = 0; with_line = 0; with_columns = 0; sure = 0 })
       (Zero c.args.1.1.1.0.now c.last.1.1.1.0))
   pub sill_join :
       EachCall sillgarland_contracts.joins.sill_join.ended sillgarland.joins.sill_join.Reads.Asked sillgarland.joins.sill_join.Reads.Learnt sillgarland.joins.sill_join.Statement.statement
@@ -234,7 +219,7 @@ pub record Demand1 : Type 2 where
   pub sill_index-starts :
       EachCall sillgarland_contracts.rowstarts.sill_index_starts.ended sillgarland.rowstarts.sill_index_starts.Reads.Asked sillgarland.rowstarts.sill_index_starts.Reads.Learnt sillgarland.rowstarts.sill_index_starts.Statement.statement
       (λ c.
-      Ends c.result (λ starts. indexed_struct (told_indexed accepted 0 starts)) (λ number place. indexed_struct (told_indexed number place 0))
+      Ends c.result (λ starts. indexed_struct (Ok starts)) (λ number place. record { refusal = number; place = place; starts = 0 })
       (Zero c.args.1.1.0.now c.last.1.1.0))
   pub sill_starts_before :
       EachCall sillgarland_contracts.rowstarts.sill_starts_before.ended sillgarland.rowstarts.sill_starts_before.Reads.Asked sillgarland.rowstarts.sill_starts_before.Reads.Learnt sillgarland.rowstarts.sill_starts_before.Statement.statement
@@ -267,7 +252,7 @@ pub record Demand1 : Type 2 where
   pub sill_split :
       EachCall sillgarland_contracts.locals.sill_split.ended sillgarland.locals.sill_split.Reads.Asked sillgarland.locals.sill_split.Reads.Learnt sillgarland.locals.sill_split.Statement.statement
       (λ c.
-      Ends c.result (λ (d : ℕ × ℕ × ℕ × Bool). split_struct (split.Done d.0 d.1 d.2 d.3)) (λ number place. split_struct (split.Refused number place))
+      Ends c.result (λ told. split_struct (Ok told)) (λ number place. record { refusal = number; place = place; locals = 0; cells = 0; frees = 0; present = 0 })
       (Zero c.args.1.1.1.1.1.0.now c.last.1.1.1.1.1.0
       × Zero c.args.1.1.1.1.1.1.0.now c.last.1.1.1.1.1.1.0
       × Zero c.args.1.1.1.1.1.1.1.0.now c.last.1.1.1.1.1.1.1.0
@@ -276,28 +261,24 @@ pub record Demand1 : Type 2 where
   pub sill_read_exceptions :
       EachCall sillgarland_contracts.exceptions.sill_read_exceptions.ended sillgarland.exceptions.sill_read_exceptions.Reads.Asked sillgarland.exceptions.sill_read_exceptions.Reads.Learnt sillgarland.exceptions.sill_read_exceptions.Statement.statement
       (λ c.
-      Ends c.result (λ count. decoded_struct (decoded.Done count)) (λ number place. decoded_struct (decoded.Refused number place))
+      Ends c.result (λ count. decoded_struct (Ok count)) (λ number place. record { refusal = number; place = place; count = 0 })
       (Zero c.args.1.0.now c.last.1.0))
   pub sill_write_exceptions :
       EachCall sillgarland_contracts.exceptions.sill_write_exceptions.ended sillgarland.exceptions.sill_write_exceptions.Reads.Asked sillgarland.exceptions.sill_write_exceptions.Reads.Learnt sillgarland.exceptions.sill_write_exceptions.Statement.statement
-      (λ c.
-      Ends c.result (λ count. encoded_struct (encoded.Done count)) (λ number place. encoded_struct (encoded.Refused number place))
-      (Zero c.args.1.0.now c.last.1.0))
+      (λ c. VarintEnds c.result (Zero c.args.1.0.now c.last.1.0))
   pub sill_totals :
       EachCall sillgarland_contracts.nightly.sill_totals.ended sillgarland.nightly.sill_totals.Reads.Asked sillgarland.nightly.sill_totals.Reads.Learnt sillgarland.nightly.sill_totals.Statement.statement
       (λ c.
-      Ends c.result (λ (done : Unit {0}). totalled_struct totalled.Done) (λ number place. totalled_struct (totalled.Refused number place))
+      Ends c.result (λ (done : Unit {0}). totalled_struct (Ok done)) (λ number place. record { refusal = number; place = place })
       (Zero c.args.1.1.0.now c.last.1.1.0))
   pub sill_add-totals :
       EachCall sillgarland_contracts.nightly.sill_add_totals.ended sillgarland.nightly.sill_add_totals.Reads.Asked sillgarland.nightly.sill_add_totals.Reads.Learnt sillgarland.nightly.sill_add_totals.Statement.statement
       (λ c.
-      Ends c.result (λ (done : Unit {0}). totalled_struct totalled.Done) (λ number place. totalled_struct (totalled.Refused number place))
+      Ends c.result (λ (done : Unit {0}). totalled_struct (Ok done)) (λ number place. record { refusal = number; place = place })
       (Zero c.args.1.1.0.now c.last.1.1.0))
   pub sill_print_totals :
       EachCall sillgarland_contracts.nightly.sill_print_totals.ended sillgarland.nightly.sill_print_totals.Reads.Asked sillgarland.nightly.sill_print_totals.Reads.Learnt sillgarland.nightly.sill_print_totals.Statement.statement
-      (λ c.
-      Ends c.result (λ count. printed_struct (printed.Done count)) (λ number place. printed_struct (printed.Refused number place))
-      (Zero c.args.1.0.now c.last.1.0))
+      (λ c. VarintEnds c.result (Zero c.args.1.0.now c.last.1.0))
   pub sill_write_varint :
       EachCall sillgarland_contracts.varints.sill_write_varint.ended sillgarland.varints.sill_write_varint.Reads.Asked sillgarland.varints.sill_write_varint.Reads.Learnt sillgarland.varints.sill_write_varint.Statement.statement
       (λ c. VarintEnds c.result (Zero c.args.0.now c.last.0))

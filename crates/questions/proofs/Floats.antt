@@ -8,8 +8,12 @@ use lib.ListN.{length}
 use lib.Dec.{T, leb, ltb, eqb}
 use lib.Ieee.{binary64, of_bits}
 use lib.Ieee.Bits.{nan_bits_is}
+use Rattle.std.specs.Prelude.{Result, Ok, Err}
 use Rattle.refusals.specs.Limits.{most_bytes}
-use Rattle.grammar.specs.Reading.{Answer}
+use Rattle.refusals.specs.declared.Fault.{Fault}
+use Rattle.grammar.specs.Reading.{Answer, gives, stops}
+use Rattle.grammar.specs.Numbered.{numbered}
+use Rattle.grammar.proofs.Numbered.{numbered_injective}
 use Rattle.grammar.specs.Fields.{le32, le64, not_negative}
 use Rattle.grammar.specs.State.{node_at}
 use Rattle.grammar.specs.Record.{sound_at}
@@ -17,19 +21,18 @@ use Rattle.grammar.specs.Leaf as definition
 use Rattle.grammar.specs.Leaf.{long_of, leaf_as, leaf_of}
 use Rattle.grammar.specs.Input.{Bytes}
 use Rattle.leaf.specs.Answers.{told_of, answered_of}
-use Rattle.leaf.specs.declared.Answered.TheVariants.{Told}
+use Rattle.leaf.specs.declared.Told.{Told}
 use Rattle.leaf.proofs.Patterns.{own_bits}
 use Rattle.leaf.proofs.Floats.{one_float, two_floats}
 use Rattle.meaning.proofs.Sense.{long-below}
 use Rattle.questions.specs.Leaves.{leaf_question}
-use Rattle.questions.specs.Floats.{Stands, FloatsIn, FloatPromise}
-use Rattle.questions.proofs.Leaves.{leaf_exact}
+use Rattle.questions.specs.Floats.{Stands, FloatsOf, FloatsIn, FloatPromise}
 
 bits_stand : (bits : ℕ) → bits < 18446744073709551616 → Stands (of_bits binary64 bits) bits
 bits_stand bits h = record { stands_for = refl; own_bits = λ e. own_bits bits h (subst (λ (b : Bool). T (not b)) (sym (nan_bits_is binary64 bits ∙ e)) tt) }
 
 abbrev Standing : definition.Leaf → Type 0
-Standing l = FloatsIn (Told (told_of l))
+Standing l = FloatsIn (Ok (told_of l))
 
 either : {A : Type 0} (P : A → Type 0) (b : Bool) (x y : A) → P x → P y → P (cond b x y)
 either P true x y p q = p
@@ -55,16 +58,34 @@ leaf_stands s bytes l at =
     (either Standing (eqb l 0x6C) _ _ (long-stands (not_negative (le32 s at)) _)
     tt)))))))))
 
-answer-stands : (s nodes : List ℕ) → Bytes s → (used n : ℕ) → FloatsIn (answered_of (leaf_of s nodes used n))
+-- the same in the documents' words
+abbrev FloatsGiven : Answer Told → Type 0
+FloatsGiven (gives t) = FloatsOf t.leaf t.first t.second
+FloatsGiven (stops number place) = Unit
+
+given : (r : Result Told Fault) → FloatsGiven (numbered r) → FloatsIn r
+given (Ok t) h = h
+given (Err f) h = tt
+
+answer-stands : (s nodes : List ℕ) → Bytes s → (used n : ℕ) → FloatsGiven (answered_of (leaf_of s nodes used n))
 unfolding leaf_of
 answer-stands s nodes bytes used n =
-    let P : Answer definition.Leaf → Type 0 = λ a. FloatsIn (answered_of a) in
+    let P : Answer definition.Leaf → Type 0 = λ a. FloatsGiven (answered_of a) in
     either P (ltb most_bytes (length s)) _ _ tt (either P (sound_at s nodes used n) _ _ (leaf_stands s bytes (node_at nodes n).letter (node_at nodes n).place) tt)
 
 pub float_promise : FloatPromise
 float_promise =
     record {
-      each-float = λ c. subst FloatsIn (sym (leaf_exact c)) (answer-stands (leaf_question.input c) (leaf_question.nodes c) c.bytes (leaf_question.used c) (leaf_question.node c));
-      one_stored = λ c short ok is. leaf_exact c ∙ one_float (leaf_question.input c) (leaf_question.nodes c) (leaf_question.used c) (leaf_question.node c) short ok is;
-      two-stored = λ c short ok is. leaf_exact c ∙ two_floats (leaf_question.input c) (leaf_question.nodes c) (leaf_question.used c) (leaf_question.node c) short ok is;
+      each-float =
+          λ c.
+          given c.call.result
+          (subst FloatsGiven (sym c.call.meets) (answer-stands (leaf_question.input c) (leaf_question.nodes c) c.bytes (leaf_question.used c) (leaf_question.node c)));
+      one_stored =
+          λ c short ok is.
+          numbered_injective c.call.result (Ok _)
+          (c.call.meets ∙ one_float (leaf_question.input c) (leaf_question.nodes c) (leaf_question.used c) (leaf_question.node c) short ok is);
+      two-stored =
+          λ c short ok is.
+          numbered_injective c.call.result (Ok _)
+          (c.call.meets ∙ two_floats (leaf_question.input c) (leaf_question.nodes c) (leaf_question.used c) (leaf_question.node c) short ok is);
     }

@@ -9,9 +9,15 @@ use mathlib.Core.List.{List, [], ◌∷◌}
 use lib.ListN.{length, take, drop}
 use lib.Dec.{eqb}
 use borrow.Author.Tests.{lt-ltb, le-ltb, eqb-true}
+use Rattle.std.specs.Prelude.{Result, Ok}
 use Rattle.refusals.specs.Numbers.{input_too_long, bad_table}
+use Rattle.refusals.specs.Faults.{refused}
+use Rattle.refusals.specs.declared.Fault.{Fault}
+use Rattle.refusals.specs.declared.Refusal.TheVariants.{InputTooLong, BadTable}
 use Rattle.refusals.specs.Limits.{most_bytes}
 use Rattle.grammar.specs.Reading.{Answer, gives, stops}
+use Rattle.grammar.specs.Numbered.{numbered}
+use Rattle.grammar.proofs.Numbered.{numbered_injective}
 use Rattle.grammar.specs.Letters as letter
 use Rattle.grammar.specs.Letters.{Class, refers, keeps, contains, codes, refuses, letters, found, class_of, among}
 use Rattle.grammar.specs.Fields.{le32, le64, not_negative}
@@ -27,8 +33,8 @@ use Rattle.grammar.specs.Input.{Bytes}
 use Rattle.grammar.proofs.Passed.{sound-ruled, sound_at_lem, whole-some, looked_held}
 use Rattle.leaf.specs.Answers as answers
 use Rattle.leaf.specs.Answers.{answered_of}
+use Rattle.leaf.specs.declared.Told.{Told}
 use Rattle.leaf.specs.declared.Leaf.TheVariants.{NotLeaf}
-use Rattle.leaf.specs.declared.Answered.TheVariants.{Told, Refused}
 use Rattle.writing.specs.Canonical.{of_bits, shown_line}
 use Rattle.writing.specs.Shape as shape
 use Rattle.writing.specs.Shape.{Shape, shape_of, eight, field, classed, numbers_at, long_at}
@@ -42,6 +48,7 @@ use Rattle.meaning.proofs.Emits.{InTables}
 use Rattle.meaning.proofs.Inversion.{lettered, class_lettered, field-low}
 use Rattle.meaning.proofs.Sense.{long-below}
 use Rattle.meaning.proofs.AnyStores.{leaf_none, found_is_known}
+use Rattle.sillgarland.specs.Leaves.{leaf_struct}
 use Rattle.promises.specs.Calls.{Reader, Writer, deserialize_value, sill_read, serialize_value, sill_write, on_bytes}
 use Rattle.promises.specs.Demand2.{Demand2}
 use Rattle.questions.specs.Leaves.{told, single_told, told_of, told_for, Question, leaf_question, sill_question, stores_in, node_in, Short, is_sound, leaf_letters, LeafByValue, LeafOfRead}
@@ -234,35 +241,37 @@ module _ (t : Tables) (bytes : Bytes t.input) (small : length t.input ≤ most_b
   leaf_valued : among (node_of t n).letter leaf_letters ≡ true → (v : Value) × (value_of a t n ≡ some v)
   leaf_valued h = let v = leaf_found t bytes n ok b.f b.g proper h in (v.0, b.looks ∙ v.1)
 
--- A question whose every call ends as the definition says.
+-- A question whose every call ends as the definition says: with the one result that has its numbers.
 abbrev pub Exact : Question → Type 0
-Exact Q = (c : Q.Calls) → Q.end c ≡ Q.shown (answered_of (leaf_of (Q.input c) (Q.nodes c) (Q.used c) (Q.node c)))
+Exact Q = (c : Q.Calls) (r : Result Told Fault) → numbered r ≡ answered_of (leaf_of (Q.input c) (Q.nodes c) (Q.used c) (Q.node c)) → Q.end c ≡ Q.shown r
 
 module _ (Q : Question) (exact : Exact Q) where
-  so_answered : (c : Q.Calls) (a : Answer definition.Leaf) → leaf_of (Q.input c) (Q.nodes c) (Q.used c) (Q.node c) ≡ a → Q.end c ≡ Q.shown (answered_of a)
-  so_answered c a e = exact c ∙ ap (λ x. Q.shown (answered_of x)) e
+  so_answered : (c : Q.Calls) (r : Result Told Fault) (a : Answer definition.Leaf) → leaf_of (Q.input c) (Q.nodes c) (Q.used c) (Q.node c) ≡ a
+      → numbered r ≡ answered_of a → Q.end c ≡ Q.shown r
+  so_answered c r a e f = exact c r (f ∙ ap answered_of (sym e))
 
-  sound-answered : (c : Q.Calls) → Short Q c → is_sound Q c ≡ true → Q.end c ≡ Q.shown (Told (answers.told_of (leaf_as (Q.input c) (node_in Q c).letter (node_in Q c).place)))
+  sound-answered : (c : Q.Calls) → Short Q c → is_sound Q c ≡ true → Q.end c ≡ Q.shown (Ok (answers.told_of (leaf_as (Q.input c) (node_in Q c).letter (node_in Q c).place)))
   unfolding leaf_of
   sound-answered c short ok =
-      so_answered c (gives (leaf_as (Q.input c) (node_in Q c).letter (node_in Q c).place)) (rw (le-ltb most_bytes (length (Q.input c)) short, ok) refl)
+      let leaf = leaf_as (Q.input c) (node_in Q c).letter (node_in Q c).place in
+      so_answered c (Ok (answers.told_of leaf)) (gives leaf) (rw (le-ltb most_bytes (length (Q.input c)) short, ok) refl) refl
 
-  bad-answered : (c : Q.Calls) → Short Q c → is_sound Q c ≡ false → Q.end c ≡ Q.shown (Refused bad_table (Q.node c))
+  bad-answered : (c : Q.Calls) → Short Q c → is_sound Q c ≡ false → Q.end c ≡ Q.shown (refused BadTable (Q.node c))
   unfolding leaf_of
-  bad-answered c short bad = so_answered c (stops bad_table (Q.node c)) (rw (le-ltb most_bytes (length (Q.input c)) short, bad) refl)
+  bad-answered c short bad = so_answered c (refused BadTable (Q.node c)) (stops bad_table (Q.node c)) (rw (le-ltb most_bytes (length (Q.input c)) short, bad) refl) refl
 
-  long-answered : (c : Q.Calls) → most_bytes < length (Q.input c) → Q.end c ≡ Q.shown (Refused input_too_long 0)
+  long-answered : (c : Q.Calls) → most_bytes < length (Q.input c) → Q.end c ≡ Q.shown (refused InputTooLong 0)
   unfolding leaf_of
-  long-answered c long = so_answered c (stops input_too_long 0) (rw (lt-ltb most_bytes (length (Q.input c)) long) refl)
+  long-answered c long = so_answered c (refused InputTooLong 0) (stops input_too_long 0) (rw (lt-ltb most_bytes (length (Q.input c)) long) refl) refl
 
   by_value : LeafByValue Q
   by_value =
       record {
         told_of-value =
             λ c short ok entries used_entries a l.
-            sound-answered c short ok ∙ ap (λ x. Q.shown (Told x)) (found-told (stores_in Q c entries used_entries) (Q.bytes c) short (Q.node c) ok a l);
+            sound-answered c short ok ∙ ap (λ x. Q.shown (Ok x)) (found-told (stores_in Q c entries used_entries) (Q.bytes c) short (Q.node c) ok a l);
         leaf_means = λ c short ok h entries used_entries a l. leaf_valued (stores_in Q c entries used_entries) (Q.bytes c) short (Q.node c) ok a l h;
-        other-letter = λ c short ok h. sound-answered c short ok ∙ ap (λ x. Q.shown (Told (answers.told_of x))) (no_other (Q.input c) (node_in Q c).letter (node_in Q c).place h);
+        other-letter = λ c short ok h. sound-answered c short ok ∙ ap (λ x. Q.shown (Ok (answers.told_of x))) (no_other (Q.input c) (node_in Q c).letter (node_in Q c).place h);
         bad_record = bad-answered;
         too_long = long-answered;
       }
@@ -280,13 +289,13 @@ module _ (Q : Question) (exact : Exact Q) where
         let short : Short Q q = subst (λ s. length s ≤ most_bytes) (sym h.input) (small R of_bytes exactly r) in
         let seen = means_seen (InTables t) (Q.node q) v (found_is_known t (Q.bytes q) short a (Q.node q) v means).means in
         let ok = (whole-some t (Q.node q) seen.kids (looked_held t (Q.node q) seen.kids seen.seen.held).linked).0 in
-        by_value.told_of-value q short ok (R.ends r.call).entries r.counts.entries a (omega arith) ∙ ap (λ o. Q.shown (Told (told_for o))) means
+        by_value.told_of-value q short ok (R.ends r.call).entries r.counts.entries a (omega arith) ∙ ap (λ o. Q.shown (Ok (told_for o))) means
 
 pub leaf_exact : Exact leaf_question
-leaf_exact c = c.call.meets
+leaf_exact c r e = numbered_injective c.call.result r (c.call.meets ∙ sym e)
 
 sill_exact : Exact sill_question
-sill_exact c = c.call.meets
+sill_exact c r e = c.call.meets ∙ ap leaf_struct (sym e)
 
 -- of the function that is carried, and of the export
 pub leaf_told : LeafByValue leaf_question × LeafByValue sill_question

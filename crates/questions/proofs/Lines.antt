@@ -13,6 +13,7 @@ use borrow.Author.Tests.{ltb-true}
 use mir.Syntax.{w32}
 use mir.Val.{SFits, of_z}
 use contract.Monad.{fact_mono}
+use Rattle.std.specs.Prelude.{Err}
 use Rattle.refusals.specs.Numbers.{accepted, input_too_long, bad_table}
 use Rattle.refusals.specs.Limits.{most_bytes}
 use Rattle.clearing.specs.Lent.{zeros, padded}
@@ -22,7 +23,6 @@ use Rattle.grammar.specs.Letters.{is_bytes}
 use Rattle.grammar.specs.Fields.{contents}
 use Rattle.grammar.specs.State.{Node, node_at}
 use Rattle.grammar.specs.Record.{sound_at}
-use Rattle.linetable.specs.declared.Located.TheVariants as lines
 use Rattle.linetable.specs.Walk.{Reading, done, refused}
 use Rattle.linetable.specs.Answer.{first_line_of, located, answer, numbers, records_of, locations_of, location_at, blank}
 use Rattle.linetable.specs.Complete.{Complete}
@@ -94,7 +94,7 @@ module _ (s : List ℕ) (z : ℤ) (count room n : ℕ) where
 
 -- a refusal tells nothing of the table, where it is none that can be read
 told-nothing : (Fits : Type 0) → (Fits → ⊥) → (s : List ℕ) (z : ℤ) (count number place : ℕ) (r : SillLocated) (records : List ℕ) → accepted < number
-    → r ≡ located_struct (lines.Refused number place) → Told Fits s z count r records
+    → r ≡ located_struct (Err (number, place)) → Told Fits s z count r records
 told-nothing Fits unfit s z count number place r records t a =
     record {
       from_entries = λ f w. let q : number ≡ 0 = sym (ap (λ y. y.refusal) a) ∙ w in absurd (omega (arith, q));

@@ -13,12 +13,13 @@ use borrow.Author.Tests.{eqb-false}
 use mir.Syntax.{w32}
 use mir.Val.{SFits, of_z}
 use Rattle.clearing.specs.Lent.{zeros, padded}
-use Rattle.lineentry.specs.declared.Varint.TheVariants.{Value}
 use Rattle.lineentry.specs.Line.{as_signed}
-use Rattle.lineentry.specs.Varint.{varint_at, signed_at}
+use Rattle.lineentry.specs.Varint.{read_as, varint_at, signed_at}
 use Rattle.linetable.specs.Answer.{first_line_of}
-use Rattle.varint.specs.declared.Written.{Written}
-use Rattle.varint.specs.declared.Written.TheVariants.{Done, Refused}
+use Rattle.std.specs.Prelude.{Result, Ok, Err}
+use Rattle.refusals.specs.Faults.{refused}
+use Rattle.refusals.specs.declared.Refusal.TheVariants.{NoRoom, NumberRange}
+use Rattle.refusals.specs.declared.Fault.{Fault}
 use Rattle.varint.specs.Writing.{little_endian, signed_code}
 use Rattle.varint.specs.Answers.{stored, stored_signed}
 use Rattle.varint.proofs.ReadsBack.{little_endian-reads_back, signed-reads_back}
@@ -29,32 +30,32 @@ record Wrote (bytes : List ℕ) (count : ℕ) (store : List ℕ) : Type 0 where
   pub many : length bytes ≡ count
   pub front : take count store ≡ bytes
 
-not_done : (number place count : ℕ) → Refused number place ≡ Done count → ⊥
-not_done number place count e = let q : ◌≡◌ {A = ℕ} 0 1 = cc in absurd (omega (arith, q))
+not_done : (why : Fault) (count : ℕ) → ◌≡◌ {A = Result ℕ Fault} (Err why) (Ok count) → ⊥
+not_done why count e = let q : ◌≡◌ {A = ℕ} 0 1 = cc in absurd (omega (arith, q))
 
-wrote : (room : ℕ) (bytes : List ℕ) (count : ℕ) (result : Written) (store : List ℕ) → (result, store) ≡ stored room bytes → result ≡ Done count → Wrote bytes count store
+wrote : (room : ℕ) (bytes : List ℕ) (count : ℕ) (result : Result ℕ Fault) (store : List ℕ) → (result, store) ≡ stored room bytes → result ≡ Ok count → Wrote bytes count store
 unfolding stored padded
 wrote room bytes count result store h d = go (leb (length bytes) room) refl h
   where
     go : (t : Bool) → leb (length bytes) room ≡ t → (result, store) ≡ stored room bytes → Wrote bytes count store
     go true e k =
-        let q : ◌≡◌ {A = Written × List ℕ} (result, store) (Done (length bytes), bytes ++ zeros (room - length bytes)) = rw e at k in
-        let a : Done count ≡ Done (length bytes) = sym d ∙ ap (λ x. x.0) q in
+        let q : ◌≡◌ {A = Result ℕ Fault × List ℕ} (result, store) (Ok (length bytes), bytes ++ zeros (room - length bytes)) = rw e at k in
+        let a : ◌≡◌ {A = Result ℕ Fault} (Ok count) (Ok (length bytes)) = sym d ∙ ap (λ x. x.0) q in
         let n : count ≡ length bytes = cc in
         record { many = sym n; front = rw n (ap (take (length bytes)) (ap (λ x. x.1) q) ∙ take-append_seam bytes (zeros (room - length bytes))) }
     go false e k =
-        let q : ◌≡◌ {A = Written × List ℕ} (result, store) (Refused 17 room, zeros room) = rw e at k in
-        absurd (not_done 17 room count (sym (ap (λ x. x.0) q) ∙ d))
+        let q : ◌≡◌ {A = Result ℕ Fault × List ℕ} (result, store) (refused NoRoom room, zeros room) = rw e at k in
+        absurd (not_done _ count (sym (ap (λ x. x.0) q) ∙ d))
 
-wrote_signed : (room bits count : ℕ) (result : Written) (store : List ℕ) → (result, store) ≡ stored_signed room bits → result ≡ Done count
+wrote_signed : (room bits count : ℕ) (result : Result ℕ Fault) (store : List ℕ) → (result, store) ≡ stored_signed room bits → result ≡ Ok count
     → (bits ≡ 2 ^ 31 → ⊥) × Wrote (little_endian (signed_code bits)) count store
 unfolding stored_signed
 wrote_signed room bits count result store h d = go (eqb bits (2 ^ 31)) refl h
   where
     go : (t : Bool) → eqb bits (2 ^ 31) ≡ t → (result, store) ≡ stored_signed room bits → (bits ≡ 2 ^ 31 → ⊥) × Wrote (little_endian (signed_code bits)) count store
     go true e k =
-        let q : ◌≡◌ {A = Written × List ℕ} (result, store) (Refused 18 0, zeros room) = rw e at k in
-        absurd (not_done 18 0 count (sym (ap (λ x. x.0) q) ∙ d))
+        let q : ◌≡◌ {A = Result ℕ Fault × List ℕ} (result, store) (refused NumberRange 0, zeros room) = rw e at k in
+        absurd (not_done _ count (sym (ap (λ x. x.0) q) ∙ d))
     go false e k = (eqb-false bits (2 ^ 31) e, wrote room (little_endian (signed_code bits)) count result store (rw e at k) d)
 
 bits_fit : (z : ℤ) → SFits w32 z → of_z w32 z < 2 ^ 32
@@ -79,7 +80,7 @@ little_endian-reads_back_in_tables =
           ∙ ap (λ t. varint_at t r.args.1.0) (table_is x at)
           ∙ ap (varint_at (at.before ++ (little_endian w.args.1.0 ++ at.behind))) at.here
           ∙ little_endian-reads_back at.before w.args.1.0 at.behind f
-          ∙ ap (λ p. Value w.args.1.0 p false) (behind_is x at);
+          ∙ ap (λ p. read_as w.args.1.0 p false) (behind_is x at);
       signed =
           λ w r count f d at.
           let bits = of_z w32 w.args.1.0 in
@@ -88,5 +89,5 @@ little_endian-reads_back_in_tables =
           ∙ ap (λ t. signed_at t r.args.1.0) (table_is x.1 at)
           ∙ ap (signed_at (at.before ++ (little_endian (signed_code bits) ++ at.behind))) at.here
           ∙ signed-reads_back at.before bits at.behind (bits_fit w.args.1.0 f) x.0
-          ∙ ap (λ p. Value (as_signed bits) p false) (behind_is x.1 at);
+          ∙ ap (λ p. read_as (as_signed bits) p false) (behind_is x.1 at);
     }

@@ -1,21 +1,22 @@
 -- The leaf question, over its calls, by the value that a node means. 01, 'What is lent and what is kept': "A leaf question names a node and
 -- answers none, a truth value, ellipsis, stop, a 64-bit whole number, one float, two floats, "wide" (a long outside signed 64 bits), or for
 -- every other letter "not a leaf". Floats carry the stored bits." What a value is and what stores mean stands in `meaning`.
-use Rattle.std.specs.Prelude.{◌≡◌, ℕ, ◌≤◌, ◌<◌, Bool, true, false, cond, List, [], ◌∷◌, length, ℤ, pos, neg_ℤ, leb, ltb, eqb}
+use Rattle.std.specs.Prelude.{◌≡◌, ℕ, ◌≤◌, ◌<◌, Bool, true, false, cond, List, [], ◌∷◌, length, ℤ, pos, neg_ℤ, leb, ltb, eqb, Result, Ok}
 use Rattle.std.proofs.Math.Option.{Option, none, some}
 use Rattle.std.specs.Float.{binary64}
 use Rattle.std.specs.Float.Ieee.{of_bits}
-use Rattle.refusals.specs.Numbers.{input_too_long, bad_table}
+use Rattle.refusals.specs.Faults.{refused}
+use Rattle.refusals.specs.declared.Fault.{Fault}
+use Rattle.refusals.specs.declared.Refusal.TheVariants.{InputTooLong, BadTable}
 use Rattle.refusals.specs.Limits.{most_bytes}
 use Rattle.grammar.specs.Letters.{among}
 use Rattle.grammar.specs.State.{Node, node_at}
 use Rattle.grammar.specs.Record.{Tables, sound_at}
 use Rattle.grammar.specs.Input.{Bytes}
+use Rattle.grammar.specs.Numbered.{numbered}
 use Rattle.leaf.specs.declared.Leaf.{Leaf}
 use Rattle.leaf.specs.declared.Leaf.TheVariants.{None, Truth, Ellipsis, Stop, Whole, Float, Complex, Wide, NotLeaf}
 use Rattle.leaf.specs.declared.Told.{Told as LeafTold}
-use Rattle.leaf.specs.declared.Answered.{Answered}
-use Rattle.leaf.specs.declared.Answered.TheVariants.{Told, Refused}
 use Rattle.leaf.proofs as leaf
 use Rattle.leaf.specs.contracts as leaf_contracts
 use Rattle.writing.specs.Canonical.{Integer, bits_of}
@@ -80,7 +81,7 @@ told_for (some v) = told_of v
 -- A leaf question, by its calls: the input, the node store and what is used of it, the node; and the end, as it is shown to the caller.
 pub record Question : Type 1 where
   pub Shown : Type 0
-  pub shown : Answered → Shown
+  pub shown : Result LeafTold Fault → Shown
   pub Calls : Type 0
   pub input : Calls → List ℕ
   pub bytes : (c : Calls) → Bytes (input c)
@@ -89,14 +90,14 @@ pub record Question : Type 1 where
   pub node : Calls → ℕ
   pub end : Calls → Shown
 
--- `leaf_of`, whose answer is the enum
+-- `leaf_of`, whose answer is the result
 abbrev pub AskLeaf : Type 0
 AskLeaf = Call leaf_contracts.leaf_of.ended leaf.leaf_of.Reads.Asked leaf.leaf_of.Reads.Learnt
 
 abbrev pub leaf_question : Question
 leaf_question =
     record {
-      Shown = Answered;
+      Shown = Result LeafTold Fault;
       shown = λ answer. answer;
       Calls = OfBytes AskLeaf (λ c. c.args.0.now);
       input = λ c. c.call.args.0.now;
@@ -115,7 +116,7 @@ abbrev pub sill_question : Question
 sill_question =
     record {
       Shown = SillLeaf;
-      shown = leaf_struct;
+      shown = λ answer. leaf_struct (numbered answer);
       Calls = OfBytes AskSill (λ c. c.args.0.now);
       input = λ c. c.call.args.0.now;
       bytes = λ c. c.bytes;
@@ -148,15 +149,15 @@ leaf_letters = 0x4E ∷ 0x46 ∷ 0x54 ∷ 0x2E ∷ 0x53 ∷ 0x69 ∷ 0x49 ∷ 0x
 pub record LeafByValue (Q : Question) : Type 0 where
   pub told_of-value : (c : Q.Calls) → Short Q c → is_sound Q c ≡ true
       → (entries : List ℕ) (used_entries allowance : ℕ) → 0 < allowance
-      → Q.end c ≡ Q.shown (Told (told_for (value_of allowance (stores_in Q c entries used_entries) (Q.node c))))
+      → Q.end c ≡ Q.shown (Ok (told_for (value_of allowance (stores_in Q c entries used_entries) (Q.node c))))
   -- a leaf's letter means a value whatever stands beside it, and every other letter is no leaf
   pub leaf_means : (c : Q.Calls) → Short Q c → is_sound Q c ≡ true → among (node_in Q c).letter leaf_letters ≡ true
       → (entries : List ℕ) (used_entries allowance : ℕ) → 0 < allowance
       → (v : Value) × (value_of allowance (stores_in Q c entries used_entries) (Q.node c) ≡ some v)
   pub other-letter : (c : Q.Calls) → Short Q c → is_sound Q c ≡ true → among (node_in Q c).letter leaf_letters ≡ false
-      → Q.end c ≡ Q.shown (Told (told NotLeaf 0 0))
-  pub bad_record : (c : Q.Calls) → Short Q c → is_sound Q c ≡ false → Q.end c ≡ Q.shown (Refused bad_table (Q.node c))
-  pub too_long : (c : Q.Calls) → most_bytes < length (Q.input c) → Q.end c ≡ Q.shown (Refused input_too_long 0)
+      → Q.end c ≡ Q.shown (Ok (told NotLeaf 0 0))
+  pub bad_record : (c : Q.Calls) → Short Q c → is_sound Q c ≡ false → Q.end c ≡ Q.shown (refused BadTable (Q.node c))
+  pub too_long : (c : Q.Calls) → most_bytes < length (Q.input c) → Q.end c ≡ Q.shown (refused InputTooLong 0)
 
 -- The call is given what a call of the reader left, its input, its nodes and how many there are, and one of them.
 pub record Handed (R : Reader) (r : NodeRead R) (Q : Question) (q : Q.Calls) : Type 0 where
@@ -167,4 +168,4 @@ pub record Handed (R : Reader) (r : NodeRead R) (Q : Question) (q : Q.Calls) : T
 
 -- Of a node that was read, the answer is what is told of the value that demand 2 writes back.
 abbrev pub LeafOfRead : (R : Reader) → (W : Writer) → Demand2 R W → Question → Type 0
-LeafOfRead R W D Q = (r : NodeRead R) (q : Q.Calls) → Handed R r Q q → Q.end q ≡ Q.shown (Told (told_of (D.value r)))
+LeafOfRead R W D Q = (r : NodeRead R) (q : Q.Calls) → Handed R r Q q → Q.end q ≡ Q.shown (Ok (told_of (D.value r)))

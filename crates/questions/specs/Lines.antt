@@ -20,8 +20,7 @@ use Rattle.grammar.specs.Letters.{is_bytes}
 use Rattle.grammar.specs.Fields.{contents}
 use Rattle.grammar.specs.State.{Node, node_at}
 use Rattle.grammar.specs.Record.{sound_at}
-use Rattle.linetable.specs.declared.Located.TheVariants as lines
-use Rattle.linetable.specs.Answer.{first_line_of, numbers, location_at}
+use Rattle.linetable.specs.Answer.{first_line_of, tells, numbers, location_at}
 use Rattle.linetable.specs.Complete.{Complete}
 use Rattle.linetable.specs.FromEntries.{FromEntries}
 use Rattle.sillgarland.specs.declared.locations.SillLocated.{SillLocated}
@@ -54,7 +53,7 @@ pub record Records (s : List ℕ) (z : ℤ) (count from_entries_here : ℕ) (rec
 pub record Told (Fits : Type 0) (s : List ℕ) (z : ℤ) (count : ℕ) (r : SillLocated) (records : List ℕ) : Type 0 where
   pub from_entries : SFits w32 z → r.refusal ≡ accepted → Records s z count r.from_entries records
   pub told-whole : r.whole ≡ 1 → (r.refusal ≡ accepted) × (r.from_entries ≡ count) × Complete s (first_line_of z) 0 count
-  pub whole_told_lem : Fits → Complete s (first_line_of z) 0 count → r ≡ located_struct (lines.Done count true)
+  pub whole_told_lem : Fits → Complete s (first_line_of z) 0 count → r ≡ located_struct (tells count true)
 
 -- The slice of structs holds the same numbers.
 abbrev pub SameNumbers : ℕ → SillLocated → List ℕ → List Location → Type 0

@@ -1,13 +1,12 @@
 -- Little-endian numbers, over the calls of `varint`'s two writers and of `lineentry`'s two readers: what the one wrote the other reads, wherever
 -- it stands in a table. 01: "Little-endian serves line tables". That a number has 32 bits is what its type says.
-use Rattle.std.specs.Prelude.{◌≡◌, false, List, ◌++◌, ℕ, ◌+◌, ◌^◌, ◌<◌, length, take}
+use Rattle.std.specs.Prelude.{◌≡◌, false, List, ◌++◌, ℕ, ◌+◌, ◌^◌, ◌<◌, length, take, Ok}
 use Rattle.std.specs.Int.{w32}
 use Rattle.std.proofs.Common.{SFits}
-use Rattle.lineentry.specs.declared.Varint.TheVariants.{Value}
+use Rattle.lineentry.specs.Varint.{read_as}
 use Rattle.lineentry.proofs as lineentry
 use Rattle.lineentry.specs.contracts as lineentry_contracts
 use Rattle.linetable.specs.Answer.{first_line_of}
-use Rattle.varint.specs.declared.Written.TheVariants.{Done}
 use Rattle.varint.proofs as varint
 use Rattle.varint.specs.contracts as varint_contracts
 use Rattle.promises.specs.Calls.{Call}
@@ -34,7 +33,7 @@ pub record Stand (bytes table : List ℕ) (place : ℕ) : Type 0 where
 -- Written in so many bytes, a number is read there: itself, the place after it, and no byte missing. A signed one is read as every line step is
 -- kept, plus 2^31.
 pub record ReadsBack : Type 0 where
-  pub unsigned : (w : WriteVarint) (r : ReadVarint) (count : ℕ) → w.args.1.0 < 2 ^ 32 → w.result ≡ Done count
-      → Stand (take count w.last.0) r.args.0.now r.args.1.0 → r.result ≡ Value w.args.1.0 (r.args.1.0 + count) false
-  pub signed : (w : WriteSigned) (r : ReadSigned) (count : ℕ) → SFits w32 w.args.1.0 → w.result ≡ Done count
-      → Stand (take count w.last.0) r.args.0.now r.args.1.0 → r.result ≡ Value (first_line_of w.args.1.0) (r.args.1.0 + count) false
+  pub unsigned : (w : WriteVarint) (r : ReadVarint) (count : ℕ) → w.args.1.0 < 2 ^ 32 → w.result ≡ Ok count
+      → Stand (take count w.last.0) r.args.0.now r.args.1.0 → r.result ≡ read_as w.args.1.0 (r.args.1.0 + count) false
+  pub signed : (w : WriteSigned) (r : ReadSigned) (count : ℕ) → SFits w32 w.args.1.0 → w.result ≡ Ok count
+      → Stand (take count w.last.0) r.args.0.now r.args.1.0 → r.result ≡ read_as (first_line_of w.args.1.0) (r.args.1.0 + count) false

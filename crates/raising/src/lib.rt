@@ -20,32 +20,28 @@ fn raised(stays: u32, kept: u32, n: u32) -> u32
 }
 
 // One node: its first entry is raised, and it names the input.
+// `nodes`, and `entries` and `slots` below, are the stores by index that C lends; there is no heap.
 fn raise_node(nodes: &mut [u32], n: u32, kept: u32, number: u32)
     requires { NodeIn nodes.old n }
     ensures { nodes.new ≡ node_written nodes.old n (relabelled (sum32 nothing kept (node_at nodes.old n).first) number (node_at nodes.old n)) }
 {
     let read = stores::node_at(nodes, n);
     let record = stores::Node {
-        letter: read.letter,
-        place: read.place,
-        size: read.size,
         first: raised(refusals::NOTHING, kept, read.first),
-        count: read.count,
-        end: read.end,
         input: number,
+        ..read
     };
     stores::write_node(nodes, n, record);
 }
 
 // The nodes of a new read.
+// `raise_entries` and `raise_slots` do other things at each turn; a count of records goes with each store, since a slice of nodes or entries would give it as its length divided by their width: no plainer.
 pub fn raise_nodes(nodes: &mut [u32], count: u32, kept: u32, number: u32)
     requires { count * node_width ≤ length nodes.old }
     ensures { NodesRaised nodes.old count kept number nodes.new }
 {
-    let mut i = 0;
-    while i < count {
+    for i in 0..count {
         raise_node(nodes, i, kept, number);
-        i += 1;
     }
 }
 
@@ -66,10 +62,8 @@ pub fn raise_entries(entries: &mut [u32], count: u32, nodes: u32, kept: u32)
     requires { count * entry_width ≤ length entries.old }
     ensures { EntriesRaised entries.old count nodes kept entries.new }
 {
-    let mut i = 0;
-    while i < count {
+    for i in 0..count {
         raise_entry(entries, i, nodes, kept);
-        i += 1;
     }
 }
 
@@ -78,9 +72,7 @@ pub fn raise_slots(slots: &mut [u32], count: u32, nodes: u32)
     requires { count ≤ length slots.old }
     ensures { SlotsRaised slots.old count nodes slots.new }
 {
-    let mut i = 0usize;
-    while i < count as usize {
+    for i in 0..count as usize {
         slots[i] = raised(0, nodes, slots[i]);
-        i += 1;
     }
 }

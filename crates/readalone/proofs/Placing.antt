@@ -15,9 +15,7 @@ use Rattle.grammar.specs.Room.{Rooms, run}
 use Rattle.grammar.specs.State.{State}
 use Rattle.grammar.specs.Answer.{plain, rooms_of, reading, Counts, answered, read_of}
 use Rattle.grammar.proofs.Bounded.{places_in, accepted-within}
-use Rattle.readalone.specs.declared.Alone.{Alone}
-use Rattle.readalone.specs.declared.Alone.TheVariants as variant
-use Rattle.readalone.specs.Alone.{Room, within, placed_from, alone, answer_of, placed_counts, Fitting}
+use Rattle.readalone.specs.Alone.{Room, within, placed_from, alone, placed_counts, Fitting}
 
 -- every answer to a part: a value that ends in it, or a refusal at one of its places
 abbrev pub In : List ℕ → Answer (ℕ × State) → Type 0
@@ -69,7 +67,3 @@ alone-ends R start part size e = go (within R part) (answers_in R part) e
     go : (x : Answer (ℕ × State)) → In part x → placed_from start x ≡ gives size → Ended part size
     go (gives r) w q = let z : r.1.at ≡ size = cc in record { some_bytes = omega (arith, w.1, z); inside = omega (arith, w.0, z); small = w.2 }
     go (stops number place) w q = let z : ◌≡◌ {A = ℕ} 0 1 = cc in absurd (omega arith)
-
--- and so of the call's answer
-pub value-ends : (R : Room) (start : ℕ) (part : List ℕ) {r : Alone} {size : ℕ} → answer_of r ≡ alone R start part → r ≡ variant.Value size → Ended part size
-value-ends R start part {r} {size} e q = alone-ends R start part size (sym e ∙ ap answer_of q)

@@ -4,8 +4,6 @@ use Rattle.std.specs.Prelude.{ℕ, ◌+◌, ◌<◌, List}
 use Rattle.grammar.specs.Reading.{Answer, gives, stops}
 use Rattle.grammar.specs.State.{State}
 use Rattle.grammar.specs.Answer.{Counts, reading}
-use Rattle.readalone.specs.declared.Alone.{Alone}
-use Rattle.readalone.specs.declared.Alone.TheVariants as variant
 
 -- the room that each value has: the lengths of the three stores, and the nesting
 pub record Room : Type 0 where
@@ -28,11 +26,6 @@ placed_from start (stops number place) = stops number (start + place)
 
 unfoldable pub alone : Room → ℕ → List ℕ → Answer ℕ
 alone R start part = placed_from start (within R part)
-
--- each case of the call's answer with its values
-abbrev pub answer_of : Alone → Answer ℕ
-answer_of (variant.Value size) = gives size
-answer_of (variant.Refused number place) = stops number place
 
 -- what the reader's own answer comes to, and that its place then has 32 bits
 abbrev pub placed_counts : ℕ → Answer Counts → Answer ℕ

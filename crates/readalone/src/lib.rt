@@ -4,33 +4,26 @@
 
 ghost use Rattle.std.specs.Prelude.{◌≡◌, ◌≤◌, length};
 ghost use Rattle.clearing.specs.Lent.{zeros};
+ghost use Rattle.grammar.specs.Numbered.{numbered};
 ghost use Rattle.reader.specs.Delivered;
-ghost use Rattle.readalone.specs.Alone.{lent, alone, answer_of, Fitting, placed_counts};
+ghost use Rattle.readalone.specs.Alone.{lent, alone, Fitting, placed_counts};
 
-// How many bytes a value takes; or a refusal's number and its place in the file.
-#[derive(Clone, Copy)]
-pub enum Alone {
-    Value(u32),
-    Refused(u32, u32),
-}
+use refusals::Fault;
 
-// The reader's answer, with its place in the file.
-fn placed(answer: reader::Outcome, start: u32) -> Alone
+// The reader's answer, with its place in the file: how many bytes the value takes.
+fn placed(answer: Result<reader::Read, Fault>, start: u32) -> Result<u32, Fault>
     requires { Fitting start (Delivered.answer_of answer) }
-    ensures { answer_of result ≡ placed_counts start (Delivered.answer_of answer) }
+    ensures { numbered result ≡ placed_counts start (Delivered.answer_of answer) }
 {
     match answer {
-        reader::Outcome::Read {
-            consumed,
-            nodes: _,
-            entries: _,
-            slots: _,
-        } => Alone::Value(consumed),
-        reader::Outcome::Refused(number, place) => Alone::Refused(number, start + place),
+        Ok(read) => Ok(read.consumed),
+        Err(fault) => Err(fault.refusal.at(start + fault.place)),
     }
 }
 
-// The value at the front of a part that starts at a place of the file.
+// The value at the front of a part that starts at a place of the file: how many bytes it takes.
+// The three stores stand one by one: in a struct behind a `&mut`, that each store of the caller who lends them is zero afterwards stayed open,
+// and a struct of them by value the borrow checker does not cover.
 pub fn read_alone(
     part: &[u8],
     start: u32,
@@ -38,9 +31,9 @@ pub fn read_alone(
     entries: &mut [u32],
     slots: &mut [u32],
     nesting: u32,
-) -> Alone
+) -> Result<u32, Fault>
     requires { start ≤ 16777216 }
-    ensures { (answer_of result ≡ alone (lent (length nodes.old) (length entries.old) (length slots.old) nesting) start part.now)
+    ensures { (numbered result ≡ alone (lent (length nodes.old) (length entries.old) (length slots.old) nesting) start part.now)
         × (nodes.new ≡ zeros (length nodes.old)) × (entries.new ≡ zeros (length entries.old)) × (slots.new ≡ zeros (length slots.old)) }
 {
     let answer = reader::deserialize_value(part, nodes, entries, slots, nesting);

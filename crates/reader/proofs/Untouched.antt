@@ -19,7 +19,9 @@ use Rattle.grammar.specs.State.{start, node_capacity}
 use Rattle.grammar.specs.Steps.{Front, stored, reference, reserving, opened, header, front, after, one, value}
 use Rattle.grammar.specs.Answer.{plain, rooms_of, reading, read_of}
 use Rattle.readsteps.proofs.Runs.{onto, run_bind, run-reads}
-use Rattle.reader.specs.declared.Outcome.{Outcome}
+use Rattle.std.specs.Prelude.{Result}
+use Rattle.refusals.specs.declared.Fault.{Fault}
+use Rattle.reader.specs.declared.Read.{Read}
 use Rattle.reader.specs.Delivered.{Delivers}
 
 -- a reading that gives something
@@ -100,7 +102,7 @@ differ zero h e = omega arith
 differ (suc n) h e = let z : ◌≡◌ {A = ℕ} 0 1 = ap (λ l. get_or l 0 0) e in absurd (omega arith)
 
 -- Whatever it answers: for an accepted input no reader delivers what is asked, for all stores of these lengths, and leaves each as lent.
-pub untouched_fails : (s : List ℕ) (n e k nesting : ℕ) → Given (reading s n e k nesting) → (answer : (ns es ss : List ℕ) → Outcome)
+pub untouched_fails : (s : List ℕ) (n e k nesting : ℕ) → Given (reading s n e k nesting) → (answer : (ns es ss : List ℕ) → Result Read Fault)
     → ((ns es ss : List ℕ) → length ns ≡ n → length es ≡ e → length ss ≡ k → Delivers (read_of s n e k nesting) (answer ns es ss) ns es ss) → ⊥
 untouched_fails s n e k nesting given answer meets =
     let some : 0 < n = omega (arith, accepted-claims s n e k nesting given) in

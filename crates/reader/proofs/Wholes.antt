@@ -7,7 +7,10 @@ use native.Mathlib.Omega.{arith}
 use mathlib.Core.List.{List, []}
 use lib.ListN.{length, length-replicate}
 use borrow.Author.Tests.{lt-ltb, le-ltb}
-use Rattle.refusals.specs.Numbers.{input_too_long}
+use Rattle.std.specs.Prelude.{Result, Ok, Err}
+use Rattle.refusals.specs.Faults.{number_of, fault}
+use Rattle.refusals.specs.declared.Refusal.TheVariants.{InputTooLong}
+use Rattle.refusals.specs.declared.Fault.{Fault}
 use Rattle.refusals.specs.Limits.{most_bytes, most_nesting}
 use Rattle.clearing.specs.Lent.{zeros, padded}
 use Rattle.clearing.proofs.Laws.{padded_none}
@@ -20,9 +23,7 @@ use Rattle.stores.specs.Written.{Keeps}
 use Rattle.readsteps.specs.declared.Room.{Room}
 use Rattle.readsteps.specs.declared.Walk.{Walk}
 use Rattle.readsteps.specs.declared.Step.{Step}
-use Rattle.readsteps.specs.declared.Step.TheVariants as step
 use Rattle.readsteps.specs.Held.{rooms, Holds}
-use Rattle.reader.specs.declared.Outcome.TheVariants as outcome
 use Rattle.reader.specs.Delivered.{Delivers}
 use Rattle.readleaves.specs.Readings.{ReadsValue, Agrees}
 
@@ -35,13 +36,13 @@ begin = record { at = 0; nodes = 0; entries = 0; slots = 0 }
 
 module _ (s : List ℕ) (n e k nesting : ℕ) where
   pub whole_long : {ns es ss : List ℕ} → most_bytes < length s → ns ≡ zeros n → es ≡ zeros e → ss ≡ zeros k
-      → Delivers (read_of s n e k nesting) (outcome.Refused input_too_long 0) ns es ss
+      → {failed : Fault} → failed ≡ fault InputTooLong 0 → Delivers (read_of s n e k nesting) (Err failed) ns es ss
   unfolding read_of reading
-  whole_long h a b c = rw (lt-ltb most_bytes (length s) h) (record { answer = refl; nodes = a; entries = b; slots = c })
+  whole_long h a b c told = rw (told, lt-ltb most_bytes (length s) h) (record { answer = refl; nodes = a; entries = b; slots = c })
 
   module _ (short : length s ≤ most_bytes) {ns₀ es₀ ss₀ : List ℕ} (zn : ns₀ ≡ zeros n) (ze : es₀ ≡ zeros e) (zs : ss₀ ≡ zeros k)
       {room : Room} {allowance : ℕ} (rn : room.nodes ≡ node_capacity (length ns₀)) (re : room.entries ≡ entry_capacity (length es₀)) (rs : room.slots ≡ slot_capacity (length ss₀)) (ra : allowance ≡ min nesting most_nesting)
-      {r : Step} {ns' es' ss' : List ℕ} (rv : ReadsValue s room allowance begin ns₀ es₀ ss₀ r ns' es' ss') where
+      {r : Result Step Fault} {ns' es' ss' : List ℕ} (rv : ReadsValue s room allowance begin ns₀ es₀ ss₀ r ns' es' ss') where
     rooms_are : rooms room (0 + allowance) ≡ rooms_of n e k nesting
     rooms_are =
         let ln : length ns₀ ≡ n = ap length zn ∙ length-replicate n 0 in
@@ -71,18 +72,18 @@ module _ (s : List ℕ) (n e k nesting : ℕ) where
         rw (le-ltb most_bytes (length s) short)
         (subst (λ R. Agrees r ns' es' ss' (run R (value (length s) s 0 start))) rooms_are (rv.exact (length s) 0 start starts (omega arith)))
 
-    pub whole-refused : {m p : ℕ} {ns es ss : List ℕ} → r ≡ step.Refused m p → ns ≡ zeros n → es ≡ zeros e → ss ≡ zeros k
-        → Delivers (read_of s n e k nesting) (outcome.Refused m p) ns es ss
+    pub whole-refused : {failed : Fault} {ns es ss : List ℕ} → r ≡ Err failed → ns ≡ zeros n → es ≡ zeros e → ss ≡ zeros k
+        → Delivers (read_of s n e k nesting) (Err failed) ns es ss
     unfolding read_of
-    whole-refused {m} {p} is a b c =
-        let x : reading s n e k nesting ≡ stops m p = subst (λ r. Agrees r ns' es' ss' (reading s n e k nesting)) is agrees in
+    whole-refused {failed} is a b c =
+        let x : reading s n e k nesting ≡ stops (number_of failed.refusal) failed.place = subst (λ r. Agrees r ns' es' ss' (reading s n e k nesting)) is agrees in
         rw x (record { answer = refl; nodes = a; entries = b; slots = c })
 
-    pub whole-read : {v : ℕ} {w : Walk} → r ≡ step.Value v w → length ns' ≡ length ns₀ → length es' ≡ length es₀ → length ss' ≡ length ss₀
-        → Delivers (read_of s n e k nesting) (outcome.Read w.at w.nodes w.entries w.slots) ns' es' ss'
+    pub whole-read : {given : Step} → r ≡ Ok given → length ns' ≡ length ns₀ → length es' ≡ length es₀ → length ss' ≡ length ss₀
+        → Delivers (read_of s n e k nesting) (Ok (record { consumed = given.walk.at; nodes = given.walk.nodes; entries = given.walk.entries; slots = given.walk.slots })) ns' es' ss'
     unfolding read_of
-    whole-read {v} {w} is a b c =
-        let x : Agrees (step.Value v w) ns' es' ss' (reading s n e k nesting) = subst (λ r. Agrees r ns' es' ss' (reading s n e k nesting)) is agrees in
+    whole-read {given} is a b c =
+        let x : Agrees (Ok given) ns' es' ss' (reading s n e k nesting) = subst (λ r. Agrees r ns' es' ss' (reading s n e k nesting)) is agrees in
         let h = x.2 in
         rw x.1
         (record {

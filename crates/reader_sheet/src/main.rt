@@ -3,34 +3,28 @@
 #![tactic(auto)]
 
 use printing::{say, say_field, say_refused, say_store};
-use reader::Outcome;
+use reader::Read;
+use refusals::Fault;
 use std::io::{self, BufWriter, Write};
 
-fn say_answer(out: &mut impl Write, answer: Outcome) -> io::Result<()> {
+fn say_answer(out: &mut impl Write, answer: Result<Read, Fault>) -> io::Result<()> {
     match answer {
-        Outcome::Read {
-            consumed,
-            nodes,
-            entries,
-            slots,
-        } => {
+        Ok(read) => {
             say(out, b"  read: consumed")?;
-            say_field(out, consumed)?;
+            say_field(out, read.consumed)?;
             say(out, b", nodes")?;
-            say_field(out, nodes)?;
+            say_field(out, read.nodes)?;
             say(out, b", entries")?;
-            say_field(out, entries)?;
+            say_field(out, read.entries)?;
             say(out, b", slots")?;
-            say_field(out, slots)?;
-            say(out, b"\n")?;
+            say_field(out, read.slots)?;
         }
-        Outcome::Refused(number, place) => {
+        Err(fault) => {
             say(out, b"  ")?;
-            say_refused(out, number, place)?;
-            say(out, b"\n")?;
+            say_refused(out, fault.refusal.number(), fault.place)?;
         }
     }
-    Ok(())
+    say(out, b"\n")
 }
 
 // One reading into stores that are lent.

@@ -5,13 +5,14 @@ use Prim.Native.Nat.{ℕ, ◌+◌, ◌-◌, ◌≤◌}
 use native.Mathlib.Omega.{arith}
 use mathlib.Core.List.{List}
 use lib.ListN.{length}
+use Rattle.std.specs.Prelude.{Result, Ok, Err}
+use Rattle.refusals.specs.Faults.{number_of}
+use Rattle.refusals.specs.declared.Fault.{Fault}
 use Rattle.grammar.specs.Reading.{done, refused}
 use Rattle.grammar.specs.Room.{run}
 use Rattle.grammar.specs.Steps.{Chain}
 use Rattle.readsteps.specs.declared.Room.{Room}
 use Rattle.readsteps.specs.declared.Line.{Line}
-use Rattle.readsteps.specs.declared.Linked.{Linked}
-use Rattle.readsteps.specs.declared.Linked.TheVariants as linked
 use Rattle.readsteps.specs.Held.{rooms, Safe, Moved, LineIn, HoldsChain}
 use Rattle.readsteps.proofs.Runs.{bind-gives, bind_stops}
 use Rattle.readleaves.specs.Readings.{ChainReader, Lists, AgreesChain, LinkedMoved}
@@ -41,7 +42,7 @@ module _ {whole rest : ChainReader} {s : List ℕ} {room : Room} {allowance : �
   -- nothing is left to be read, and the line may be changed as the chain is
   pub inv-done : Inv whole rest s room allowance line₀ ns₀ es₀ ss₀ ns es ss line → (m : Line) → Moved 0 s room line.walk m.walk → LineIn m → (f : Chain → Chain)
       → ((fuel depth : ℕ) (c : Chain) → HoldsChain line ns es ss c → (rest fuel depth c ≡ done (f c)) × HoldsChain m ns es ss (f c))
-      → Lists whole 0 s room allowance line₀ ns₀ es₀ ss₀ (linked.Line m) ns es ss
+      → Lists whole 0 s room allowance line₀ ns₀ es₀ ss₀ (Ok m) ns es ss
   unfolding run
   inv-done inv m mv li f e =
       record {
@@ -54,30 +55,30 @@ module _ {whole rest : ChainReader} {s : List ℕ} {room : Room} {allowance : �
 
   -- nothing is left to be read
   pub inv_end : Inv whole rest s room allowance line₀ ns₀ es₀ ss₀ ns es ss line → ((fuel depth : ℕ) (c : Chain) → HoldsChain line ns es ss c → rest fuel depth c ≡ done c)
-      → Lists whole 0 s room allowance line₀ ns₀ es₀ ss₀ (linked.Line line) ns es ss
+      → Lists whole 0 s room allowance line₀ ns₀ es₀ ss₀ (Ok line) ns es ss
   inv_end inv e = inv-done inv line (omega (arith, inv.stands.moved)) inv.stands.line_in (λ c. c) (λ fuel depth c h. (e fuel depth c h, h))
 
-  pub inv-refused : Inv whole rest s room allowance line₀ ns₀ es₀ ss₀ ns es ss line → (n p : ℕ) (ns' es' ss' : List ℕ)
-      → ((fuel depth : ℕ) (c : Chain) → HoldsChain line ns es ss c → rest fuel depth c ≡ refused n p)
-      → Lists whole 0 s room allowance line₀ ns₀ es₀ ss₀ (linked.Refused n p) ns' es' ss'
+  pub inv-refused : Inv whole rest s room allowance line₀ ns₀ es₀ ss₀ ns es ss line → (failed : Fault) (ns' es' ss' : List ℕ)
+      → ((fuel depth : ℕ) (c : Chain) → HoldsChain line ns es ss c → rest fuel depth c ≡ refused (number_of failed.refusal) failed.place)
+      → Lists whole 0 s room allowance line₀ ns₀ es₀ ss₀ (Err failed) ns' es' ss'
   unfolding run
-  inv-refused inv n p ns' es' ss' e =
+  inv-refused inv failed ns' es' ss' e =
       record { moved = tt; exact = λ fuel depth c₀ h l. let x = inv.exact fuel depth c₀ h l in x.2 ∙ ap (run (rooms room (depth + allowance))) (e fuel depth x.0 x.1) }
 
 -- a reader F of the loop's body is called, and G is what is read after it
-module _ (F G : ChainReader) {whole : ChainReader} {least : ℕ} {s : List ℕ} {room : Room} {allowance : ℕ} {line₀ : Line} {ns₀ es₀ ss₀ ns es ss ns' es' ss' : List ℕ} {line : Line} {r : Linked} where
-  pub inv-cut : Inv whole (Then F G) s room allowance line₀ ns₀ es₀ ss₀ ns es ss line → Lists F least s room allowance line ns es ss r ns' es' ss' → {n p : ℕ} → r ≡ linked.Refused n p
-      → Lists whole 0 s room allowance line₀ ns₀ es₀ ss₀ (linked.Refused n p) ns' es' ss'
-  inv-cut inv f {n} {p} is =
+module _ (F G : ChainReader) {whole : ChainReader} {least : ℕ} {s : List ℕ} {room : Room} {allowance : ℕ} {line₀ : Line} {ns₀ es₀ ss₀ ns es ss ns' es' ss' : List ℕ} {line : Line} {r : Result Line Fault} where
+  pub inv-cut : Inv whole (Then F G) s room allowance line₀ ns₀ es₀ ss₀ ns es ss line → Lists F least s room allowance line ns es ss r ns' es' ss' → {failed : Fault} → r ≡ Err failed
+      → Lists whole 0 s room allowance line₀ ns₀ es₀ ss₀ (Err failed) ns' es' ss'
+  inv-cut inv f {failed} is =
       record {
         moved = tt;
         exact = λ fuel depth c₀ h l.
             let x = inv.exact fuel depth c₀ h l in
             let y = subst (λ q. AgreesChain q ns' es' ss' (run (rooms room (depth + allowance)) (F fuel depth x.0))) is (f.exact fuel depth x.0 x.1 (omega (arith, inv.stands.moved))) in
-            x.2 ∙ bind_stops (rooms room (depth + allowance)) (F fuel depth x.0) (G fuel depth) n p y;
+            x.2 ∙ bind_stops (rooms room (depth + allowance)) (F fuel depth x.0) (G fuel depth) (number_of failed.refusal) failed.place y;
       }
 
-  pub inv_more : Inv whole (Then F G) s room allowance line₀ ns₀ es₀ ss₀ ns es ss line → Lists F least s room allowance line ns es ss r ns' es' ss' → {m : Line} → r ≡ linked.Line m
+  pub inv_more : Inv whole (Then F G) s room allowance line₀ ns₀ es₀ ss₀ ns es ss line → Lists F least s room allowance line ns es ss r ns' es' ss' → {m : Line} → r ≡ Ok m
       → length ns' ≡ length ns → length es' ≡ length es → length ss' ≡ length ss → Inv whole G s room allowance line₀ ns₀ es₀ ss₀ ns' es' ss' m
   inv_more inv f {m} is ln le ls =
       let mv = subst (λ q. LinkedMoved least s room line.walk q) is f.moved in
@@ -91,12 +92,12 @@ module _ (F G : ChainReader) {whole : ChainReader} {least : ℕ} {s : List ℕ} 
         };
         exact = λ fuel depth c₀ h l.
             let x = inv.exact fuel depth c₀ h l in
-            let y : AgreesChain (linked.Line m) ns' es' ss' (run (rooms room (depth + allowance)) (F fuel depth x.0)) = subst (λ q. AgreesChain q ns' es' ss' (run (rooms room (depth + allowance)) (F fuel depth x.0))) is (f.exact fuel depth x.0 x.1 (omega (arith, inv.stands.moved))) in
+            let y : AgreesChain (Ok m) ns' es' ss' (run (rooms room (depth + allowance)) (F fuel depth x.0)) = subst (λ q. AgreesChain q ns' es' ss' (run (rooms room (depth + allowance)) (F fuel depth x.0))) is (f.exact fuel depth x.0 x.1 (omega (arith, inv.stands.moved))) in
             (y.0, y.2, x.2 ∙ bind-gives (rooms room (depth + allowance)) (F fuel depth x.0) (G fuel depth) y.0 y.1);
       }
 
 -- a reader at a greater depth, with the allowance less by as much
-pub lists-inside : {F : ChainReader} {least : ℕ} {s : List ℕ} {room : Room} (allowance k : ℕ) {line : Line} {ns es ss ns' es' ss' : List ℕ} {r : Linked} → Lists F least s room (allowance - k) line ns es ss r ns' es' ss' → k ≤ allowance
+pub lists-inside : {F : ChainReader} {least : ℕ} {s : List ℕ} {room : Room} (allowance k : ℕ) {line : Line} {ns es ss ns' es' ss' : List ℕ} {r : Result Line Fault} → Lists F least s room (allowance - k) line ns es ss r ns' es' ss' → k ≤ allowance
     → (G : ChainReader) → ((fuel depth : ℕ) (c : Chain) → F fuel (depth + k) c ≡ G fuel depth c) → Lists G least s room allowance line ns es ss r ns' es' ss'
 lists-inside {F} {least} {s} {room} allowance k {line} {ns} {es} {ss} {ns'} {es'} {ss'} {r} f le G e =
     record {

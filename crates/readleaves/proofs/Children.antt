@@ -9,7 +9,11 @@ use mathlib.Core.List.{List}
 use lib.ListN.{length}
 use lib.Dec.{ltb}
 use borrow.Author.Tests.{ltb-true, ltb-false}
-use Rattle.refusals.specs.Numbers.{bad_type, no_entry}
+use Rattle.std.specs.Prelude.{Result, Ok, Err}
+use Rattle.refusals.specs.Faults.{number_of, fault}
+use Rattle.refusals.specs.declared.Refusal.TheVariants.{BadType, NoEntry}
+use Rattle.refusals.specs.declared.Fault.{Fault}
+use Rattle.refusals.specs.Numbers.{bad_type}
 use Rattle.refusals.specs.Limits.{nothing, most_records}
 use Rattle.grammar.specs.Reading.{done, refused, claim, entry}
 use Rattle.grammar.specs.Room.{run}
@@ -19,9 +23,6 @@ use Rattle.readsteps.specs.declared.Room.{Room}
 use Rattle.readsteps.specs.declared.Walk.{Walk}
 use Rattle.readsteps.specs.declared.Line.{Line}
 use Rattle.readsteps.specs.declared.Step.{Step}
-use Rattle.readsteps.specs.declared.Step.TheVariants as step
-use Rattle.readsteps.specs.declared.Linked.{Linked}
-use Rattle.readsteps.specs.declared.Linked.TheVariants as linked
 use Rattle.readsteps.specs.Held.{rooms, Safe, Moved, Holds, HoldsChain, LastIn, LineIn}
 use Rattle.readsteps.specs.Linking.{rule_of, suits_in, line_next, entries_next, Attaches}
 use Rattle.readsteps.proofs.Links.{attach-entries}
@@ -29,21 +30,21 @@ use Rattle.readsteps.proofs.Runs.{bind-gives, bind_stops, claim-fits, claim_fail
 use Rattle.readsteps.proofs.States.{chain_next, suits_held}
 use Rattle.readleaves.specs.Readings.{ReadsValue, Lists, ReadsChild, Counted, child_of, Agrees, StepMoved}
 
-module _ {s : List ℕ} {room : Room} {allowance : ℕ} {line : Line} {ns es ss ns' es' ss' : List ℕ} {c : Step} (safe : Safe s room line.walk ns es ss) (li : LineIn line) (rv : ReadsValue s room allowance line.walk ns es ss c ns' es' ss') where
-  pub child-cut : {rule n p : ℕ} → c ≡ step.Refused n p → ReadsChild rule s room allowance line ns es ss (linked.Refused n p) ns' es' ss'
+module _ {s : List ℕ} {room : Room} {allowance : ℕ} {line : Line} {ns es ss ns' es' ss' : List ℕ} {c : Result Step Fault} (safe : Safe s room line.walk ns es ss) (li : LineIn line) (rv : ReadsValue s room allowance line.walk ns es ss c ns' es' ss') where
+  pub child-cut : {rule : ℕ} {failed : Fault} → c ≡ Err failed → ReadsChild rule s room allowance line ns es ss (Err failed) ns' es' ss'
   unfolding child
-  child-cut {rule} {n} {p} is =
+  child-cut {rule} {failed} is =
       record {
         counted = tt;
         lists = record {
           moved = tt;
           exact = λ fuel depth x h l.
-              bind_stops (rooms room (depth + allowance)) (value fuel s depth x.st) _ n p
+              bind_stops (rooms room (depth + allowance)) (value fuel s depth x.st) _ (number_of failed.refusal) failed.place
               (subst (λ q. Agrees q ns' es' ss' (run (rooms room (depth + allowance)) (value fuel s depth x.st))) is (rv.exact fuel depth x.st h.walk l));
         };
       }
 
-  module _ {v : ℕ} {a : Walk} (is : c ≡ step.Value v a) where
+  module _ {v : ℕ} {a : Walk} (is : c ≡ Ok (record { node = v; walk = a })) where
     mv : Moved 1 s room line.walk a
     mv = subst (StepMoved s room line.walk) is rv.moved
 
@@ -59,7 +60,7 @@ module _ {s : List ℕ} {room : Room} {allowance : ℕ} {line : Line} {ns es ss 
           ≡ run (rooms room (depth + allowance)) (cond t (claim entry (a.entries + 1) line.walk.at (done (attach x v st))) (refused bad_type line.walk.at)))
       unfolding child
       child_at fuel depth x h l =
-          let y : Agrees (step.Value v a) ns' es' ss' (run (rooms room (depth + allowance)) (value fuel s depth x.st)) =
+          let y : Agrees (Ok (record { node = v; walk = a })) ns' es' ss' (run (rooms room (depth + allowance)) (value fuel s depth x.st)) =
           subst (λ q. Agrees q ns' es' ss' (run (rooms room (depth + allowance)) (value fuel s depth x.st))) is (rv.exact fuel depth x.st h.walk l) in (
             y.0,
             y.2,
@@ -77,7 +78,7 @@ module _ {s : List ℕ} {room : Room} {allowance : ℕ} {line : Line} {ns es ss 
           y.2 ∙ ap (λ b. run (rooms room (depth + allowance)) (cond b (claim entry (a.entries + 1) line.walk.at (done (attach x v y.0))) (refused bad_type line.walk.at))) u
 
       child-attached : t ≡ true → (es'' : List ℕ) → length es' ≡ length es → (a.entries < room.entries → es'' ≡ entries_next es' line v a) → (b : Bool) → ltb a.entries room.entries ≡ b
-          → Lists (child_of s rule) 1 s room allowance line ns es ss (cond b (linked.Line (line_next line v a)) (linked.Refused no_entry line.walk.at)) ns' es'' ss'
+          → Lists (child_of s rule) 1 s room allowance line ns es ss (cond b (Ok (line_next line v a)) (Err (fault NoEntry line.walk.at))) ns' es'' ss'
       child-attached u es'' le kept true e =
           let lt : a.entries < room.entries = ltb-true a.entries room.entries e in
           record {
@@ -100,12 +101,12 @@ module _ {s : List ℕ} {room : Room} {allowance : ℕ} {line : Line} {ns es ss 
                 child-claims u fuel depth x h l ∙ claim_fails (rooms room (depth + allowance)) entry (a.entries + 1) line.walk.at _ (omega (arith, ge));
           }
 
-    attach-counted : (b : Bool) → Counted line (cond b (linked.Line (line_next line v a)) (linked.Refused no_entry line.walk.at))
+    attach-counted : (b : Bool) → Counted line (cond b (Ok (line_next line v a)) (Err (fault NoEntry line.walk.at)))
     attach-counted true = refl
     attach-counted false = tt
 
     module _ {rule : ℕ} {t : Bool} (test : t ≡ suits_in (rule_of rule) ns' es' v) where
-      pub child_unfit : t ≡ false → ReadsChild rule s room allowance line ns es ss (linked.Refused bad_type line.walk.at) ns' es' ss'
+      pub child_unfit : t ≡ false → ReadsChild rule s room allowance line ns es ss (Err (fault BadType line.walk.at)) ns' es' ss'
       unfolding run
       child_unfit u =
           record {
@@ -118,7 +119,7 @@ module _ {s : List ℕ} {room : Room} {allowance : ℕ} {line : Line} {ns es ss 
             };
           }
 
-      pub child-linked : t ≡ true → {es'' : List ℕ} {r : Linked} → length es' ≡ length es → Attaches room.entries line line.walk.at v a es' r es''
+      pub child-linked : t ≡ true → {es'' : List ℕ} {r : Result Line Fault} → length es' ≡ length es → Attaches room.entries line line.walk.at v a es' r es''
           → ReadsChild rule s room allowance line ns es ss r ns' es'' ss'
       child-linked u {es''} {r} le at =
           record {
@@ -128,8 +129,8 @@ module _ {s : List ℕ} {room : Room} {allowance : ℕ} {line : Line} {ns es ss 
           }
 
 -- what `attach` asks
-pub attach-asks : {s : List ℕ} {room : Room} {allowance : ℕ} {line : Line} {ns es ss ns' es' ss' : List ℕ} {c : Step} {v : ℕ} {a : Walk} → Safe s room line.walk ns es ss → LineIn line
-    → ReadsValue s room allowance line.walk ns es ss c ns' es' ss' → c ≡ step.Value v a → length es' ≡ length es
+pub attach-asks : {s : List ℕ} {room : Room} {allowance : ℕ} {line : Line} {ns es ss ns' es' ss' : List ℕ} {c : Result Step Fault} {v : ℕ} {a : Walk} → Safe s room line.walk ns es ss → LineIn line
+    → ReadsValue s room allowance line.walk ns es ss c ns' es' ss' → c ≡ Ok (record { node = v; walk = a }) → length es' ≡ length es
     → (room.entries * entry_width ≤ length es') × (room.entries ≤ most_records) × ((line.last ≡ nothing → ⊥) → line.last < a.entries) × (line.count ≤ most_records)
 attach-asks {s} {room} {line} safe li rv is le =
     let mv = subst (StepMoved s room line.walk) is rv.moved in

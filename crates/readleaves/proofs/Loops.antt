@@ -8,13 +8,14 @@ use mathlib.Core.List.{List}
 use lib.ListN.{length, get_or}
 use lib.Dec.{ltb, eqb}
 use borrow.Author.Tests.{eq-eqb, ne_eqb, lt-ltb, le-ltb}
+use Rattle.std.specs.Prelude.{Result, Ok, Err}
+use Rattle.refusals.specs.Faults.{number_of}
+use Rattle.refusals.specs.declared.Fault.{Fault}
 use Rattle.refusals.specs.Numbers.{eof_object}
 use Rattle.grammar.specs.Reading.{done, refused, bind}
 use Rattle.grammar.specs.Steps.{Chain, Reader, whatever, child, kids, passed, key_or, couples, value}
 use Rattle.readsteps.specs.declared.Room.{Room}
 use Rattle.readsteps.specs.declared.Line.{Line}
-use Rattle.readsteps.specs.declared.Linked.{Linked}
-use Rattle.readsteps.specs.declared.Linked.TheVariants as linked
 use Rattle.readsteps.specs.Held.{Safe, LineIn}
 use Rattle.readsteps.specs.Linking.{line_on}
 use Rattle.readsteps.proofs.States.{holds-passed}
@@ -29,7 +30,7 @@ kids_start {s} {room} {allowance} {count} safe li =
     record { bound = omega arith; inv = inv_as (inv_start (kids_of s count) allowance safe li) (kids_of s (count - 0)) (λ fuel depth c h. ap (λ n. kids_of s n fuel depth c) e) }
 
 module _ {s : List ℕ} {room : Room} {allowance count : ℕ} {line₀ : Line} {ns₀ es₀ ss₀ ns es ss : List ℕ} {line : Line} {i : ℕ} (v : InvKids s room allowance count line₀ ns₀ es₀ ss₀ ns es ss line i) where
-  pub kids_end : count ≤ i → Lists (kids_of s count) 0 s room allowance line₀ ns₀ es₀ ss₀ (linked.Line line) ns es ss
+  pub kids_end : count ≤ i → Lists (kids_of s count) 0 s room allowance line₀ ns₀ es₀ ss₀ (Ok line) ns es ss
   unfolding kids
   kids_end le = let e : count - i ≡ 0 = omega arith in inv_end v.inv (λ fuel depth c h. ap (λ n. kids_of s n fuel depth c) e)
 
@@ -40,11 +41,11 @@ module _ {s : List ℕ} {room : Room} {allowance count : ℕ} {line₀ : Line} {
         let e : count - i ≡ suc (count - (i + 1)) = omega arith in
         inv_as v.inv (Then (child_of s whatever) (kids_of s (count - (i + 1)))) (λ fuel depth c h. ap (λ n. kids_of s n fuel depth c) e)
 
-    module _ {r : Linked} {ns' es' ss' : List ℕ} (f : Lists (child_of s whatever) 1 s room allowance line ns es ss r ns' es' ss') where
-      pub kids-cut : {n p : ℕ} → r ≡ linked.Refused n p → Lists (kids_of s count) 0 s room allowance line₀ ns₀ es₀ ss₀ (linked.Refused n p) ns' es' ss'
+    module _ {r : Result Line Fault} {ns' es' ss' : List ℕ} (f : Lists (child_of s whatever) 1 s room allowance line ns es ss r ns' es' ss') where
+      pub kids-cut : {failed : Fault} → r ≡ Err failed → Lists (kids_of s count) 0 s room allowance line₀ ns₀ es₀ ss₀ (Err failed) ns' es' ss'
       kids-cut is = inv-cut (child_of s whatever) (kids_of s (count - (i + 1))) open_kids f is
 
-      pub kids_next : {m : Line} → r ≡ linked.Line m → length ns' ≡ length ns → length es' ≡ length es → length ss' ≡ length ss → InvKids s room allowance count line₀ ns₀ es₀ ss₀ ns' es' ss' m (i + 1)
+      pub kids_next : {m : Line} → r ≡ Ok m → length ns' ≡ length ns → length es' ≡ length es → length ss' ≡ length ss → InvKids s room allowance count line₀ ns₀ es₀ ss₀ ns' es' ss' m (i + 1)
       kids_next is a b c = record { bound = omega arith; inv = inv_more (child_of s whatever) (kids_of s (count - (i + 1))) open_kids f is a b c }
 
 -- a dict's pairs: for whatever fuel outlasts the bytes from the first line on
@@ -54,7 +55,7 @@ unfolding couples
 couples_unroll s zero = (0, omega arith, λ f c h. rw (le-ltb c.st.at (length s) (omega arith)) refl)
 couples_unroll s (suc k) = (k, omega arith, λ f c h. refl)
 
-abbrev PairLists : List ℕ → Room → ℕ → Line → (ns es ss : List ℕ) → Linked → (ns' es' ss' : List ℕ) → Type 0
+abbrev PairLists : List ℕ → Room → ℕ → Line → (ns es ss : List ℕ) → Result Line Fault → (ns' es' ss' : List ℕ) → Type 0
 PairLists s room allowance line ns es ss r ns' es' ss' = (extra : ℕ) → length s ≤ line.walk.at + extra → Lists (couples_of s extra) 0 s room allowance line ns es ss r ns' es' ss'
 
 pub pairs_start : {s : List ℕ} {room : Room} {allowance : ℕ} {line : Line} {ns es ss : List ℕ} → Safe s room line.walk ns es ss → LineIn line → InvPairs s room allowance line ns es ss ns es ss line
@@ -80,18 +81,19 @@ module _ {s : List ℕ} {room : Room} {allowance : ℕ} {line₀ : Line} {ns₀ 
       )
 
   -- no byte is left where a key stands
-  pub pairs_out : length s ≤ line.walk.at → PairLists s room allowance line₀ ns₀ es₀ ss₀ (linked.Refused eof_object line.walk.at) ns es ss
-  pairs_out out extra₀ h =
+  pub pairs_out : {failed : Fault} → number_of failed.refusal ≡ eof_object → failed.place ≡ line.walk.at → length s ≤ line.walk.at
+      → PairLists s room allowance line₀ ns₀ es₀ ss₀ (Err failed) ns es ss
+  pairs_out {failed} number place out extra₀ h =
       let x = pairs-turn extra₀ h in
-      inv-refused x.2 eof_object line.walk.at ns es ss
+      inv-refused x.2 failed ns es ss
       (λ fuel depth c hc.
       let e : length s ≡ line.walk.at = omega (arith, v.stands.moved) in
       let t : ltb c.st.at (length s) ≡ false = le-ltb c.st.at (length s) (omega (arith, hc.walk.at)) in
-      ap (λ b. cond b (cond (eqb (get_or s c.st.at 0 % 128) 0x30) (done (passed 1 c)) (turn_of s x.0 fuel depth c)) (refused eof_object (length s))) t ∙ ap (λ n. refused eof_object n) e)
+      ap (λ b. cond b (cond (eqb (get_or s c.st.at 0 % 128) 0x30) (done (passed 1 c)) (turn_of s x.0 fuel depth c)) (refused eof_object (length s))) t ∙ ap (λ n. refused eof_object n) e ∙ ap₂ (λ n p. refused n p) (sym number) (sym place))
 
   module _ (there : line.walk.at < length s) where
     -- the null ends the dict
-    pub pairs_null : get_or s line.walk.at 0 % 128 ≡ 0x30 → PairLists s room allowance line₀ ns₀ es₀ ss₀ (linked.Line (line_on 1 line)) ns es ss
+    pub pairs_null : get_or s line.walk.at 0 % 128 ≡ 0x30 → PairLists s room allowance line₀ ns₀ es₀ ss₀ (Ok (line_on 1 line)) ns es ss
     pairs_null null extra₀ h =
         let x = pairs-turn extra₀ h in
         inv-done x.2 (line_on 1 line) (omega (arith, v.stands.moved)) (record { last_in = v.stands.line_in.last_in; count = v.stands.line_in.count }) (passed 1)
@@ -114,14 +116,14 @@ module _ {s : List ℕ} {room : Room} {allowance : ℕ} {line₀ : Line} {ns₀ 
                 ap₂ (λ b d. cond b (cond d (done (passed 1 c)) (turn_of s x.0 fuel depth c)) (refused eof_object (length s))) t n),
           )
 
-      module _ {r : Linked} {ns' es' ss' : List ℕ} (f : Lists (child_of s whatever) 1 s room allowance line ns es ss r ns' es' ss') where
-        pub key-cut : {n p : ℕ} → r ≡ linked.Refused n p → PairLists s room allowance line₀ ns₀ es₀ ss₀ (linked.Refused n p) ns' es' ss'
+      module _ {r : Result Line Fault} {ns' es' ss' : List ℕ} (f : Lists (child_of s whatever) 1 s room allowance line ns es ss r ns' es' ss') where
+        pub key-cut : {failed : Fault} → r ≡ Err failed → PairLists s room allowance line₀ ns₀ es₀ ss₀ (Err failed) ns' es' ss'
         key-cut is extra₀ h = let x = pairs_open extra₀ h in inv-cut (child_of s whatever) (Then (child_of s whatever) (couples_of s x.0)) x.2 f is
 
-        pub key_next : {m : Line} → r ≡ linked.Line m → length ns' ≡ length ns → length es' ≡ length es → length ss' ≡ length ss → InvValue s room allowance line₀ ns₀ es₀ ss₀ ns' es' ss' m
+        pub key_next : {m : Line} → r ≡ Ok m → length ns' ≡ length ns → length es' ≡ length es → length ss' ≡ length ss → InvValue s room allowance line₀ ns₀ es₀ ss₀ ns' es' ss' m
         key_next {m} is a b c = record { stands = (on (length s) (omega arith)).2.stands; inv = on }
           where
-            moved : LinkedMoved 1 s room line.walk (linked.Line m)
+            moved : LinkedMoved 1 s room line.walk (Ok m)
             moved = subst (LinkedMoved 1 s room line.walk) is f.moved
 
             on : (extra₀ : ℕ) → length s ≤ line₀.walk.at + extra₀
@@ -130,14 +132,14 @@ module _ {s : List ℕ} {room : Room} {allowance : ℕ} {line₀ : Line} {ns₀ 
                 let x = pairs_open extra₀ h in
                 (x.0, omega (arith, x.1, moved.0), inv_more (child_of s whatever) (Then (child_of s whatever) (couples_of s x.0)) x.2 f is a b c)
 
-module _ {s : List ℕ} {room : Room} {allowance : ℕ} {line₀ : Line} {ns₀ es₀ ss₀ ns es ss : List ℕ} {line : Line} (v : InvValue s room allowance line₀ ns₀ es₀ ss₀ ns es ss line) {r : Linked} {ns' es' ss' : List ℕ} (f : Lists (child_of s whatever) 1 s room allowance line ns es ss r ns' es' ss') where
-  pub item-cut : {n p : ℕ} → r ≡ linked.Refused n p → PairLists s room allowance line₀ ns₀ es₀ ss₀ (linked.Refused n p) ns' es' ss'
+module _ {s : List ℕ} {room : Room} {allowance : ℕ} {line₀ : Line} {ns₀ es₀ ss₀ ns es ss : List ℕ} {line : Line} (v : InvValue s room allowance line₀ ns₀ es₀ ss₀ ns es ss line) {r : Result Line Fault} {ns' es' ss' : List ℕ} (f : Lists (child_of s whatever) 1 s room allowance line ns es ss r ns' es' ss') where
+  pub item-cut : {failed : Fault} → r ≡ Err failed → PairLists s room allowance line₀ ns₀ es₀ ss₀ (Err failed) ns' es' ss'
   item-cut is extra₀ h = let x = v.inv extra₀ h in inv-cut (child_of s whatever) (couples_of s x.0) x.2 f is
 
-  pub item_next : {m : Line} → r ≡ linked.Line m → length ns' ≡ length ns → length es' ≡ length es → length ss' ≡ length ss → InvPairs s room allowance line₀ ns₀ es₀ ss₀ ns' es' ss' m
+  pub item_next : {m : Line} → r ≡ Ok m → length ns' ≡ length ns → length es' ≡ length es → length ss' ≡ length ss → InvPairs s room allowance line₀ ns₀ es₀ ss₀ ns' es' ss' m
   item_next {m} is a b c = record { stands = (on (length s) (omega arith)).2.stands; inv = on }
     where
-      moved : LinkedMoved 1 s room line.walk (linked.Line m)
+      moved : LinkedMoved 1 s room line.walk (Ok m)
       moved = subst (LinkedMoved 1 s room line.walk) is f.moved
 
       on : (extra₀ : ℕ) → length s ≤ line₀.walk.at + extra₀

@@ -6,6 +6,9 @@ use native.Mathlib.Omega.{arith}
 use mathlib.Core.List.{List}
 use lib.ListN.{length, get_or}
 use borrow.Author.Tests.{le-ltb}
+use Rattle.std.specs.Prelude.{Result, Ok, Err}
+use Rattle.refusals.specs.Faults.{number_of}
+use Rattle.refusals.specs.declared.Fault.{Fault}
 use Rattle.grammar.specs.Reading.{gives, bind}
 use Rattle.grammar.specs.Room.{run}
 use Rattle.grammar.specs.Letters.{letter_of, flag_of}
@@ -19,11 +22,8 @@ use Rattle.readsteps.specs.declared.Room.{Room}
 use Rattle.readsteps.specs.declared.Walk.{Walk}
 use Rattle.readsteps.specs.declared.Head.{Head}
 use Rattle.readsteps.specs.declared.Line.{Line}
-use Rattle.readsteps.specs.declared.Step.TheVariants as step
 use Rattle.readsteps.specs.declared.Opened.{Opened}
 use Rattle.readsteps.specs.declared.Opened.TheVariants as opened
-use Rattle.readsteps.specs.declared.Linked.{Linked}
-use Rattle.readsteps.specs.declared.Linked.TheVariants as linked
 use Rattle.readsteps.specs.Held.{rooms, Safe, Holds, LineIn, no_line}
 use Rattle.readsteps.specs.Opening.{front_of, Ahead, HeadIn, Fronts}
 use Rattle.readsteps.proofs.Runs.{bind-gives, bind_stops}
@@ -38,31 +38,31 @@ unfolding value one front bind
 unroll s zero depth st h = (0, rw (le-ltb st.at (length s) (omega arith)) refl, omega arith)
 unroll s (suc n) depth st h = (n, refl, omega arith)
 
-front_at : {s : List ℕ} {room : Room} {allowance : ℕ} {w : Walk} {ns es ss : List ℕ} {r : Opened} → Fronts s ss room allowance w r → (depth : ℕ) (st : State) → Holds w ns es ss st
+front_at : {s : List ℕ} {room : Room} {allowance : ℕ} {w : Walk} {ns es ss : List ℕ} {r : Result Opened Fault} → Fronts s ss room allowance w r → (depth : ℕ) (st : State) → Holds w ns es ss st
     → run (rooms room (depth + allowance)) (front s depth st.at (length st.nodes) (length st.slots) st.slots) ≡ front_of r
 front_at {s} {room} {allowance} {w} {ns} {es} {ss} f depth st h =
     rw (← h.at, ← h.nodes, ← h.slots)
     (ap (run (rooms room (depth + allowance))) (sym (front-slots s depth w.at w.nodes w.slots ss st.slots h.slot_store)) ∙ sym (f.exact depth))
 
-module _ {s : List ℕ} {room : Room} {allowance : ℕ} {w : Walk} {ns es ss : List ℕ} {o : Opened} (front : Fronts s ss room allowance w o) where
+module _ {s : List ℕ} {room : Room} {allowance : ℕ} {w : Walk} {ns es ss : List ℕ} {o : Result Opened Fault} (front : Fronts s ss room allowance w o) where
   -- the front refuses
-  pub value-refused : {n p : ℕ} → o ≡ opened.Refused n p → ReadsValue s room allowance w ns es ss (step.Refused n p) ns es ss
+  pub value-refused : {failed : Fault} → o ≡ Err failed → ReadsValue s room allowance w ns es ss (Err failed) ns es ss
   unfolding one
-  value-refused {n} {p} is =
+  value-refused {failed} is =
       record {
         moved = tt;
         exact = λ fuel depth st h l.
             let u = unroll s fuel depth st (omega (arith, h.at)) in
             ap (run (rooms room (depth + allowance))) u.1
-            ∙ bind_stops (rooms room (depth + allowance)) _ (after (value u.0 s) s u.0 depth st) n p (front_at front depth st h ∙ ap front_of is);
+            ∙ bind_stops (rooms room (depth + allowance)) _ (after (value u.0 s) s u.0 depth st) (number_of failed.refusal) failed.place (front_at front depth st h ∙ ap front_of is);
       }
 
   -- the value is a node that is known
-  pub value-known : Safe s room w ns es ss → {v at : ℕ} → o ≡ opened.Known v at
-      → ReadsValue s room allowance w ns es ss (step.Value v (record { at = at; nodes = w.nodes; entries = w.entries; slots = w.slots })) ns es ss
+  pub value-known : Safe s room w ns es ss → {v at : ℕ} → o ≡ Ok (opened.Known v at)
+      → ReadsValue s room allowance w ns es ss (Ok (record { node = v; walk = record { at = at; nodes = w.nodes; entries = w.entries; slots = w.slots } })) ns es ss
   unfolding one after run
   value-known safe {v} {at} is =
-      let ahead : Ahead s room allowance w (opened.Known v at) = subst (Ahead s room allowance w) is front.ahead in
+      let ahead : Ahead s room allowance w (Ok (opened.Known v at)) = subst (Ahead s room allowance w) is front.ahead in
       record {
         moved = omega (arith, safe, ahead);
         exact = λ fuel depth st h l.
@@ -81,10 +81,10 @@ inside w hd = no_line (record { at = hd.place + hd.size; nodes = w.nodes + 1; en
 abbrev pub said : Head → Kids → Fields
 said hd kids = record { place = hd.place; size = hd.size; children = children_of kids }
 
-pub head_in : {s ss : List ℕ} {room : Room} {allowance : ℕ} {w : Walk} {o : Opened} → Fronts s ss room allowance w o → {hd : Head} {kids : Kids} → o ≡ opened.Node hd kids → HeadIn s room allowance w hd kids
+pub head_in : {s ss : List ℕ} {room : Room} {allowance : ℕ} {w : Walk} {o : Result Opened Fault} → Fronts s ss room allowance w o → {hd : Head} {kids : Kids} → o ≡ Ok (opened.Node hd kids) → HeadIn s room allowance w hd kids
 head_in {s} {ss} {room} {allowance} {w} f is = subst (Ahead s room allowance w) is f.ahead
 
-module _ {s : List ℕ} {room : Room} {allowance : ℕ} {w : Walk} {ns es ss : List ℕ} {o : Opened} (safe : Safe s room w ns es ss) (f : Fronts s ss room allowance w o) {hd : Head} {kids : Kids} (is : o ≡ opened.Node hd kids) where
+module _ {s : List ℕ} {room : Room} {allowance : ℕ} {w : Walk} {ns es ss : List ℕ} {o : Result Opened Fault} (safe : Safe s room w ns es ss) (f : Fronts s ss room allowance w o) {hd : Head} {kids : Kids} (is : o ≡ Ok (opened.Node hd kids)) where
   ahead : HeadIn s room allowance w hd kids
   ahead = head_in f is
 
@@ -94,7 +94,7 @@ module _ {s : List ℕ} {room : Room} {allowance : ℕ} {w : Walk} {ns es ss : L
   pub inside-line : LineIn (inside w hd)
   inside-line = record { last_in = λ n. absurd (n refl); count = omega arith }
 
-  module _ {r : Linked} {ns' es' ss' : List ℕ} (k : ReadsBody kids w.at s room (allowance - 1) (inside w hd) ns es ss r ns' es' ss') where
+  module _ {r : Result Line Fault} {ns' es' ss' : List ℕ} (k : ReadsBody kids w.at s room (allowance - 1) (inside w hd) ns es ss r ns' es' ss') where
     held : Lists (body_of s w.at kids) 0 s room allowance (inside w hd) ns es ss r ns' es' ss'
     held = node_lists allowance ahead.level k
 
@@ -124,30 +124,30 @@ module _ {s : List ℕ} {room : Room} {allowance : ℕ} {w : Walk} {ns es ss : L
               (omega (arith, ahead, u.2))),
         )
 
-    pub value-cut : {n p : ℕ} → r ≡ linked.Refused n p → ReadsValue s room allowance w ns es ss (step.Refused n p) ns' es' ss'
+    pub value-cut : {failed : Fault} → r ≡ Err failed → ReadsValue s room allowance w ns es ss (Err failed) ns' es' ss'
     unfolding after
-    value-cut {n} {p} q =
+    value-cut {failed} q =
         record {
           moved = tt;
           exact = λ fuel depth st h l.
               let u = kids_at_lem fuel depth st h l in
               let x = body (value u.0 s) s u.0 depth st.at (children_of kids) (fresh (enter st (hd.place + hd.size) hd.flag)) in
-              u.1 ∙ bind_stops (rooms room (depth + allowance)) x _ n p (subst (λ y. AgreesChain y ns' es' ss' (run (rooms room (depth + allowance)) x)) q u.2);
+              u.1 ∙ bind_stops (rooms room (depth + allowance)) x _ (number_of failed.refusal) failed.place (subst (λ y. AgreesChain y ns' es' ss' (run (rooms room (depth + allowance)) x)) q u.2);
         }
 
-    pub value-whole : {l : Line} {size : ℕ} {ns'' ss'' : List ℕ} → r ≡ linked.Line l → size ≡ size_of (children_of kids) hd.place hd.size l.line
+    pub value-whole : {l : Line} {size : ℕ} {ns'' ss'' : List ℕ} → r ≡ Ok l → size ≡ size_of (children_of kids) hd.place hd.size l.line
         → ns'' ≡ node_written ns' w.nodes (record { letter = hd.letter; place = hd.place; size = size; first = l.first; count = l.count; end = l.walk.at; input = 0 })
         → ss'' ≡ fill hd.flag w.slots w.nodes ss'
-        → ReadsValue s room allowance w ns es ss (step.Value w.nodes l.walk) ns'' es' ss''
+        → ReadsValue s room allowance w ns es ss (Ok (record { node = w.nodes; walk = l.walk })) ns'' es' ss''
     unfolding after run
     value-whole {l} {size} {ns''} {ss''} q ez en ek =
-        let mv : LinkedMoved 0 s room (inside w hd).walk (linked.Line l) = subst (LinkedMoved 0 s room (inside w hd).walk) q held.moved in
+        let mv : LinkedMoved 0 s room (inside w hd).walk (Ok l) = subst (LinkedMoved 0 s room (inside w hd).walk) q held.moved in
         record {
           moved = omega (arith, mv.0, ahead);
           exact = λ fuel depth st h len.
               let u = kids_at_lem fuel depth st h len in
               let x = body (value u.0 s) s u.0 depth st.at (children_of kids) (fresh (enter st (hd.place + hd.size) hd.flag)) in
-              let g : AgreesChain (linked.Line l) ns' es' ss' (run (rooms room (depth + allowance)) x) = subst (λ y. AgreesChain y ns' es' ss' (run (rooms room (depth + allowance)) x)) q u.2 in (
+              let g : AgreesChain (Ok l) ns' es' ss' (run (rooms room (depth + allowance)) x) = subst (λ y. AgreesChain y ns' es' ss' (run (rooms room (depth + allowance)) x)) q u.2 in (
                 close st hd.letter hd.flag (said hd kids) g.0,
                 u.1
                     ∙ bind-gives (rooms room (depth + allowance)) x _ g.0 g.1
@@ -158,10 +158,10 @@ module _ {s : List ℕ} {room : Room} {allowance : ℕ} {w : Walk} {ns es ss : L
         }
 
     -- the same where letter and flag are read from the header byte again
-    pub value-closed : {l : Line} {size byte : ℕ} {ns'' ss'' : List ℕ} → r ≡ linked.Line l → size ≡ size_of (children_of kids) hd.place hd.size l.line → byte ≡ get_or s w.at 0
+    pub value-closed : {l : Line} {size byte : ℕ} {ns'' ss'' : List ℕ} → r ≡ Ok l → size ≡ size_of (children_of kids) hd.place hd.size l.line → byte ≡ get_or s w.at 0
         → ns'' ≡ node_written ns' w.nodes (record { letter = letter_of byte; place = hd.place; size = size; first = l.first; count = l.count; end = l.walk.at; input = 0 })
         → ss'' ≡ fill (flag_of byte) w.slots w.nodes ss'
-        → ReadsValue s room allowance w ns es ss (step.Value w.nodes l.walk) ns'' es' ss''
+        → ReadsValue s room allowance w ns es ss (Ok (record { node = w.nodes; walk = l.walk })) ns'' es' ss''
     value-closed {l} {size} q ez is en ek =
         value-whole q ez
         (en ∙ ap (λ x. node_written ns' w.nodes (record { letter = x; place = hd.place; size = size; first = l.first; count = l.count; end = l.walk.at; input = 0 })) (ap letter_of is ∙ sym ahead.lettered))

@@ -1,7 +1,8 @@
 -- No export and no promise rests on this page.
 -- What holds at the head of the loop over a node's children, by the kind of these: what is still to be read comes to the same answer as
 -- the whole. And what is said of a plain value, of a plain child, and of a loop over plain children: it keeps what holds there.
-use Rattle.std.specs.Prelude.{◌≡◌, ℕ, ◌+◌, ◌-◌, ◌*◌, ◌%◌, ◌≤◌, ◌<◌, List, length}
+use Rattle.std.specs.Prelude.{◌≡◌, ℕ, ◌+◌, ◌-◌, ◌*◌, ◌%◌, ◌≤◌, ◌<◌, List, length, Result, Ok, Err, Option, Some, None}
+use Rattle.refusals.specs.declared.Fault.{Fault}
 use Rattle.refusals.specs.Limits.{most_bytes, most_records}
 use Rattle.grammar.specs.Reading.{bind}
 use Rattle.grammar.specs.Room.{run}
@@ -14,16 +15,11 @@ use Rattle.fields.specs.declared.Kids.TheVariants as kind
 use Rattle.readsteps.specs.declared.Room.{Room}
 use Rattle.readsteps.specs.declared.Walk.{Walk}
 use Rattle.readsteps.specs.declared.Line.{Line}
-use Rattle.readsteps.specs.declared.Step.TheVariants as step
-use Rattle.readsteps.specs.declared.Linked.TheVariants as linked
+use Rattle.readsteps.specs.declared.Step.{Step}
 use Rattle.readsteps.specs.declared.Next.{Next}
 use Rattle.readsteps.specs.declared.Next.TheVariants as next
 use Rattle.readsteps.specs.Held.{rooms, Safe, HoldsChain, Moved, LineIn}
 use Rattle.readsteps.specs.Linking.{Nexts, below_of}
-use Rattle.readleaves.specs.declared.Taken.{Taken}
-use Rattle.readleaves.specs.declared.Taken.TheVariants as taken
-use Rattle.readleaves.specs.declared.Tried.{Tried}
-use Rattle.readleaves.specs.declared.Tried.TheVariants as tried
 use Rattle.readleaves.specs.Readings.{ChainReader, ReadsValue, ReadsChild, ReadsBody, child_of, kids_of, couples_of, parts_of}
 
 -- What is asked where a code's parts are read: its numbers stand behind its header; and, where its levels are not yet tested, one is left.
@@ -101,31 +97,31 @@ pub record SafeLeaf (s : List ℕ) (room : Room) (w : Walk) (ns ss : List ℕ) :
   pub slot_store : room.slots ≤ length ss
 
 -- a value that is taken is read as any value is; where none is taken the stores are as they were
-abbrev pub TakesOf : List ℕ → Room → ℕ → Walk → (ns ss : List ℕ) → Taken → (ns' ss' : List ℕ) → Type 0
-TakesOf s room allowance w ns ss (taken.Value v a) ns' ss' =
-    (es : List ℕ) → Safe s room w ns es ss → ReadsValue s room allowance w ns es ss (step.Value v a) ns' es ss'
-TakesOf s room allowance w ns ss taken.Other ns' ss' = (ns' ≡ ns) × (ss' ≡ ss)
+abbrev pub TakesOf : List ℕ → Room → ℕ → Walk → (ns ss : List ℕ) → Option Step → (ns' ss' : List ℕ) → Type 0
+TakesOf s room allowance w ns ss (Some given) ns' ss' =
+    (es : List ℕ) → Safe s room w ns es ss → ReadsValue s room allowance w ns es ss (Ok given) ns' es ss'
+TakesOf s room allowance w ns ss None ns' ss' = (ns' ≡ ns) × (ss' ≡ ss)
 
-pub record Takes (s : List ℕ) (room : Room) (allowance : ℕ) (w : Walk) (ns ss : List ℕ) (r : Taken) (ns' ss' : List ℕ) : Type 0 where
+pub record Takes (s : List ℕ) (room : Room) (allowance : ℕ) (w : Walk) (ns ss : List ℕ) (r : Option Step) (ns' ss' : List ℕ) : Type 0 where
   pub is : TakesOf s room allowance w ns ss r ns' ss'
 
-abbrev pub TriesOf : ℕ → List ℕ → Room → ℕ → Line → (ns es ss : List ℕ) → Tried → (ns' es' ss' : List ℕ) → Type 0
-TriesOf rule s room allowance line ns es ss (tried.Line l) ns' es' ss' = ReadsChild rule s room allowance line ns es ss (linked.Line l) ns' es' ss'
-TriesOf rule s room allowance line ns es ss (tried.Refused n p) ns' es' ss' = ReadsChild rule s room allowance line ns es ss (linked.Refused n p) ns' es' ss'
-TriesOf rule s room allowance line ns es ss tried.Other ns' es' ss' = (ns' ≡ ns) × (es' ≡ es) × (ss' ≡ ss)
+abbrev pub TriesOf : ℕ → List ℕ → Room → ℕ → Line → (ns es ss : List ℕ) → Result (Option Line) Fault → (ns' es' ss' : List ℕ) → Type 0
+TriesOf rule s room allowance line ns es ss (Ok (Some l)) ns' es' ss' = ReadsChild rule s room allowance line ns es ss (Ok l) ns' es' ss'
+TriesOf rule s room allowance line ns es ss (Err f) ns' es' ss' = ReadsChild rule s room allowance line ns es ss (Err f) ns' es' ss'
+TriesOf rule s room allowance line ns es ss (Ok None) ns' es' ss' = (ns' ≡ ns) × (es' ≡ es) × (ss' ≡ ss)
 
-pub record Tries (rule : ℕ) (s : List ℕ) (room : Room) (allowance : ℕ) (line : Line) (ns es ss : List ℕ) (r : Tried) (ns' es' ss' : List ℕ) : Type 0 where
+pub record Tries (rule : ℕ) (s : List ℕ) (room : Room) (allowance : ℕ) (line : Line) (ns es ss : List ℕ) (r : Result (Option Line) Fault) (ns' es' ss' : List ℕ) : Type 0 where
   pub is : TriesOf rule s room allowance line ns es ss r ns' es' ss'
 
 -- Where the loop over plain children ends: before a child that is not plain, and then what holds at its head holds there; or with the
 -- whole answer.
-abbrev pub RunsTo : Kids → ℕ → List ℕ → Room → ℕ → Line → (ns₀ es₀ ss₀ : List ℕ) → Line → Next → (ns es ss : List ℕ) → Type 0
-RunsTo kids at s room allowance line₀ ns₀ es₀ ss₀ line (next.Child m rule) ns es ss =
-    (l : Line) × InvBody kids at s room allowance line₀ ns₀ es₀ ss₀ ns es ss l × Nexts s ns kids at l (next.Child m rule) × (line.walk.at ≤ l.walk.at)
-RunsTo kids at s room allowance line₀ ns₀ es₀ ss₀ line (next.Done m) ns es ss = ReadsBody kids at s room allowance line₀ ns₀ es₀ ss₀ (linked.Line m) ns es ss
-RunsTo kids at s room allowance line₀ ns₀ es₀ ss₀ line (next.Refused n p) ns es ss = ReadsBody kids at s room allowance line₀ ns₀ es₀ ss₀ (linked.Refused n p) ns es ss
+abbrev pub RunsTo : Kids → ℕ → List ℕ → Room → ℕ → Line → (ns₀ es₀ ss₀ : List ℕ) → Line → Result Next Fault → (ns es ss : List ℕ) → Type 0
+RunsTo kids at s room allowance line₀ ns₀ es₀ ss₀ line (Ok (next.Child m rule)) ns es ss =
+    (l : Line) × InvBody kids at s room allowance line₀ ns₀ es₀ ss₀ ns es ss l × Nexts s ns kids at l (Ok (next.Child m rule)) × (line.walk.at ≤ l.walk.at)
+RunsTo kids at s room allowance line₀ ns₀ es₀ ss₀ line (Ok (next.Done m)) ns es ss = ReadsBody kids at s room allowance line₀ ns₀ es₀ ss₀ (Ok m) ns es ss
+RunsTo kids at s room allowance line₀ ns₀ es₀ ss₀ line (Err f) ns es ss = ReadsBody kids at s room allowance line₀ ns₀ es₀ ss₀ (Err f) ns es ss
 
 -- from whatever line the children began, where what holds at the head holds of the line that the loop is given
-pub record Runs (kids : Kids) (at : ℕ) (s : List ℕ) (room : Room) (below : ℕ) (line : Line) (ns es ss : List ℕ) (n : Next) (ns' es' ss' : List ℕ) : Type 0 where
+pub record Runs (kids : Kids) (at : ℕ) (s : List ℕ) (room : Room) (below : ℕ) (line : Line) (ns es ss : List ℕ) (n : Result Next Fault) (ns' es' ss' : List ℕ) : Type 0 where
   pub on : (allowance : ℕ) (line₀ : Line) (ns₀ es₀ ss₀ : List ℕ) → below ≡ below_of kids allowance → (children_of kids ≡ parts → 0 < allowance)
       → InvBody kids at s room allowance line₀ ns₀ es₀ ss₀ ns es ss line → RunsTo kids at s room allowance line₀ ns₀ es₀ ss₀ line n ns' es' ss'

@@ -4,71 +4,72 @@
 
 ghost use Rattle.std.specs.Prelude.{◌≡◌, ◌+◌, ◌≤◌, ◌<◌, length};
 ghost use Rattle.refusals.specs.Limits.{most_bytes, most_records};
-ghost use Rattle.wtf8.specs.Leads.{lead_table};
-ghost use Rattle.fields.specs.Headers.{tables_lent};
 ghost use Rattle.readsteps.specs.Held.{Safe, LineIn};
 ghost use Rattle.readleaves.specs.Fronts.{Refers, Spans, Leafs, Plainly};
 ghost use Rattle.readleaves.specs.Turns.{NumbersIn, SafeLeaf, Takes, Tries, Runs};
 
-// A value that is known already and the place after it; a leaf; or what is left to others.
+use fields::byte_tables::ByteTables;
+use fields::cursor::Cursor;
+use fields::{Behind, Kids};
+use readsteps::{Head, Line, Next, Opened, Room, Step, Walk};
+use refusals::{Fault, Refusal};
+
+// A value that is known already and the place after it, or a leaf. None is what is left to others.
 #[derive(Clone, Copy)]
 pub enum Plain {
     Known(u32, u32),
-    Leaf(readsteps::Head),
-    Other,
+    Leaf(Head),
 }
 
 // A reference whose slot is filled.
-fn reference(s: &[u8], slots: &[u32], at: u32) -> Plain
-    requires { (at ≤ length s.now) × (length s.now ≤ most_bytes) }
-    ensures { Refers s.now slots.now at result }
+fn reference(from: Cursor, slots: &[u32]) -> Option<Plain>
+    ensures { Refers from.entry.input.now slots.now from.entry.at result }
 {
-    match readsteps::resolve_ref(s, slots, at) {
-        readsteps::Opened::Known(node, after) => Plain::Known(node, after),
-        readsteps::Opened::Node(_, _) => Plain::Other,
-        readsteps::Opened::Refused(_, _) => Plain::Other,
+    match readsteps::resolve_ref(from, slots) {
+        Ok(Opened::Known(node, after)) => Some(Plain::Known(node, after)),
+        _ => None,
     }
 }
 
 // The fields of the classes that are read in a few steps. Any other class is answered as fields that are refused are: both are left to
 // others.
-fn read_leaf(s: &[u8], class: u32, at: u32, leads: &[u8; 256]) -> fields::Behind
-    requires { (at ≤ length s.now) × (length s.now ≤ most_bytes) × (leads.now ≡ lead_table) }
-    ensures { Spans s.now class at result }
+fn read_leaf(from: Cursor, class: u32, tables: &ByteTables) -> Option<Behind>
+    ensures { Spans from.entry.input.now class from.entry.at result }
 {
     match class {
-        fields::SINGLE_CLASS => fields::Behind::Span(at, 0, fields::Kids::Items(0)),
-        fields::FIXED4_CLASS => fields::read_fixed(s, at, 4),
-        fields::FIXED8_CLASS => fields::read_fixed(s, at, 8),
-        fields::BYTES_CLASS => fields::read_bytes(s, at),
-        fields::TEXT_CLASS => fields::read_text(s, at, leads),
-        fields::SHORT_CLASS => fields::read_short(s, at, leads),
-        _ => fields::Behind::Refused(refusals::ACCEPTED, at),
+        fields::SINGLE_CLASS => Some(Behind {
+            place: from.at,
+            size: 0,
+            kids: Kids::Items(0),
+        }),
+        fields::FIXED4_CLASS => fields::read_fixed(from, 4).ok(),
+        fields::FIXED8_CLASS => fields::read_fixed(from, 8).ok(),
+        fields::BYTES_CLASS => fields::read_bytes(from).ok(),
+        fields::TEXT_CLASS => fields::read_text(from, tables).ok(),
+        fields::SHORT_CLASS => fields::read_short(from, tables).ok(),
+        _ => None,
     }
 }
 
 // The head of a leaf: of a node without children.
-fn head(s: &[u8], letter: u32, flag: u32, class: u32, at: u32, leads: &[u8; 256]) -> Plain
-    requires { (at ≤ length s.now) × (length s.now ≤ most_bytes) × (leads.now ≡ lead_table) }
-    ensures { Leafs s.now letter flag class at result }
+fn head(from: Cursor, letter: u32, flag: u32, class: u32, tables: &ByteTables) -> Option<Plain>
+    ensures { Leafs from.entry.input.now letter flag class from.entry.at result }
 {
-    match read_leaf(s, class, at, leads) {
-        fields::Behind::Refused(_, _) => Plain::Other,
-        fields::Behind::Span(place, size, kids) => match kids {
-            fields::Kids::Pairs => Plain::Other,
-            fields::Kids::Parts => Plain::Other,
-            fields::Kids::Items(count) => {
-                if count != 0 {
-                    return Plain::Other;
-                }
-                Plain::Leaf(readsteps::Head {
-                    letter,
-                    flag,
-                    place,
-                    size,
-                })
+    let behind = read_leaf(from, class, tables)?;
+    match behind.kids {
+        Kids::Pairs => None,
+        Kids::Parts => None,
+        Kids::Items(count) => {
+            if count != 0 {
+                return None;
             }
-        },
+            Some(Plain::Leaf(Head {
+                letter,
+                flag,
+                place: behind.place,
+                size: behind.size,
+            }))
+        }
     }
 }
 
@@ -76,80 +77,63 @@ fn head(s: &[u8], letter: u32, flag: u32, class: u32, at: u32, leads: &[u8; 256]
 fn front(
     s: &[u8],
     slots: &[u32],
-    room: readsteps::Room,
+    room: Room,
     allowance: u32,
-    w: readsteps::Walk,
-    tables: &[[u8; 256]; 2],
-) -> Plain
-    requires { (w.at ≤ length s.now) × (length s.now ≤ most_bytes) × (w.slots ≤ room.slots) × (room.slots ≤ most_records) × (tables.now ≡ tables_lent) }
+    w: Walk,
+    tables: &ByteTables,
+) -> Option<Plain>
+    requires { (w.at ≤ length s.now) × (length s.now ≤ most_bytes) × (w.slots ≤ room.slots) × (room.slots ≤ most_records) }
     ensures { Plainly s.now slots.now room allowance w result }
 {
     let at = w.at;
     if allowance == 0 {
-        return Plain::Other;
+        return None;
     }
     if s.len() <= at as usize {
-        return Plain::Other;
+        return None;
     }
     let byte = readsteps::byte_at(s, at);
     let letter = byte % 128;
     let flag = byte / 128;
-    let class = fields::class_at(&tables[0], byte);
+    let class = fields::class_at(tables, byte);
+    let from = Cursor {
+        input: s,
+        at: at + 1,
+    };
     if class == fields::REFERENCE_CLASS {
-        return reference(s, slots, at + 1);
+        return reference(from, slots);
     }
     if room.slots < w.slots + flag {
-        return Plain::Other;
+        return None;
     }
     if room.nodes <= w.nodes {
-        return Plain::Other;
+        return None;
     }
-    head(s, letter, flag, class, at + 1, &tables[1])
+    head(from, letter, flag, class, tables)
 }
 
-// A plain value, read on the spot; or none, and then nothing is written.
-#[derive(Clone, Copy)]
-pub enum Taken {
-    Value(u32, readsteps::Walk),
-    Other,
-}
-
-// A plain child, with its entry or refused; or none, and then nothing is written.
-#[derive(Clone, Copy)]
-pub enum Tried {
-    Line(readsteps::Line),
-    Refused(u32, u32),
-    Other,
-}
-
-// A plain value: it has no children, so that its record and its slot are written at once.
+// A plain value, read on the spot: it has no children, so that its record and its slot are written at once. None, and nothing is written,
+// where it is not plain.
 fn leaf(
     s: &[u8],
     nodes: &mut [u32],
     slots: &mut [u32],
-    room: readsteps::Room,
+    room: Room,
     allowance: u32,
-    w: readsteps::Walk,
-    tables: &[[u8; 256]; 2],
-) -> Taken
-    requires { SafeLeaf s.now room w nodes.old slots.old × (tables.now ≡ tables_lent) }
+    w: Walk,
+    tables: &ByteTables,
+) -> Option<Step>
+    requires { SafeLeaf s.now room w nodes.old slots.old }
     ensures { Takes s.now room allowance w nodes.old slots.old result nodes.new slots.new }
 {
-    let o = front(s, slots, room, allowance, w, tables);
-    match o {
-        Plain::Other => Taken::Other,
-        Plain::Known(v, at) => Taken::Value(
-            v,
-            readsteps::Walk {
-                at,
-                nodes: w.nodes,
-                entries: w.entries,
-                slots: w.slots,
-            },
-        ),
+    match front(s, slots, room, allowance, w, tables)? {
+        Plain::Known(node, at) => Some(Step {
+            node,
+            walk: Walk { at, ..w },
+        }),
         Plain::Leaf(h) => {
             let node = w.nodes;
-            let after = readsteps::Walk {
+            let walk = Walk {
                 at: h.place + h.size,
                 nodes: node + 1,
                 entries: w.entries,
@@ -161,46 +145,44 @@ fn leaf(
                 size: h.size,
                 first: refusals::NOTHING,
                 count: 0,
-                end: after.at,
+                end: walk.at,
                 input: 0,
             };
             stores::fill_slot(slots, h.flag, w.slots, node);
             stores::write_node(nodes, node, record);
-            Taken::Value(node, after)
+            Some(Step { node, walk })
         }
     }
 }
 
-// One child that is plain, as the reader's `child` reads any.
+// One child that is plain, with its entry, as the reader's `child` reads any; or none, and then nothing is written.
 fn leaf_child(
     s: &[u8],
     nodes: &mut [u32],
     entries: &mut [u32],
     slots: &mut [u32],
-    room: readsteps::Room,
+    room: Room,
     allowance: u32,
-    line: readsteps::Line,
+    line: Line,
     rule: u32,
-    tables: &[[u8; 256]; 2],
-) -> Tried
-    requires { Safe s.now room line.walk nodes.old entries.old slots.old × LineIn line × (tables.now ≡ tables_lent) }
+    tables: &ByteTables,
+) -> Result<Option<Line>, Fault>
+    requires { Safe s.now room line.walk nodes.old entries.old slots.old × LineIn line }
     ensures { Tries rule s.now room allowance line nodes.old entries.old slots.old
         result nodes.new entries.new slots.new }
 {
     let from = line.walk;
-    let t = leaf(s, nodes, slots, room, allowance, from, tables);
-    match t {
-        Taken::Other => Tried::Other,
-        Taken::Value(v, after) => {
-            if !readsteps::suits(rule, nodes, entries, v) {
-                return Tried::Refused(refusals::BAD_TYPE, from.at);
-            }
-            let k = readsteps::attach(entries, room.entries, line, from.at, v, after);
-            match k {
-                readsteps::Linked::Refused(number, place) => Tried::Refused(number, place),
-                readsteps::Linked::Line(l) => Tried::Line(l),
-            }
-        }
+    let Some(step) = leaf(s, nodes, slots, room, allowance, from, tables) else {
+        return Ok(None);
+    };
+    if !readsteps::suits(rule, nodes, entries, step.node) {
+        return Err(Refusal::BadType.at(from.at));
+    }
+    // Here and in `run` no `?`: it hands a fault on as one word, over two fields of a line, which each turn then packs and takes apart:
+    // 57 million instructions in place of 40 for 400,000 small integers (callgrind).
+    match readsteps::attach(entries, room.entries, line, from.at, step.node, step.walk) {
+        Ok(l) => Ok(Some(l)),
+        Err(Fault { refusal, place }) => Err(Fault { refusal, place }),
     }
 }
 
@@ -210,37 +192,35 @@ pub fn run(
     nodes: &mut [u32],
     entries: &mut [u32],
     slots: &mut [u32],
-    room: readsteps::Room,
+    room: Room,
     allowance: u32,
-    line: readsteps::Line,
-    kids: fields::Kids,
+    line: Line,
+    kids: Kids,
     header: u32,
-    tables: &[[u8; 256]; 2],
-) -> readsteps::Next
-    requires { Safe s.now room line.walk nodes.old entries.old slots.old × LineIn line × NumbersIn kids header s.now × (tables.now ≡ tables_lent) }
+    tables: &ByteTables,
+) -> Result<Next, Fault>
+    requires { Safe s.now room line.walk nodes.old entries.old slots.old × LineIn line × NumbersIn kids header s.now }
     ensures { Runs kids header s.now room allowance line nodes.old entries.old slots.old
         result nodes.new entries.new slots.new }
 {
     let mut l = line;
     loop {
-        let n = readsteps::next_child(s, nodes, kids, header, l);
-        match n {
-            readsteps::Next::Refused(number, place) => {
-                return readsteps::Next::Refused(number, place);
+        match readsteps::next_child(s, nodes, kids, header, l) {
+            Err(Fault { refusal, place }) => {
+                return Err(Fault { refusal, place });
             }
-            readsteps::Next::Done(m) => {
-                return readsteps::Next::Done(m);
+            Ok(Next::Done(m)) => {
+                return Ok(Next::Done(m));
             }
-            readsteps::Next::Child(m, rule) => {
-                let t = leaf_child(s, nodes, entries, slots, room, allowance, m, rule, tables);
-                match t {
-                    Tried::Other => {
-                        return readsteps::Next::Child(m, rule);
+            Ok(Next::Child(m, rule)) => {
+                match leaf_child(s, nodes, entries, slots, room, allowance, m, rule, tables) {
+                    Err(Fault { refusal, place }) => {
+                        return Err(Fault { refusal, place });
                     }
-                    Tried::Refused(number, place) => {
-                        return readsteps::Next::Refused(number, place);
+                    Ok(None) => {
+                        return Ok(Next::Child(m, rule));
                     }
-                    Tried::Line(k) => {
+                    Ok(Some(k)) => {
                         l = k;
                     }
                 }

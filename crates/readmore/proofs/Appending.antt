@@ -10,6 +10,11 @@ use borrow.Author.Tests.{ltb-false, le-ltb, lt-ltb}
 use borrow.Rule.Slice.PartMut.{mid_of, put_mid}
 use Rattle.refusals.specs.Numbers.{accepted, no_node, no_entry, input_too_long}
 use Rattle.refusals.specs.Limits.{most_bytes}
+use Rattle.refusals.specs.Faults.{number_of, fault}
+use Rattle.refusals.specs.declared.Refusal.{Refusal}
+use Rattle.refusals.specs.declared.Fault.{Fault}
+use Rattle.refusals.proofs.Faults.{number_in_table}
+use Rattle.std.specs.Prelude.{Result, Ok, Err}
 use Rattle.clearing.specs.Lent.{padded}
 use Rattle.clearing.proofs.Laws.{length-padded}
 use Rattle.grammar.specs.Reading.{Answer, gives, stops}
@@ -19,8 +24,7 @@ use Rattle.grammar.specs.Answer as whole
 use Rattle.grammar.specs.Answer.{plain, rooms_of, reading, Counts, counts_of, answered, nodes_held, entries_held, slots_held, read_of}
 use Rattle.grammar.proofs.Exactness.{within-room}
 use Rattle.grammar.proofs.Contents.{Fits, records_fit, length-node_cells, length-entry_cells}
-use Rattle.reader.specs.declared.Outcome.{Outcome}
-use Rattle.reader.specs.declared.Outcome.TheVariants as outcome
+use Rattle.reader.specs.declared.Read.{Read}
 use Rattle.reader.specs.Delivered.{answer_of, Delivers}
 use Rattle.readmore.specs.More.{Kept, keeping, room_left, appending, behind, kept_part, appended_to, more_of}
 use Rattle.readmore.specs.Parts.{turned_away, Fitting, Refused, nodes_behind, entries_behind, laid_behind, unraised, counting, Room, Raised}
@@ -105,7 +109,7 @@ module _ (s nodes entries : List ℕ) (slots nesting : ℕ) (k : Kept) (f : Fitt
   parts-read = within-room s n' e' slots nesting f.small ∙ ap (λ Q. run Q (plain s)) (room_of_parts (length nodes) (length entries) slots nesting k)
 
   -- what the reader delivers in the parts is the plain reading behind what is kept
-  pub read-parts : {r : Outcome} {ns es ss : List ℕ} → Delivers (read_of s n' e' slots nesting) r ns es ss
+  pub read-parts : {r : Result Read Fault} {ns es ss : List ℕ} → Delivers (read_of s n' e' slots nesting) r ns es ss
       → Delivers (unraised s nodes entries slots nesting k) r
       (put_mid (k.nodes * node_width) n' (kept_part (node_capacity (length nodes) * node_width) nodes) ns)
       (put_mid (k.entries * entry_width) e' (kept_part (entry_capacity (length entries) * entry_width) entries) es)
@@ -136,7 +140,7 @@ module _ (s nodes entries : List ℕ) (slots nesting : ℕ) (k : Kept) (f : Fitt
           }
 
   -- as the code has it: both stores cleared from their capacity on, and the parts lent
-  pub read-lent : {to last : ℕ} {n₁ e₁ ns es ss : List ℕ} {r : Outcome} → to ≡ node_capacity (length nodes) → last ≡ entry_capacity (length entries)
+  pub read-lent : {to last : ℕ} {n₁ e₁ ns es ss : List ℕ} {r : Result Read Fault} → to ≡ node_capacity (length nodes) → last ≡ entry_capacity (length entries)
       → n₁ ≡ kept_part (to * node_width) nodes → e₁ ≡ kept_part (last * entry_width) entries
       → Delivers
       (read_of s (length (mid_of (k.nodes * node_width) (to * node_width - k.nodes * node_width) n₁)) (length (mid_of (k.entries * entry_width) (last * entry_width - k.entries * entry_width) e₁))
@@ -185,7 +189,7 @@ module _ (s nodes entries slots : List ℕ) (nesting kept_nodes kept_entries num
   more = more_of s nodes entries (length slots) nesting kept_nodes kept_entries number
 
   -- an answer that is known
-  answered_by : {r : Outcome} {ns es ss : List ℕ} (a : Answer (ℕ × State)) → appending s lent kₙ ≡ a → Delivers (appended_to kₙ nodes entries (length slots) a) r ns es ss → Delivers more r ns es ss
+  answered_by : {r : Result Read Fault} {ns es ss : List ℕ} (a : Answer (ℕ × State)) → appending s lent kₙ ≡ a → Delivers (appended_to kₙ nodes entries (length slots) a) r ns es ss → Delivers more r ns es ss
   unfolding more_of
   answered_by a e d =
       let same = ap (appended_to kₙ nodes entries (length slots)) (sym e) in
@@ -196,20 +200,23 @@ module _ (s nodes entries slots : List ℕ) (nesting kept_nodes kept_entries num
         slots = d.slots ∙ ap (λ x. x.slots) same;
       }
 
-  pub turned_away_lem : {n : ℕ} {ns es ss : List ℕ} → n ≡ turned_away (length s) lent.nodes lent.entries k₀ → (n ≡ accepted → ⊥) → Refused nodes entries slots k₀ ns es ss
-      → Delivers more (outcome.Refused n 0) ns es ss
-  turned_away_lem {n} e some d = answered_by (stops n 0) (turned s lent kₙ e some) (record { answer = refl; nodes = d.kept-nodes; entries = d.kept-entries; slots = d.no_slots })
+  pub turned_away_lem : {why : Refusal} {failed : Fault} {ns es ss : List ℕ} → number_of why ≡ turned_away (length s) lent.nodes lent.entries k₀ → failed ≡ fault why 0
+      → Refused nodes entries slots k₀ ns es ss → Delivers more (Err failed) ns es ss
+  turned_away_lem {why} e told d =
+      rw told
+      (answered_by (stops (number_of why) 0) (turned s lent kₙ e (λ none. omega (arith, none, (number_in_table why).0)))
+      (record { answer = refl; nodes = d.kept-nodes; entries = d.kept-entries; slots = d.no_slots }))
 
-  module _ (f : Fitting (length s) (length nodes) (length entries) k₀) {r : Outcome} {ns es ss : List ℕ} (d : Delivers (unraised s nodes entries (length slots) nesting k₀) r ns es ss) where
+  module _ (f : Fitting (length s) (length nodes) (length entries) k₀) {r : Result Read Fault} {ns es ss : List ℕ} (d : Delivers (unraised s nodes entries (length slots) nesting k₀) r ns es ss) where
     goes_on : appending s lent kₙ ≡ run (room_left lent k₀) (plain s)
     goes_on = reads_on s (length nodes) (length entries) (length slots) nesting kₙ (record { small = f.small; in_nodes = f.in_nodes; in_entries = f.in_entries })
 
-    pub refused-reading : {n place : ℕ} → r ≡ outcome.Refused n place → Delivers more (outcome.Refused n place) ns es ss
+    pub refused-reading : {failed : Fault} → r ≡ Err failed → Delivers more (Err failed) ns es ss
     unfolding unraised
-    refused-reading {n} {place} is = go (run (room_left lent k₀) (plain s)) goes_on (sym (ap answer_of is) ∙ d.answer) d.nodes d.entries d.slots
+    refused-reading {failed} is = go (run (room_left lent k₀) (plain s)) goes_on (sym (ap answer_of is) ∙ d.answer) d.nodes d.entries d.slots
       where
-        go : (a : Answer (ℕ × State)) → appending s lent kₙ ≡ a → stops n place ≡ answered a → ns ≡ nodes_behind k₀ nodes a → es ≡ entries_behind k₀ entries a → ss ≡ slots_held (length slots) a
-            → Delivers more (outcome.Refused n place) ns es ss
+        go : (a : Answer (ℕ × State)) → appending s lent kₙ ≡ a → stops (number_of failed.refusal) failed.place ≡ answered a → ns ≡ nodes_behind k₀ nodes a → es ≡ entries_behind k₀ entries a → ss ≡ slots_held (length slots) a
+            → Delivers more (Err failed) ns es ss
         go (gives q) e an nn ee sl = let z : ◌≡◌ {A = ℕ} 0 1 = cc in absurd (omega arith)
         go (stops m p) e an nn ee sl = answered_by (stops m p) e (record { answer = an; nodes = nn; entries = ee; slots = sl })
 
@@ -226,15 +233,15 @@ module _ (s nodes entries slots : List ℕ) (nesting kept_nodes kept_entries num
       pub has-entries : es ≡ behind (kept_entries * entry_width) entries (entry_cells value.1.entries)
       pub has-slots : ss ≡ padded (length slots) value.1.slots
 
-    pub reads-value : {at n e l : ℕ} → r ≡ outcome.Read at n e l → Reads at n e l
+    pub reads-value : {given : Read} → r ≡ Ok given → Reads given.consumed given.nodes given.entries given.slots
     unfolding unraised
-    reads-value {at} {n} {e} {l} is = go (run (room_left lent k₀) (plain s)) refl (sym (ap answer_of is) ∙ d.answer) d.nodes d.entries d.slots
+    reads-value {given} is = go (run (room_left lent k₀) (plain s)) refl (sym (ap answer_of is) ∙ d.answer) d.nodes d.entries d.slots
       where
-        go : (a : Answer (ℕ × State)) → run (room_left lent k₀) (plain s) ≡ a → gives (record { consumed = at; nodes = n; entries = e; slots = l }) ≡ answered a
-            → ns ≡ nodes_behind k₀ nodes a → es ≡ entries_behind k₀ entries a → ss ≡ slots_held (length slots) a → Reads at n e l
+        go : (a : Answer (ℕ × State)) → run (room_left lent k₀) (plain s) ≡ a → gives (record { consumed = given.consumed; nodes = given.nodes; entries = given.entries; slots = given.slots }) ≡ answered a
+            → ns ≡ nodes_behind k₀ nodes a → es ≡ entries_behind k₀ entries a → ss ≡ slots_held (length slots) a → Reads given.consumed given.nodes given.entries given.slots
         go (stops m p) x an nn ee sl = let z : ◌≡◌ {A = ℕ} 0 1 = cc in absurd (omega arith)
         go (gives q) x an nn ee sl =
-            let c : counts_of q.1 ≡ record { consumed = at; nodes = n; entries = e; slots = l } = cc in
+            let c : counts_of q.1 ≡ record { consumed = given.consumed; nodes = given.nodes; entries = given.entries; slots = given.slots } = cc in
             record {
               value = q;
               is = goes_on ∙ x;
@@ -258,7 +265,7 @@ module _ (s nodes entries slots : List ℕ) (nesting kept_nodes kept_entries num
             for_slots = rw read.has-slots (omega (arith, b.slots_fit, read.as_slots, length-padded (length slots) read.value.1.slots b.slots_fit));
           }
 
-      pub read-raised : {ns' es' ss' : List ℕ} → Raised ns es ss kₙ (counting n e l) ns' es' ss' → Delivers more (outcome.Read at (kept_nodes + n) (kept_entries + e) l) ns' es' ss'
+      pub read-raised : {ns' es' ss' : List ℕ} → Raised ns es ss kₙ (counting n e l) ns' es' ss' → Delivers more (Ok (record { consumed = at; nodes = kept_nodes + n; entries = kept_entries + e; slots = l })) ns' es' ss'
       read-raised x =
           let b = read.bounds in
           let q = read.value.1 in

@@ -4,11 +4,15 @@
 
 ghost use Rattle.std.specs.Prelude.{◌≡◌, ◌+◌, ◌*◌, ◌≤◌, length};
 ghost use Rattle.grammar.specs.State.{node_capacity, entry_capacity};
+ghost use Rattle.readsteps.specs.Linking.{fault_number};
 ghost use Rattle.reader.specs.Delivered.{Delivers};
 ghost use Rattle.readmore.specs.More.{more_of, keeping, kept_part};
 ghost use Rattle.readmore.specs.Parts.{turned_away, Fitting, Refused, unraised, counting, Room, Raised};
 
-// All behind the numbers that stay is zero.
+use reader::Read;
+use refusals::{Fault, Refusal};
+
+// All behind the numbers that stay is zero; they may be more than there are.
 fn clear_behind(store: &mut [u32], stay: usize)
     ensures { store.new ≡ kept_part stay store.old }
 {
@@ -17,23 +21,30 @@ fn clear_behind(store: &mut [u32], stay: usize)
     }
 }
 
-// The refusal that comes before reading, or 0: the input is too long, then nodes, then entries are kept above the capacity.
-fn turned_away(bytes: usize, nodes: usize, entries: usize, keptnodes: u32, keptentries: u32) -> u32
-    ensures { result ≡ turned_away bytes (node_capacity nodes) (entry_capacity entries) (keeping keptnodes keptentries 0) }
+// The refusal that comes before reading: the input is too long, then nodes, then entries are kept above the capacity.
+fn turned_away(
+    bytes: usize,
+    nodes: usize,
+    entries: usize,
+    keptnodes: u32,
+    keptentries: u32,
+) -> Result<(), Refusal>
+    ensures { fault_number result ≡ turned_away bytes (node_capacity nodes) (entry_capacity entries) (keeping keptnodes keptentries 0) }
 {
     if (refusals::MOST_BYTES as usize) < bytes {
-        return refusals::INPUT_TOO_LONG;
+        return Err(Refusal::InputTooLong);
     }
     if stores::node_capacity(nodes) < keptnodes {
-        return refusals::NO_NODE;
+        return Err(Refusal::NoNode);
     }
     if stores::entry_capacity(entries) < keptentries {
-        return refusals::NO_ENTRY;
+        return Err(Refusal::NoEntry);
     }
-    refusals::ACCEPTED
+    Ok(())
 }
 
 // A refused append: the kept part stays, and all else is zero.
+// `nodes`, `entries` and `slots`, here and below, are the stores by index that C lends, each by itself: in `read_behind` they are cut at other places, so a struct of them would be taken apart there.
 fn refuse(
     nodes: &mut [u32],
     entries: &mut [u32],
@@ -58,7 +69,7 @@ fn read_behind(
     nesting: u32,
     keptnodes: u32,
     keptentries: u32,
-) -> reader::Outcome
+) -> Result<Read, Fault>
     requires { Fitting (length input.now) (length nodes.old) (length entries.old) (keeping keptnodes keptentries 0) }
     ensures { Delivers (unraised input.now nodes.old entries.old (length slots.old) nesting (keeping keptnodes keptentries 0))
         result nodes.new entries.new slots.new }
@@ -86,19 +97,17 @@ fn raise_read(
     keptnodes: u32,
     keptentries: u32,
     number: u32,
-    newnodes: u32,
-    newentries: u32,
-    newslots: u32,
+    read: Read,
 )
-    requires { Room nodes.old entries.old slots.old (keeping keptnodes keptentries number) (counting newnodes newentries newslots) }
+    requires { Room nodes.old entries.old slots.old (keeping keptnodes keptentries number) (counting read.nodes read.entries read.slots) }
     ensures { Raised nodes.old entries.old slots.old (keeping keptnodes keptentries number)
-        (counting newnodes newentries newslots) nodes.new entries.new slots.new }
+        (counting read.nodes read.entries read.slots) nodes.new entries.new slots.new }
 {
     let from = keptnodes as usize * stores::NODE_WIDTH;
-    raising::raise_nodes(&mut nodes[from..], newnodes, keptentries, number);
+    raising::raise_nodes(&mut nodes[from..], read.nodes, keptentries, number);
     let first = keptentries as usize * stores::ENTRY_WIDTH;
-    raising::raise_entries(&mut entries[first..], newentries, keptnodes, keptentries);
-    raising::raise_slots(slots, newslots, keptnodes);
+    raising::raise_entries(&mut entries[first..], read.entries, keptnodes, keptentries);
+    raising::raise_slots(slots, read.slots, keptnodes);
 }
 
 // One value from the start of the input, appended to so many nodes and entries that are kept; its nodes name the input by its number.
@@ -111,55 +120,37 @@ pub fn read_more(
     keptnodes: u32,
     keptentries: u32,
     number: u32,
-) -> reader::Outcome
+) -> Result<Read, Fault>
     ensures { Delivers (more_of input.now nodes.old entries.old (length slots.old) nesting keptnodes keptentries number)
         result nodes.new entries.new slots.new }
 {
-    let refusal = turned_away(
+    match turned_away(
         input.len(),
         nodes.len(),
         entries.len(),
         keptnodes,
         keptentries,
-    );
-    if refusal != refusals::ACCEPTED {
-        refuse(nodes, entries, slots, keptnodes, keptentries);
-        return reader::Outcome::Refused(refusal, 0);
-    }
-    let r = read_behind(
-        input,
-        nodes,
-        entries,
-        slots,
-        nesting,
-        keptnodes,
-        keptentries,
-    );
-    match r {
-        reader::Outcome::Refused(n, place) => reader::Outcome::Refused(n, place),
-        reader::Outcome::Read {
-            consumed,
-            nodes: a,
-            entries: b,
-            slots: c,
-        } => {
-            raise_read(
+    ) {
+        Err(refusal) => {
+            refuse(nodes, entries, slots, keptnodes, keptentries);
+            Err(refusal.at(0))
+        }
+        Ok(()) => {
+            let read = read_behind(
+                input,
                 nodes,
                 entries,
                 slots,
+                nesting,
                 keptnodes,
                 keptentries,
-                number,
-                a,
-                b,
-                c,
-            );
-            reader::Outcome::Read {
-                consumed,
-                nodes: keptnodes + a,
-                entries: keptentries + b,
-                slots: c,
-            }
+            )?;
+            raise_read(nodes, entries, slots, keptnodes, keptentries, number, read);
+            Ok(Read {
+                nodes: keptnodes + read.nodes,
+                entries: keptentries + read.entries,
+                ..read
+            })
         }
     }
 }

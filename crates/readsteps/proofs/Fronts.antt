@@ -5,21 +5,25 @@ use Prim.Native.Nat.{ℕ, zero, suc, ◌+◌, ◌-◌, ◌/◌, ◌%◌, ◌≤�
 use native.Mathlib.Omega.{arith}
 use mathlib.Core.Bool.{Bool, true, false, cond}
 use mathlib.Core.List.{List}
-use lib.ListN.{length, get_or, get_or-eq_default}
+use lib.ListN.{length, get_or}
 use lib.Dec.{ltb, eqb}
 use borrow.Author.Tests.{lt-ltb, le-ltb, ltb-true, ltb-false, eq-eqb, ne_eqb}
-use Rattle.refusals.specs.Numbers.{too_deep, eof_object, no_slot, no_node}
+use Rattle.std.specs.Prelude.{Result, Ok, Err}
+use Rattle.refusals.specs.Numbers.{too_deep, eof_object, no_slot}
+use Rattle.refusals.specs.Faults.{number_of, fault}
+use Rattle.refusals.specs.declared.Refusal.{Refusal}
+use Rattle.refusals.specs.declared.Refusal.TheVariants.{TooDeep, EofObject, NoSlot, NoNode}
+use Rattle.refusals.specs.declared.Fault.{Fault}
 use Rattle.grammar.specs.Reading.{level, node, slot, Reading, refused, claim, reads, gives, stops}
 use Rattle.grammar.specs.Room.{Rooms, run}
-use Rattle.grammar.specs.Letters.{refers, codes, refuses, flag_of, letter_of, class_of}
+use Rattle.grammar.specs.Letters.{refers, codes, flag_of, letter_of, class_of}
 use Rattle.grammar.specs.Fields.{Fields, span}
 use Rattle.grammar.specs.Steps.{Front, opens, opened, reference, reserving, header, front}
-use Rattle.fields.specs.Classes.{classes, class_at, kept_classes, refused_from}
+use Rattle.fields.specs.Classes.{classes, class_at, kept_classes, refused_from, refusal_of}
+use Rattle.fields.proofs.Refusals.{refused_class, refusal-own}
 use Rattle.fields.specs.Behind.{fields_of, children_of, behind_of, Reads}
 use Rattle.fields.specs.Behind as fields
-use Rattle.fields.specs.declared.Kids.{Kids}
 use Rattle.fields.specs.declared.Behind.{Behind}
-use Rattle.fields.specs.declared.Behind.TheVariants as behind
 use Rattle.readsteps.specs.declared.Room.{Room}
 use Rattle.readsteps.specs.declared.Walk.{Walk}
 use Rattle.readsteps.specs.declared.Opened.{Opened}
@@ -33,10 +37,6 @@ use Rattle.readsteps.proofs.Fields.{Kept, a_form, a_sort, a_code, kept_class, pa
 reference_class : (class : ℕ) → class ≡ 13 → class_at class ≡ refers
 unfolding class_at classes
 reference_class class e = rw e refl
-
-refused_class : (class : ℕ) → refused_from ≤ class → class_at class ≡ refuses (class - refused_from)
-unfolding class_at classes
-refused_class class h = get_or-eq_default classes (refuses (class - refused_from)) h
 
 below : {class : ℕ} → (class ≡ 13 → ⊥) → class < refused_from → class < kept_classes
 below {class} other h = omega arith
@@ -78,12 +78,14 @@ module _ (s : List ℕ) (allowance letter flag class at : ℕ) (is : class < kep
           rw k (claim-fits (rooms room (depth + allowance)) level (depth + 2) at (opened letter flag (fields_of s codes at)) (omega arith))
 
 module _ {s : List ℕ} {allowance letter flag class at : ℕ} (is : class < kept_classes) {need : ℕ} (needs : need ≡ cond (eqb class 12) 2 1) where
-  pub node-deep : 0 < allowance → allowance < need → Opens s allowance letter flag class at (answer.Refused too_deep at)
-  node-deep some h = record { ahead = tt; exact = deep s allowance letter flag class at is need needs some h }
+  pub node-deep : 0 < allowance → allowance < need → {f : Fault} → f ≡ fault TooDeep at → Opens s allowance letter flag class at (Err f)
+  node-deep some h told = rw told (record { ahead = tt; exact = deep s allowance letter flag class at is need needs some h })
 
-  module _ (fits : need ≤ allowance) {b : Behind} (f : Reads s (class_at class) at b) where
-    pub node-cut : {n p : ℕ} → b ≡ behind.Refused n p → Opens s allowance letter flag class at (answer.Refused n p)
-    node-cut {n} {p} it =
+  module _ (fits : need ≤ allowance) {b : Result Behind Fault} (f : Reads s (class_at class) at b) where
+    pub node-cut : {g : Fault} → b ≡ Err g → Opens s allowance letter flag class at (Err g)
+    node-cut {g} it =
+        let n = number_of g.refusal in
+        let p = g.place in
         let e : stops n p ≡ fields_of s (class_at class) at = sym (ap behind_of it) ∙ f.exact in
         record {
           ahead = tt;
@@ -91,11 +93,14 @@ module _ {s : List ℕ} {allowance letter flag class at : ℕ} (is : class < kep
               sym (fields_left s allowance letter flag class at is need needs fits room depth ∙ ap (λ a. run (rooms room (depth + allowance)) (opened letter flag a)) (sym e) ∙ run-cut (rooms room (depth + allowance)) letter flag n p);
         }
 
-    pub node-opened : {place size : ℕ} {kids : Kids} → b ≡ behind.Span place size kids
-        → Opens s allowance letter flag class at (answer.Node (record { letter = letter; flag = flag; place = place; size = size }) kids)
-    node-opened {place} {size} {kids} it =
+    pub node-opened : {read : Behind} → b ≡ Ok read
+        → Opens s allowance letter flag class at (Ok (answer.Node (record { letter = letter; flag = flag; place = read.place; size = read.size }) read.kids))
+    node-opened {read} it =
+        let place = read.place in
+        let size = read.size in
+        let kids = read.kids in
         let e : span place size (children_of kids) ≡ fields_of s (class_at class) at = sym (ap behind_of it) ∙ f.exact in
-        let a : fields.Ahead s at (behind.Span place size kids) = subst (fields.Ahead s at) it f.ahead in
+        let a : fields.Ahead s at (Ok read) = subst (fields.Ahead s at) it f.ahead in
         record {
           ahead = record {
             past = a.0;
@@ -167,16 +172,16 @@ module _ (s ss : List ℕ) (room : Room) (allowance : ℕ) (w : Walk) where
   unfolding front
   levelled some depth = claim-fits (R depth) level (depth + 1) w.at (cond (ltb w.at (length s)) (headed depth) (refused eof_object (length s))) (omega arith)
 
-  known-ahead : (r : Opened) → KnownAhead s (w.at + 1) r → Ahead s room allowance w r
-  known-ahead (answer.Known v at) h = h
-  known-ahead (answer.Node hd kids) h = absurd h
-  known-ahead (answer.Refused n p) h = tt
+  known-ahead : (r : Result Opened Fault) → KnownAhead s (w.at + 1) r → Ahead s room allowance w r
+  known-ahead (Ok (answer.Known v at)) h = h
+  known-ahead (Ok (answer.Node hd kids)) h = absurd h
+  known-ahead (Err f) h = tt
 
   -- of a header byte: its letter and its flag go with the node
-  node-ahead : (byte : ℕ) (r : Opened) → byte ≡ get_or s w.at 0 → NodeAhead s allowance (letter_of byte) (flag_of byte) (w.at + 1) r → byte < 256 → w.slots + flag_of byte ≤ room.slots
+  node-ahead : (byte : ℕ) (r : Result Opened Fault) → byte ≡ get_or s w.at 0 → NodeAhead s allowance (letter_of byte) (flag_of byte) (w.at + 1) r → byte < 256 → w.slots + flag_of byte ≤ room.slots
       → w.nodes < room.nodes → 0 < allowance → Ahead s room allowance w r
-  node-ahead byte (answer.Known v at) is h small slots n l = absurd h
-  node-ahead byte (answer.Node hd kids) is h small slots n l =
+  node-ahead byte (Ok (answer.Known v at)) is h small slots n l = absurd h
+  node-ahead byte (Ok (answer.Node hd kids)) is h small slots n l =
       record {
         past = h.past;
         within = h.within;
@@ -188,7 +193,7 @@ module _ (s ss : List ℕ) (room : Room) (allowance : ℕ) (w : Walk) where
         level = l;
         code = h.code;
       }
-  node-ahead byte (answer.Refused x p) is h small slots n l = tt
+  node-ahead byte (Err f) is h small slots n l = tt
 
   module _ (byte class : ℕ) (some : allowance ≡ 0 → ⊥) (there : w.at < length s) (is : byte ≡ get_or s w.at 0) (sorted : class_at class ≡ class_of (byte % 128)) where
     at_header : (depth : ℕ) → run (R depth) (front s depth w.at w.nodes w.slots ss) ≡ run (R depth) (header s depth w.at w.nodes w.slots ss (byte % 128) (byte / 128) (class_at class))
@@ -206,24 +211,24 @@ module _ (s ss : List ℕ) (room : Room) (allowance : ℕ) (w : Walk) where
         ∙ reserving-fits (R depth) (byte / 128) w.slots w.at _ fits
 
 module _ {s ss : List ℕ} {room : Room} {allowance : ℕ} {w : Walk} where
-  pub front-deep : allowance ≡ 0 → Fronts s ss room allowance w (answer.Refused too_deep w.at)
+  pub front-deep : allowance ≡ 0 → {f : Fault} → f ≡ fault TooDeep w.at → Fronts s ss room allowance w (Err f)
   unfolding front
-  front-deep e = record { ahead = tt; exact = λ depth. sym (claim_fails (rooms room (depth + allowance)) level (depth + 1) w.at _ (omega arith)) }
+  front-deep e told = rw told (record { ahead = tt; exact = λ depth. sym (claim_fails (rooms room (depth + allowance)) level (depth + 1) w.at _ (omega arith)) })
 
   module _ (some : allowance ≡ 0 → ⊥) where
-    pub front-end : w.at ≤ length s → length s ≤ w.at → Fronts s ss room allowance w (answer.Refused eof_object w.at)
+    pub front-end : w.at ≤ length s → length s ≤ w.at → {f : Fault} → f ≡ fault EofObject w.at → Fronts s ss room allowance w (Err f)
     unfolding run
-    front-end le ge =
+    front-end le ge told =
         let e : w.at ≡ length s = omega arith in
-        record {
+        rw told (record {
           ahead = tt;
           exact = λ depth.
               ap (λ n. stops eof_object n) e
               ∙ sym (levelled s ss room allowance w some depth ∙ ap (λ b. run (rooms room (depth + allowance)) (cond b (headed s ss room allowance w depth) (refused eof_object (length s)))) (le-ltb w.at (length s) ge));
-        }
+        })
 
     module _ (there : w.at < length s) {byte class : ℕ} (is : byte ≡ get_or s w.at 0) (sorted : class_at class ≡ class_of (byte % 128)) where
-      pub front-known : class ≡ 13 → {r : Opened} → References s ss (w.at + 1) r → Fronts s ss room allowance w r
+      pub front-known : class ≡ 13 → {r : Result Opened Fault} → References s ss (w.at + 1) r → Fronts s ss room allowance w r
       front-known it {r} k =
           record {
             ahead = known-ahead s ss room allowance w r k.ahead;
@@ -236,9 +241,9 @@ module _ {s ss : List ℕ} {room : Room} {allowance : ℕ} {w : Walk} where
           }
 
       module _ (small : byte < 256) (other : class ≡ 13 → ⊥) where
-        pub front-no_slot : w.slots ≤ room.slots → room.slots < w.slots + byte / 128 → Fronts s ss room allowance w (answer.Refused no_slot w.at)
-        front-no_slot used h =
-            record {
+        pub front-no_slot : w.slots ≤ room.slots → room.slots < w.slots + byte / 128 → {f : Fault} → f ≡ fault NoSlot w.at → Fronts s ss room allowance w (Err f)
+        front-no_slot used h told =
+            rw told (record {
               ahead = tt;
               exact = λ depth.
                   let x = slot_first s depth w.at w.nodes w.slots ss (byte % 128) (byte / 128) class other in
@@ -246,32 +251,33 @@ module _ {s ss : List ℕ} {room : Room} {allowance : ℕ} {w : Walk} where
                   (at_header s ss room allowance w byte class some there is sorted depth
                   ∙ ap (run (rooms room (depth + allowance))) x.1
                   ∙ reserving_fails (rooms room (depth + allowance)) (byte / 128) w.slots w.at x.0 h (omega arith) used);
-            }
+            })
 
         module _ (fits : w.slots + byte / 128 ≤ room.slots) where
-          pub front-refused : refused_from ≤ class → Fronts s ss room allowance w (answer.Refused (class - refused_from) w.at)
+          pub front-refused : refused_from ≤ class → {why : Refusal} → why ≡ refusal_of class → {f : Fault} → f ≡ fault why w.at → Fronts s ss room allowance w (Err f)
           unfolding run
-          front-refused h =
-              record {
+          front-refused h {why} x told =
+              rw told (record {
                 ahead = tt;
                 exact = λ depth.
-                    sym
+                    ap (λ n. stops n w.at) (ap number_of x ∙ refusal-own class (byte % 128) sorted h)
+                    ∙ sym
                     (at_header s ss room allowance w byte class some there is sorted depth
                     ∙ ap (run (rooms room (depth + allowance))) (refused-header s depth w.at w.nodes w.slots ss (byte % 128) (byte / 128) class h)
                     ∙ reserving-fits (rooms room (depth + allowance)) (byte / 128) w.slots w.at (refused (class - refused_from) w.at) fits);
-              }
+              })
 
-          pub front-no_node : class < refused_from → room.nodes ≤ w.nodes → Fronts s ss room allowance w (answer.Refused no_node w.at)
-          front-no_node sound h =
-              record {
+          pub front-no_node : class < refused_from → room.nodes ≤ w.nodes → {f : Fault} → f ≡ fault NoNode w.at → Fronts s ss room allowance w (Err f)
+          front-no_node sound h told =
+              rw told (record {
                 ahead = tt;
                 exact = λ depth.
                     sym
                     (at_node s ss room allowance w byte class some there is sorted fits (below other sound) depth
                     ∙ claim_fails (rooms room (depth + allowance)) node (w.nodes + 1) w.at (inner s depth (w.at + 1) (byte % 128) (byte / 128) (class_at class)) (omega arith));
-              }
+              })
 
-          pub front-opened : class < refused_from → w.nodes < room.nodes → {r : Opened} → Opens s allowance (byte % 128) (byte / 128) class (w.at + 1) r → Fronts s ss room allowance w r
+          pub front-opened : class < refused_from → w.nodes < room.nodes → {r : Result Opened Fault} → Opens s allowance (byte % 128) (byte / 128) class (w.at + 1) r → Fronts s ss room allowance w r
           front-opened sound h {r} k =
               record {
                 ahead = node-ahead s ss room allowance w byte r is k.ahead small fits h (omega arith);

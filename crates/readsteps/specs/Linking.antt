@@ -1,8 +1,12 @@
 -- No export and no promise rests on this page.
 -- What the code makes of a line when a child is complete, of a part by its rule, of the first line, and of a code's end.
 -- 01, 'Reading a value': from "Children get the allowance less one" on, as grammar's Steps says it.
-use Rattle.std.specs.Prelude.{◌≡◌, ℕ, zero, suc, ◌+◌, ◌-◌, ◌%◌, ◌≤◌, ◌<◌, Bool, true, cond, ◌&&◌, List, length, get_or, leb, ltb, eqb}
-use Rattle.refusals.specs.Numbers.{accepted, eof_object, data_too_short, no_entry}
+use Rattle.std.specs.Prelude.{◌≡◌, ℕ, zero, suc, ◌+◌, ◌-◌, ◌%◌, ◌≤◌, ◌<◌, Bool, true, cond, ◌&&◌, List, length, get_or, leb, ltb, eqb, Result, Ok, Err}
+use Rattle.refusals.specs.Numbers.{accepted, eof_object}
+use Rattle.refusals.specs.Faults.{number_of, refused}
+use Rattle.refusals.specs.declared.Refusal.{Refusal}
+use Rattle.refusals.specs.declared.Refusal.TheVariants.{DataTooShort, NoEntry}
+use Rattle.refusals.specs.declared.Fault.{Fault}
 use Rattle.refusals.specs.Limits.{nothing}
 use Rattle.grammar.specs.LetterNames.{null_letter}
 use Rattle.grammar.specs.Letters.{is_bytes, is_tuple, is_string}
@@ -14,8 +18,6 @@ use Rattle.fields.specs.declared.Kids.TheVariants as kind
 use Rattle.stores.specs.Written.{entry_written, entry_linked}
 use Rattle.readsteps.specs.declared.Walk.{Walk}
 use Rattle.readsteps.specs.declared.Line.{Line}
-use Rattle.readsteps.specs.declared.Linked.{Linked}
-use Rattle.readsteps.specs.declared.Linked.TheVariants as linked
 use Rattle.readsteps.specs.declared.Next.{Next}
 use Rattle.readsteps.specs.declared.Next.TheVariants as next
 
@@ -49,10 +51,10 @@ entries_next es l v a =
 abbrev pub entries_after : (room : ℕ) → List ℕ → Line → ℕ → Walk → List ℕ
 entries_after room es l v a = cond (ltb a.entries room) (entries_next es l v a) es
 
-abbrev pub attached : (room : ℕ) → Line → (place child : ℕ) → Walk → Linked
-attached room l place v a = cond (ltb a.entries room) (linked.Line (line_next l v a)) (linked.Refused no_entry place)
+abbrev pub attached : (room : ℕ) → Line → (place child : ℕ) → Walk → Result Line Fault
+attached room l place v a = cond (ltb a.entries room) (Ok (line_next l v a)) (refused NoEntry place)
 
-pub record Attaches (room : ℕ) (l : Line) (place v : ℕ) (a : Walk) (es : List ℕ) (r : Linked) (es' : List ℕ) : Type 0 where
+pub record Attaches (room : ℕ) (l : Line) (place v : ℕ) (a : Walk) (es : List ℕ) (r : Result Line Fault) (es' : List ℕ) : Type 0 where
   pub answer : r ≡ attached room l place v a
   pub entries : es' ≡ entries_after room es l v a
 
@@ -114,44 +116,49 @@ line_lined l =
       walk = record { at = l.walk.at + 4; nodes = l.walk.nodes; entries = l.walk.entries; slots = l.walk.slots };
     }
 
-abbrev pub first_lined : List ℕ → ℕ → Line → Linked
+abbrev pub first_lined : List ℕ → ℕ → Line → Result Line Fault
 first_lined s i l =
     cond (eqb i line_part)
-    (cond (leb (l.walk.at + 4) (length s)) (linked.Line (line_lined l)) (linked.Refused data_too_short l.walk.at))
-    (linked.Line l)
+    (cond (leb (l.walk.at + 4) (length s)) (Ok (line_lined l)) (refused DataTooShort l.walk.at))
+    (Ok l)
 
 -- the refusal's number at the end of a code whose numbers stand at a place, or none
 abbrev pub fault_in : List ℕ → List ℕ → ℕ → Line → ℕ
 fault_in s ns place l =
     code_fault (sum_at s place) (node_at ns l.code).size (node_at ns l.locals).count (node_at ns l.kinds).size
 
+-- what the code answers of a code's end, as that number
+abbrev pub fault_number : Result (Unit {0}) Refusal → ℕ
+fault_number (Ok sound) = accepted
+fault_number (Err why) = number_of why
+
 -- What comes next among the children of a node, by the kind of these.
-abbrev pub ItemNext : ℕ → Line → Next → Type 0
-ItemNext count l (next.Child m rule) = (m ≡ l) × (rule ≡ 0) × (l.count < count)
-ItemNext count l (next.Done m) = (m ≡ l) × (count ≤ l.count)
-ItemNext count l (next.Refused n p) = ⊥
+abbrev pub ItemNext : ℕ → Line → Result Next Fault → Type 0
+ItemNext count l (Ok (next.Child m rule)) = (m ≡ l) × (rule ≡ 0) × (l.count < count)
+ItemNext count l (Ok (next.Done m)) = (m ≡ l) × (count ≤ l.count)
+ItemNext count l (Err f) = ⊥
 
 -- a key stands where as many keys as values are read
-abbrev pub PairNext : List ℕ → Line → Next → Type 0
-PairNext s l (next.Child m rule) =
+abbrev pub PairNext : List ℕ → Line → Result Next Fault → Type 0
+PairNext s l (Ok (next.Child m rule)) =
     (m ≡ l) × (rule ≡ 0) × (l.count % 2 ≡ 0 → (l.walk.at < length s) × (get_or s l.walk.at 0 % 128 ≡ null_letter → ⊥))
-PairNext s l (next.Done m) = (m ≡ line_on 1 l) × (l.count % 2 ≡ 0) × (l.walk.at < length s) × (get_or s l.walk.at 0 % 128 ≡ null_letter)
-PairNext s l (next.Refused n p) = (n ≡ eof_object) × (p ≡ l.walk.at) × (l.count % 2 ≡ 0) × (length s ≤ l.walk.at)
+PairNext s l (Ok (next.Done m)) = (m ≡ line_on 1 l) × (l.count % 2 ≡ 0) × (l.walk.at < length s) × (get_or s l.walk.at 0 % 128 ≡ null_letter)
+PairNext s l (Err f) = (number_of f.refusal ≡ eof_object) × (f.place ≡ l.walk.at) × (l.count % 2 ≡ 0) × (length s ≤ l.walk.at)
 
-abbrev pub PartNext : (s ns : List ℕ) → ℕ → Line → Next → Type 0
-PartNext s ns at l (next.Child m rule) =
-    (first_lined s l.count l ≡ linked.Line m) × (rule ≡ rule_number (get_or rules l.count whatever)) × (l.count < code_parts)
-PartNext s ns at l (next.Done m) = (m ≡ l) × (code_parts ≤ l.count) × (fault_in s ns (at + 1) l ≡ accepted)
-PartNext s ns at l (next.Refused n p) =
-    (l.count < code_parts → first_lined s l.count l ≡ linked.Refused n p)
-    × (code_parts ≤ l.count → (p ≡ at) × (n ≡ fault_in s ns (at + 1) l) × (n ≡ accepted → ⊥))
+abbrev pub PartNext : (s ns : List ℕ) → ℕ → Line → Result Next Fault → Type 0
+PartNext s ns at l (Ok (next.Child m rule)) =
+    (first_lined s l.count l ≡ Ok m) × (rule ≡ rule_number (get_or rules l.count whatever)) × (l.count < code_parts)
+PartNext s ns at l (Ok (next.Done m)) = (m ≡ l) × (code_parts ≤ l.count) × (fault_in s ns (at + 1) l ≡ accepted)
+PartNext s ns at l (Err f) =
+    (l.count < code_parts → first_lined s l.count l ≡ Err f)
+    × (code_parts ≤ l.count → (f.place ≡ at) × (number_of f.refusal ≡ fault_in s ns (at + 1) l) × (number_of f.refusal ≡ accepted → ⊥))
 
-abbrev pub NextOf : (s ns : List ℕ) → Kids → ℕ → Line → Next → Type 0
+abbrev pub NextOf : (s ns : List ℕ) → Kids → ℕ → Line → Result Next Fault → Type 0
 NextOf s ns (kind.Items count) at l r = ItemNext count l r
 NextOf s ns kind.Pairs at l r = PairNext s l r
 NextOf s ns kind.Parts at l r = PartNext s ns at l r
 
-pub record Nexts (s ns : List ℕ) (kids : Kids) (at : ℕ) (l : Line) (r : Next) : Type 0 where
+pub record Nexts (s ns : List ℕ) (kids : Kids) (at : ℕ) (l : Line) (r : Result Next Fault) : Type 0 where
   pub is : NextOf s ns kids at l r
 
 -- the allowance of a node's children, of what the container or the code's body has

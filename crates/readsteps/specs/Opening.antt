@@ -1,6 +1,8 @@
 -- No export and no promise rests on this page.
 -- What the code answers of a header and its fields, against `front` of the definitions: 01, 'Reading a value', steps 1 to 3.
-use Rattle.std.specs.Prelude.{◌≡◌, ℕ, ◌+◌, ◌≤◌, ◌<◌, List, length, get_or}
+use Rattle.std.specs.Prelude.{◌≡◌, ℕ, ◌+◌, ◌≤◌, ◌<◌, List, length, get_or, Result, Ok, Err}
+use Rattle.refusals.specs.Faults.{number_of}
+use Rattle.refusals.specs.declared.Fault.{Fault}
 use Rattle.grammar.specs.Reading.{Reading, claim, level, Answer, gives, stops}
 use Rattle.grammar.specs.Letters.{Class, refers, keeps, contains, codes, refuses, letter_of, flag_of}
 use Rattle.grammar.specs.Room.{run}
@@ -17,18 +19,18 @@ use Rattle.readsteps.specs.declared.Opened.TheVariants as answer
 use Rattle.readsteps.specs.Held.{rooms}
 
 -- the code's answer in the words of the grammar
-abbrev pub front_of : Opened → Answer Front
-front_of (answer.Known v at) = gives (known v at)
-front_of (answer.Node h kids) = gives (opens h.letter h.flag (record { place = h.place; size = h.size; children = children_of kids }))
-front_of (answer.Refused n p) = stops n p
+abbrev pub front_of : Result Opened Fault → Answer Front
+front_of (Ok (answer.Known v at)) = gives (known v at)
+front_of (Ok (answer.Node h kids)) = gives (opens h.letter h.flag (record { place = h.place; size = h.size; children = children_of kids }))
+front_of (Err f) = stops (number_of f.refusal) f.place
 
 -- What `resolve_ref` answers: never a node's head, and a place in the input.
-abbrev pub KnownAhead : List ℕ → ℕ → Opened → Type 0
-KnownAhead s at (answer.Known v a) = (at ≤ a) × (a ≤ length s)
-KnownAhead s at (answer.Node h kids) = ⊥
-KnownAhead s at (answer.Refused n p) = Unit
+abbrev pub KnownAhead : List ℕ → ℕ → Result Opened Fault → Type 0
+KnownAhead s at (Ok (answer.Known v a)) = (at ≤ a) × (a ≤ length s)
+KnownAhead s at (Ok (answer.Node h kids)) = ⊥
+KnownAhead s at (Err f) = Unit
 
-pub record References (s slots : List ℕ) (at : ℕ) (r : Opened) : Type 0 where
+pub record References (s slots : List ℕ) (at : ℕ) (r : Result Opened Fault) : Type 0 where
   pub ahead : KnownAhead s at r
   pub exact : front_of r ≡ reference s slots at
 
@@ -52,12 +54,12 @@ pub record Spans (s : List ℕ) (allowance letter flag at : ℕ) (h : Head) (kid
   pub flagged : h.flag ≡ flag
   pub code : CodeAt at allowance h kids
 
-abbrev pub NodeAhead : List ℕ → (allowance letter flag at : ℕ) → Opened → Type 0
-NodeAhead s allowance letter flag at (answer.Known v a) = ⊥
-NodeAhead s allowance letter flag at (answer.Node h kids) = Spans s allowance letter flag at h kids
-NodeAhead s allowance letter flag at (answer.Refused n p) = Unit
+abbrev pub NodeAhead : List ℕ → (allowance letter flag at : ℕ) → Result Opened Fault → Type 0
+NodeAhead s allowance letter flag at (Ok (answer.Known v a)) = ⊥
+NodeAhead s allowance letter flag at (Ok (answer.Node h kids)) = Spans s allowance letter flag at h kids
+NodeAhead s allowance letter flag at (Err f) = Unit
 
-pub record Opens (s : List ℕ) (allowance letter flag class at : ℕ) (r : Opened) : Type 0 where
+pub record Opens (s : List ℕ) (allowance letter flag class at : ℕ) (r : Result Opened Fault) : Type 0 where
   pub ahead : NodeAhead s allowance letter flag at r
   pub exact : (room : Room) (depth : ℕ) → front_of r ≡ run (rooms room (depth + allowance)) (inner s depth at letter flag (class_at class))
 
@@ -74,12 +76,12 @@ pub record HeadIn (s : List ℕ) (room : Room) (allowance : ℕ) (w : Walk) (h :
   pub level : 0 < allowance
   pub code : CodeAt (w.at + 1) allowance h kids
 
-abbrev pub Ahead : List ℕ → Room → ℕ → Walk → Opened → Type 0
-Ahead s room allowance w (answer.Known v at) = (w.at + 1 ≤ at) × (at ≤ length s)
-Ahead s room allowance w (answer.Node h kids) = HeadIn s room allowance w h kids
-Ahead s room allowance w (answer.Refused n p) = Unit
+abbrev pub Ahead : List ℕ → Room → ℕ → Walk → Result Opened Fault → Type 0
+Ahead s room allowance w (Ok (answer.Known v at)) = (w.at + 1 ≤ at) × (at ≤ length s)
+Ahead s room allowance w (Ok (answer.Node h kids)) = HeadIn s room allowance w h kids
+Ahead s room allowance w (Err f) = Unit
 
 -- At any depth, what `front` answers is what the definition gives where the levels are the depth and the allowance.
-pub record Fronts (s slots : List ℕ) (room : Room) (allowance : ℕ) (w : Walk) (r : Opened) : Type 0 where
+pub record Fronts (s slots : List ℕ) (room : Room) (allowance : ℕ) (w : Walk) (r : Result Opened Fault) : Type 0 where
   pub ahead : Ahead s room allowance w r
   pub exact : (depth : ℕ) → front_of r ≡ run (rooms room (depth + allowance)) (front s depth w.at w.nodes w.slots slots)

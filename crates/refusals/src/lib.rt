@@ -1,6 +1,93 @@
-// The refusal numbers of documents 01 and 02 and the limits of 01, each named once for the code of every crate.
-// `specs/Numbers` and `specs/Limits` name the same numbers for the definitions.
+// The refusals of documents 01 and 02 as one enum, each with its number, and a refusal with the place that it names: the error of every function
+// that can refuse. And the limits of 01, each named once for the code of every crate. `specs/Numbers` and `specs/Limits` name the same numbers.
 #![tactic(auto)]
+
+ghost use Rattle.std.specs.Prelude.{◌≡◌};
+ghost use Rattle.refusals.specs.Faults.{number_of, fault};
+
+// Why nothing is read or written.
+#[derive(Clone, Copy, Debug, PartialEq, Eq)]
+pub enum Refusal {
+    EofObject,
+    DataTooShort,
+    UnknownType,
+    NullObject,
+    InvalidRef,
+    BadSize,
+    BadType,
+    InvalidBytecode,
+    InvalidUtf8,
+    TooDeep,
+    NoNode,
+    NoEntry,
+    NoSlot,
+    InputTooLong,
+    NotCarried,
+    BadTable,
+    NoRoom,
+    NumberRange,
+    NoMarker,
+    NoSuchStart,
+    AlreadyEnded,
+    RepeatedTag,
+    NoSuchField,
+    NotJoined,
+    TrailingBytes,
+    ValueTooLong,
+}
+
+// A refusal and the place that it names.
+#[derive(Clone, Copy, Debug, PartialEq, Eq)]
+pub struct Fault {
+    pub refusal: Refusal,
+    pub place: u32,
+}
+
+impl Refusal {
+    // The number that the documents give it.
+    pub fn number(self) -> u32
+        ensures { result ≡ number_of self }
+    {
+        match self {
+            Refusal::EofObject => EOF_OBJECT,
+            Refusal::DataTooShort => DATA_TOO_SHORT,
+            Refusal::UnknownType => UNKNOWN_TYPE,
+            Refusal::NullObject => NULL_OBJECT,
+            Refusal::InvalidRef => INVALID_REF,
+            Refusal::BadSize => BAD_SIZE,
+            Refusal::BadType => BAD_TYPE,
+            Refusal::InvalidBytecode => INVALID_BYTECODE,
+            Refusal::InvalidUtf8 => INVALID_UTF8,
+            Refusal::TooDeep => TOO_DEEP,
+            Refusal::NoNode => NO_NODE,
+            Refusal::NoEntry => NO_ENTRY,
+            Refusal::NoSlot => NO_SLOT,
+            Refusal::InputTooLong => INPUT_TOO_LONG,
+            Refusal::NotCarried => NOT_CARRIED,
+            Refusal::BadTable => BAD_TABLE,
+            Refusal::NoRoom => NO_ROOM,
+            Refusal::NumberRange => NUMBER_RANGE,
+            Refusal::NoMarker => NO_MARKER,
+            Refusal::NoSuchStart => NO_SUCH_START,
+            Refusal::AlreadyEnded => ALREADY_ENDED,
+            Refusal::RepeatedTag => REPEATED_TAG,
+            Refusal::NoSuchField => NO_SUCH_FIELD,
+            Refusal::NotJoined => NOT_JOINED,
+            Refusal::TrailingBytes => TRAILING_BYTES,
+            Refusal::ValueTooLong => VALUE_TOO_LONG,
+        }
+    }
+
+    // The refusal at a place.
+    pub fn at(self, place: u32) -> Fault
+        ensures { result ≡ fault self place }
+    {
+        Fault {
+            refusal: self,
+            place,
+        }
+    }
+}
 
 pub const ACCEPTED: u32 = 0;
 

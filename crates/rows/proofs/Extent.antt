@@ -8,14 +8,12 @@ use native.Mathlib.Omega.{arith}
 use lib.ListN.{length, drop, get_or, length-drop}
 use lib.Dec.{ltb, eqb}
 use borrow.Author.Tests.{lt-ltb, ltb-true, ltb-false}
+use Rattle.std.specs.Prelude.{Option, Some, None}
 use Rattle.lineentry.specs.declared.Varint.{Varint}
-use Rattle.lineentry.specs.declared.Varint.TheVariants.{Value, TooLong}
-use Rattle.lineentry.specs.declared.Moved.{Moved}
-use Rattle.lineentry.specs.declared.Moved.TheVariants.{To, Outside}
 use Rattle.lineentry.specs.declared.Span.{Span}
 use Rattle.lineentry.specs.declared.Entry.{Entry}
 use Rattle.lineentry.specs.declared.Entry.TheVariants.{Covers, Stop, OutOfRange}
-use Rattle.lineentry.specs.Varint.{byte_at, varint_at, signed, signed_of, signed_at}
+use Rattle.lineentry.specs.Varint.{read_as, byte_at, varint_at, signed, signed_of, signed_at}
 use Rattle.lineentry.specs.Line.{origin, moved, as_signed}
 use Rattle.lineentry.specs.Entry.{with_number, with_line, short_form, one_line, no_columns, long_columns, long_form, by_code, entry_of, entry_at}
 use Rattle.lineentry.proofs.Entries.{covers-inside}
@@ -61,7 +59,7 @@ pub record Ran (s : List ℕ) (p q : ℕ) (m : Bool) : Type 0 where
   pub upto : q ≤ length s
   pub late : m ≡ true → q ≡ length s
 
-pub ran : (s : List ℕ) (p x q : ℕ) (m : Bool) → p ≤ length s → varint_at s p ≡ Value x q m → Ran s p q m
+pub ran : (s : List ℕ) (p x q : ℕ) (m : Bool) → p ≤ length s → varint_at s p ≡ read_as x q m → Ran s p q m
 ran s p x q m h e =
     let a = parsed s p x q m e in
     let n = digits_le (drop p s) in
@@ -71,9 +69,9 @@ ran s p x q m h e =
 number-reads : (s : List ℕ) (p : ℕ) (go : ℕ → ℕ → Bool → Entry) → p ≤ length s → ((x q : ℕ) (m : Bool) → Ran s p q m → Reads s q (go x q m))
     → Reads s p (with_number (varint_at s p) go)
 number-reads s p go h f = on (varint_at s p) refl where
-  on : (v : Varint) → varint_at s p ≡ v → Reads s p (with_number v go)
-  on (Value x q m) e = let r = ran s p x q m h e in wider s p q (go x q m) r.from (f x q m r)
-  on TooLong e = tt
+  on : (v : Option Varint) → varint_at s p ≡ v → Reads s p (with_number v go)
+  on (Some v) e = let r = ran s p v.value v.next v.missing h e in wider s p v.next (go v.value v.next v.missing) r.from (f v.value v.next v.missing r)
+  on None e = tt
 
 number_late : (s : List ℕ) (p : ℕ) (go : ℕ → ℕ → Bool → Entry) → p ≡ length s → ((x q : ℕ) → q ≡ length s → Late (go x q true)) → Late (with_number (varint_at s p) go)
 number_late s p go h f = rw (varint_end 6 s p (omega arith)) (f 0 p h)
@@ -84,30 +82,31 @@ number_loc : (s t : List ℕ) (p : ℕ) (go go' : ℕ → ℕ → Bool → Entry
     → ((x q : ℕ) → q ≤ length s → Loc s t q (go x q false) (go' x q false))
     → Loc s t p (with_number (varint_at s p) go) (with_number (varint_at t p) go')
 number_loc s t p go go' h late reads loc = on (varint_at s p) refl where
-  at : (x q : ℕ) (a : Entry) → varint_at s p ≡ Value x q false → p ≤ q → Reads s q a → Loc s t q a (go' x q false) → Loc s t p a (with_number (varint_at t p) go')
+  at : (x q : ℕ) (a : Entry) → varint_at s p ≡ read_as x q false → p ≤ q → Reads s q a → Loc s t q a (go' x q false) → Loc s t p a (with_number (varint_at t p) go')
   at x q (Covers e) v l r f = λ m k. rw (varint_local s t p x q v (narrow p q (omega arith) r.from k)) (f m (narrow q e.next l (omega arith) k))
   at x q Stop v l r f = tt
   at x q OutOfRange v l r f = tt
 
-  on : (v : Varint) → varint_at s p ≡ v → Loc s t p (with_number v go) (with_number (varint_at t p) go')
-  on (Value x q true) e = late_loc s t p (go x q true) _ (late x q ((ran s p x q true h e).late refl))
-  on (Value x q false) e =
-      let r = ran s p x q false h e in
-      at x q (go x q false) e r.from (reads x q r.upto) (loc x q r.upto)
-  on TooLong e = tt
+  of : (x q : ℕ) (m : Bool) → varint_at s p ≡ read_as x q m → Loc s t p (go x q m) (with_number (varint_at t p) go')
+  of x q true e = late_loc s t p (go x q true) _ (late x q ((ran s p x q true h e).late refl))
+  of x q false e = let r = ran s p x q false h e in at x q (go x q false) e r.from (reads x q r.upto) (loc x q r.upto)
+
+  on : (v : Option Varint) → varint_at s p ≡ v → Loc s t p (with_number v go) (with_number (varint_at t p) go')
+  on (Some v) e = of v.value v.next v.missing e
+  on None e = tt
 
 -- ---- a line
-line_reads : (s : List ℕ) (p : ℕ) (l : Moved) (go : ℕ → Entry) → ((x : ℕ) → Reads s p (go x)) → Reads s p (with_line l go)
-line_reads s p (To x) go f = f x
-line_reads s p Outside go f = tt
+line_reads : (s : List ℕ) (p : ℕ) (l : Option ℕ) (go : ℕ → Entry) → ((x : ℕ) → Reads s p (go x)) → Reads s p (with_line l go)
+line_reads s p (Some x) go f = f x
+line_reads s p None go f = tt
 
-line_late : (l : Moved) (go : ℕ → Entry) → ((x : ℕ) → Late (go x)) → Late (with_line l go)
-line_late (To x) go f = f x
-line_late Outside go f = tt
+line_late : (l : Option ℕ) (go : ℕ → Entry) → ((x : ℕ) → Late (go x)) → Late (with_line l go)
+line_late (Some x) go f = f x
+line_late None go f = tt
 
-line_loc : (s t : List ℕ) (p : ℕ) (l : Moved) (go go' : ℕ → Entry) → ((x : ℕ) → Loc s t p (go x) (go' x)) → Loc s t p (with_line l go) (with_line l go')
-line_loc s t p (To x) go go' f = f x
-line_loc s t p Outside go go' f = tt
+line_loc : (s t : List ℕ) (p : ℕ) (l : Option ℕ) (go go' : ℕ → Entry) → ((x : ℕ) → Loc s t p (go x) (go' x)) → Loc s t p (with_line l go) (with_line l go')
+line_loc s t p (Some x) go go' f = f x
+line_loc s t p None go go' f = tt
 
 -- ---- a byte
 byte_ran : (s : List ℕ) (p : ℕ) → p ≤ length s → Ran s p (byte_at s p).next (byte_at s p).missing
@@ -132,9 +131,9 @@ byte_local s t p k h m =
     rw (lt-ltb p (length s) a, lt-ltb p (length t) b, m.bytes p (omega arith) h)
 
 -- ---- the forms
-signed-number : (v : Varint) (go : ℕ → ℕ → Bool → Entry) → with_number (signed v) go ≡ with_number v (λ x. go (signed_of x))
-signed-number (Value x q m) go = refl
-signed-number TooLong go = refl
+signed-number : (v : Option Varint) (go : ℕ → ℕ → Bool → Entry) → with_number (signed v) go ≡ with_number v (λ x. go (signed_of x))
+signed-number (Some v) go = refl
+signed-number None go = refl
 
 pub signed_at_lem : (s : List ℕ) (p : ℕ) (go : ℕ → ℕ → Bool → Entry) → with_number (signed_at s p) go ≡ with_number (varint_at s p) (λ x. go (signed_of x))
 unfolding signed_at

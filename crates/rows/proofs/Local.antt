@@ -8,8 +8,9 @@ use lib.ListN.{length, drop, get_or, length-drop}
 use lib.Seq.{get_or-drop}
 use lib.Dec.{leb, ltb}
 use borrow.Author.Tests.{lt-ltb, le-leb, ltb-true, leb-true}
-use Rattle.lineentry.specs.declared.Varint.TheVariants.{Value, TooLong}
-use Rattle.lineentry.specs.Varint.{more, digits, number, cut, varint_within, varint_at}
+use Rattle.std.specs.Prelude.{None}
+use Rattle.lineentry.specs.Varint.{read_as, more, digits, number, cut, varint_within, varint_at}
+use Rattle.lineentry.proofs.Varints.{same-parts}
 
 pub never : {A : Type 0} → true ≡ false → A
 never e = let z : ◌≡◌ {A = ℕ} 1 0 = ap (λ c. cond c 1 0) e in absurd (omega arith)
@@ -58,16 +59,18 @@ pub record Parsed (s : List ℕ) (p x q : ℕ) (m : Bool) : Type 0 where
   pub cuts : cut (drop p s) ≡ m
 
 parsed_on : (s : List ℕ) (p x q : ℕ) (m w z : Bool) → leb (length (digits (drop p s))) 6 ≡ w → ltb (number (digits (drop p s))) 4294967296 ≡ z
-    → cond (w && z) (Value (number (digits (drop p s))) (p + length (digits (drop p s))) (cut (drop p s))) TooLong ≡ Value x q m → Parsed s p x q m
-parsed_on s p x q m true true h k e = record { wide = cc; few = leb-true _ 6 h; value = cc; small = ltb-true _ 4294967296 k; cuts = cc }
+    → cond (w && z) (read_as (number (digits (drop p s))) (p + length (digits (drop p s))) (cut (drop p s))) None ≡ read_as x q m → Parsed s p x q m
+parsed_on s p x q m true true h k e =
+    let r = same-parts e in
+    record { wide = r.1; few = leb-true _ 6 h; value = r.0; small = ltb-true _ 4294967296 k; cuts = r.2 }
 parsed_on s p x q m true false h k e = let z : ◌≡◌ {A = ℕ} 0 1 = cc in absurd (omega arith)
 parsed_on s p x q m false z h k e = let z : ◌≡◌ {A = ℕ} 0 1 = cc in absurd (omega arith)
 
-pub parsed : (s : List ℕ) (p x q : ℕ) (m : Bool) → varint_at s p ≡ Value x q m → Parsed s p x q m
+pub parsed : (s : List ℕ) (p x q : ℕ) (m : Bool) → varint_at s p ≡ read_as x q m → Parsed s p x q m
 unfolding varint_within
 parsed s p x q m e = parsed_on s p x q m (leb (length (digits (drop p s))) 6) (ltb (number (digits (drop p s))) 4294967296) refl refl e
 
-pub parses : (s : List ℕ) (p x q : ℕ) (m : Bool) → Parsed s p x q m → varint_at s p ≡ Value x q m
+pub parses : (s : List ℕ) (p x q : ℕ) (m : Bool) → Parsed s p x q m → varint_at s p ≡ read_as x q m
 unfolding varint_within
 parses s p x q m h = rw (le-leb (length (digits (drop p s))) 6 h.few, lt-ltb (number (digits (drop p s))) 4294967296 h.small, h.value, h.wide, h.cuts)
 
@@ -80,7 +83,7 @@ pub record Same (s t : List ℕ) (p k : ℕ) : Type 0 where
 pub narrow : {s t : List ℕ} {p k : ℕ} (q j : ℕ) → p ≤ q → j ≤ k → Same s t p k → Same s t q j
 narrow q j h l m = record { inside = omega (arith, m.inside); within = omega (arith, m.within); bytes = λ i a b. m.bytes i (omega arith) (omega arith) }
 
-pub varint_local : (s t : List ℕ) (p x q : ℕ) → varint_at s p ≡ Value x q false → Same s t p q → varint_at t p ≡ Value x q false
+pub varint_local : (s t : List ℕ) (p x q : ℕ) → varint_at s p ≡ read_as x q false → Same s t p q → varint_at t p ≡ read_as x q false
 varint_local s t p x q e m =
     let a = parsed s p x q false e in
     let d = digits_local (drop p s) (drop p t) a.cuts (omega (arith, a.wide, m.within, length-drop p t))

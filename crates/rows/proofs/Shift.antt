@@ -10,15 +10,13 @@ use lib.ListN.{length, drop, length-append}
 use lib.Seq.{drop-append-add, get_or-append-add}
 use lib.Dec.{leb, ltb, eqb}
 use borrow.Author.Tests.{le-ltb, lt-ltb, ltb-true, ltb-false}
+use Rattle.std.specs.Prelude.{Option, Some, None}
 use Rattle.lineentry.specs.declared.Byte.{Byte}
 use Rattle.lineentry.specs.declared.Varint.{Varint}
-use Rattle.lineentry.specs.declared.Varint.TheVariants.{Value, TooLong}
-use Rattle.lineentry.specs.declared.Moved.{Moved}
-use Rattle.lineentry.specs.declared.Moved.TheVariants.{To, Outside}
 use Rattle.lineentry.specs.declared.Span.{Span}
 use Rattle.lineentry.specs.declared.Entry.{Entry}
 use Rattle.lineentry.specs.declared.Entry.TheVariants.{Covers, Stop, OutOfRange}
-use Rattle.lineentry.specs.Varint.{byte_at, digits, number, cut, varint_within, varint_at, signed_of, signed_at}
+use Rattle.lineentry.specs.Varint.{read_as, byte_at, digits, number, cut, varint_within, varint_at, signed_of, signed_at}
 use Rattle.lineentry.specs.Line.{origin, moved, as_signed}
 use Rattle.lineentry.specs.Entry.{with_number, with_line, short_form, one_line, no_columns, long_columns, long_form, by_code, entry_of, entry_at}
 use Rattle.rows.proofs.Extent.{signed_at_lem}
@@ -32,9 +30,9 @@ shift_entry k (Covers e) = Covers (shift_span k e)
 shift_entry k Stop = Stop
 shift_entry k OutOfRange = OutOfRange
 
-abbrev shift_varint : ℕ → Varint → Varint
-shift_varint k (Value v q m) = Value v (k + q) m
-shift_varint k TooLong = TooLong
+abbrev shift_varint : ℕ → Option Varint → Option Varint
+shift_varint k (Some w) = read_as w.value (k + w.next) w.missing
+shift_varint k None = None
 
 byte_eq : {v w n k : ℕ} {b : Bool} → v ≡ w → n ≡ k → ◌≡◌ {A = Byte} (record { value = v; next = n; missing = b }) (record { value = w; next = k; missing = b })
 byte_eq p q = cc
@@ -52,21 +50,21 @@ byte-shift xs s p = on (ltb p (length s)) refl where
 varint_shift : (xs s : List ℕ) (p : ℕ) → varint_at (xs ++ s) (length xs + p) ≡ shift_varint (length xs) (varint_at s p)
 unfolding varint_within
 varint_shift xs s p = rw (drop-append-add xs s p) (on (leb (length (digits (drop p s))) 6 && ltb (number (digits (drop p s))) 4294967296)) where
-  on : (t : Bool) → cond t (Value (number (digits (drop p s))) (length xs + p + length (digits (drop p s))) (cut (drop p s))) TooLong
-      ≡ shift_varint (length xs) (cond t (Value (number (digits (drop p s))) (p + length (digits (drop p s))) (cut (drop p s))) TooLong)
-  on true = ap (λ q. Value (number (digits (drop p s))) q (cut (drop p s))) (add_assoc (length xs) p (length (digits (drop p s))))
+  on : (t : Bool) → cond t (read_as (number (digits (drop p s))) (length xs + p + length (digits (drop p s))) (cut (drop p s))) None
+      ≡ shift_varint (length xs) (cond t (read_as (number (digits (drop p s))) (p + length (digits (drop p s))) (cut (drop p s))) None)
+  on true = ap (λ q. read_as (number (digits (drop p s))) q (cut (drop p s))) (add_assoc (length xs) p (length (digits (drop p s))))
   on false = refl
 
 number-shift : (xs s : List ℕ) (p : ℕ) (go go' : ℕ → ℕ → Bool → Entry) → ((x q : ℕ) (m : Bool) → go' x (length xs + q) m ≡ shift_entry (length xs) (go x q m))
     → with_number (varint_at (xs ++ s) (length xs + p)) go' ≡ shift_entry (length xs) (with_number (varint_at s p) go)
 number-shift xs s p go go' f = rw (varint_shift xs s p) (on (varint_at s p)) where
-  on : (v : Varint) → with_number (shift_varint (length xs) v) go' ≡ shift_entry (length xs) (with_number v go)
-  on (Value x q m) = f x q m
-  on TooLong = refl
+  on : (v : Option Varint) → with_number (shift_varint (length xs) v) go' ≡ shift_entry (length xs) (with_number v go)
+  on (Some v) = f v.value v.next v.missing
+  on None = refl
 
-line-shift : (k : ℕ) (l : Moved) (go go' : ℕ → Entry) → ((x : ℕ) → go' x ≡ shift_entry k (go x)) → with_line l go' ≡ shift_entry k (with_line l go)
-line-shift k (To x) go go' f = f x
-line-shift k Outside go go' f = refl
+line-shift : (k : ℕ) (l : Option ℕ) (go go' : ℕ → Entry) → ((x : ℕ) → go' x ≡ shift_entry k (go x)) → with_line l go' ≡ shift_entry k (with_line l go)
+line-shift k (Some x) go go' f = f x
+line-shift k None go go' f = refl
 
 shift-cond : (k : ℕ) (t : Bool) (a b a' b' : Entry) → a' ≡ shift_entry k a → b' ≡ shift_entry k b → cond t a' b' ≡ shift_entry k (cond t a b)
 shift-cond k true a b a' b' x y = x
@@ -118,13 +116,13 @@ resize_entry n (Covers e) = Covers (resize n e)
 resize_entry n Stop = Stop
 resize_entry n OutOfRange = OutOfRange
 
-number_resize : (n : ℕ) (v : Varint) (go go' : ℕ → ℕ → Bool → Entry) → ((x q : ℕ) (m : Bool) → go' x q m ≡ resize_entry n (go x q m)) → with_number v go' ≡ resize_entry n (with_number v go)
-number_resize n (Value x q m) go go' f = f x q m
-number_resize n TooLong go go' f = refl
+number_resize : (n : ℕ) (v : Option Varint) (go go' : ℕ → ℕ → Bool → Entry) → ((x q : ℕ) (m : Bool) → go' x q m ≡ resize_entry n (go x q m)) → with_number v go' ≡ resize_entry n (with_number v go)
+number_resize n (Some v) go go' f = f v.value v.next v.missing
+number_resize n None go go' f = refl
 
-line_resize : (n : ℕ) (l : Moved) (go go' : ℕ → Entry) → ((x : ℕ) → go' x ≡ resize_entry n (go x)) → with_line l go' ≡ resize_entry n (with_line l go)
-line_resize n (To x) go go' f = f x
-line_resize n Outside go go' f = refl
+line_resize : (n : ℕ) (l : Option ℕ) (go go' : ℕ → Entry) → ((x : ℕ) → go' x ≡ resize_entry n (go x)) → with_line l go' ≡ resize_entry n (with_line l go)
+line_resize n (Some x) go go' f = f x
+line_resize n None go go' f = refl
 
 resize_cond : (n : ℕ) (t : Bool) (a b a' b' : Entry) → a' ≡ resize_entry n a → b' ≡ resize_entry n b → cond t a' b' ≡ resize_entry n (cond t a b)
 resize_cond n true a b a' b' x y = x

@@ -8,22 +8,21 @@ ghost use Rattle.rows.specs.Summary.{summary};
 
 use lineentry::Entry;
 
-// How a row ends.
-pub const ALL_PLACED: u32 = 0;
-
-pub const ENDED: u32 = 1;
-
-pub const CUT: u32 = 2;
-
-pub const REFUSED: u32 = 3;
-
-pub const PAST_COUNT: u32 = 4;
+// How a row ends: every instruction is placed; the table has ended or stops; an entry is cut, is refused, or runs past the count.
+#[derive(Clone, Copy)]
+pub enum How {
+    AllPlaced,
+    Ended,
+    Cut,
+    Refused,
+    PastCount,
+}
 
 // How a row ends, how many complete entries it has, the line and the place after them, the place after the entry that runs past the
 // count, which else is `place`, and how many instructions are left.
 #[derive(Clone, Copy)]
 pub struct RowEnd {
-    pub how: u32,
+    pub how: How,
     pub entries: usize,
     pub line: u32,
     pub place: usize,
@@ -32,6 +31,7 @@ pub struct RowEnd {
 }
 
 // The row of the table, from its start, for `count` instructions.
+// linetable `walk_entries` and sources `walk_marks` ask the same bound of a table: as a type with that bound, each caller's test, a refusal in its own order, stays: no plainer.
 pub fn walk_row(table: &[u8], first: u32, count: u32) -> RowEnd
     requires { length table.now ≤ most_bytes }
     ensures { result ≡ summary table.now first count }
@@ -44,7 +44,7 @@ pub fn walk_row(table: &[u8], first: u32, count: u32) -> RowEnd
         match lineentry::read_entry(table, line, at) {
             Entry::OutOfRange => {
                 return RowEnd {
-                    how: REFUSED,
+                    how: How::Refused,
                     entries,
                     line,
                     place: at,
@@ -54,7 +54,7 @@ pub fn walk_row(table: &[u8], first: u32, count: u32) -> RowEnd
             }
             Entry::Stop => {
                 return RowEnd {
-                    how: ENDED,
+                    how: How::Ended,
                     entries,
                     line,
                     place: at,
@@ -65,7 +65,7 @@ pub fn walk_row(table: &[u8], first: u32, count: u32) -> RowEnd
             Entry::Covers(span) => {
                 if span.missing {
                     return RowEnd {
-                        how: CUT,
+                        how: How::Cut,
                         entries,
                         line,
                         place: at,
@@ -76,7 +76,7 @@ pub fn walk_row(table: &[u8], first: u32, count: u32) -> RowEnd
                 let n = span.instructions;
                 if left < n {
                     return RowEnd {
-                        how: PAST_COUNT,
+                        how: How::PastCount,
                         entries,
                         line,
                         place: at,
@@ -92,7 +92,7 @@ pub fn walk_row(table: &[u8], first: u32, count: u32) -> RowEnd
         }
     }
     RowEnd {
-        how: ALL_PLACED,
+        how: How::AllPlaced,
         entries,
         line,
         place: at,

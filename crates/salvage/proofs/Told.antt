@@ -4,10 +4,13 @@ use mathlib.Core.Path.{◌≡◌, refl, sym, ap, subst, ◌∙◌}
 use mathlib.Core.List.{List, ◌++◌}
 use Prim.Native.Nat.{ℕ, zero, suc, ◌+◌, ◌-◌, ◌/◌, ◌≤◌, ◌<◌, min}
 use native.Mathlib.Omega.{arith}
+use Rattle.std.specs.Prelude.{Result, Ok}
 use lib.ListN.{length, take, drop, length-append, length-replicate}
 use lib.Seq.{sets, sets-eq, length-take-le}
 use borrow.Author.Tests.{lt-ltb, le-ltb}
-use Rattle.refusals.specs.Numbers.{input_too_long, no_room}
+use Rattle.refusals.specs.Faults.{refused}
+use Rattle.refusals.specs.declared.Fault.{Fault}
+use Rattle.refusals.specs.declared.Refusal.TheVariants.{InputTooLong, NoRoom}
 use Rattle.refusals.specs.Limits.{most_bytes}
 use Rattle.clearing.specs.Lent.{zeros, padded}
 use Rattle.lineentry.specs.declared.Span.{Span}
@@ -19,8 +22,11 @@ use Rattle.salvage.proofs.Salvages.{entry-most}
 use Rattle.salvage.proofs.Sizes.{staying, salvaged-length, length-fill}
 use Rattle.rows.specs.declared.RowEnd.{RowEnd}
 use Rattle.salvage.specs.declared.Salvaged.{Salvaged}
+use Rattle.rows.specs.declared.How.{How}
+use Rattle.rows.specs.declared.How.TheVariants as way
+use Rattle.rows.proofs.Going.{number}
 use Rattle.rows.specs.Summary.{how_of, row_end, summary_of, summary}
-use Rattle.salvage.specs.Repair.{shortened, refused_with, listed, repair}
+use Rattle.salvage.specs.Repair.{shortened, listed, repair}
 
 pub record Past (s : List ℕ) (first count : ℕ) (e : RowEnd) : Type 0 where
   pub starts : e.place < e.next
@@ -57,7 +63,7 @@ Tells s first count stop_byte r = Filled s first count r
 Tells s first count (cut_short e) r = Filled s first count r
 Tells s first count out_of_range r = Filled s first count r
 
-filled : (s : List ℕ) (first count how next : ℕ) (es : List Span) → Rowed s first 0 count (record { entries = es; ending = (row s first 0 count).ending })
+filled : (s : List ℕ) (first count : ℕ) (how : How) (next : ℕ) (es : List Span) → Rowed s first 0 count (record { entries = es; ending = (row s first 0 count).ending })
     → salvaged s first count ≡ take (place_after 0 es) s ++ fill (count - total es)
     → salvage s first count ≡ record { kept = length es; dropped = length s - place_after 0 es; shortened = 0; covered = count - total es }
     → Filled s first count (row_end how (0 + length es) (line_after first es) (place_after 0 es) next (count - total es))
@@ -76,11 +82,11 @@ filled s first count how next es d b a =
 tells_row : (s : List ℕ) (first count : ℕ) (es : List Span) (x : Ending) → row s first 0 count ≡ record { entries = es; ending = x } → Rowed s first 0 count (record { entries = es; ending = x })
     → Tells s first count x (summary_of 0 first 0 count (record { entries = es; ending = x }))
 unfolding salvaged salvage
-tells_row s first count es placed_all e d = filled s first count 0 _ es (subst (λ y. Rowed s first 0 count (record { entries = es; ending = y })) (sym (ap (λ r. r.ending) e)) d) (ap (mend_row s count) e) (ap (account s count) e)
-tells_row s first count es table_end e d = filled s first count 1 _ es (subst (λ y. Rowed s first 0 count (record { entries = es; ending = y })) (sym (ap (λ r. r.ending) e)) d) (ap (mend_row s count) e) (ap (account s count) e)
-tells_row s first count es stop_byte e d = filled s first count 1 _ es (subst (λ y. Rowed s first 0 count (record { entries = es; ending = y })) (sym (ap (λ r. r.ending) e)) d) (ap (mend_row s count) e) (ap (account s count) e)
-tells_row s first count es (cut_short x) e d = filled s first count 2 _ es (subst (λ y. Rowed s first 0 count (record { entries = es; ending = y })) (sym (ap (λ r. r.ending) e)) d) (ap (mend_row s count) e) (ap (account s count) e)
-tells_row s first count es out_of_range e d = filled s first count 3 _ es (subst (λ y. Rowed s first 0 count (record { entries = es; ending = y })) (sym (ap (λ r. r.ending) e)) d) (ap (mend_row s count) e) (ap (account s count) e)
+tells_row s first count es placed_all e d = filled s first count _ _ es (subst (λ y. Rowed s first 0 count (record { entries = es; ending = y })) (sym (ap (λ r. r.ending) e)) d) (ap (mend_row s count) e) (ap (account s count) e)
+tells_row s first count es table_end e d = filled s first count _ _ es (subst (λ y. Rowed s first 0 count (record { entries = es; ending = y })) (sym (ap (λ r. r.ending) e)) d) (ap (mend_row s count) e) (ap (account s count) e)
+tells_row s first count es stop_byte e d = filled s first count _ _ es (subst (λ y. Rowed s first 0 count (record { entries = es; ending = y })) (sym (ap (λ r. r.ending) e)) d) (ap (mend_row s count) e) (ap (account s count) e)
+tells_row s first count es (cut_short x) e d = filled s first count _ _ es (subst (λ y. Rowed s first 0 count (record { entries = es; ending = y })) (sym (ap (λ r. r.ending) e)) d) (ap (mend_row s count) e) (ap (account s count) e)
+tells_row s first count es out_of_range e d = filled s first count _ _ es (subst (λ y. Rowed s first 0 count (record { entries = es; ending = y })) (sym (ap (λ r. r.ending) e)) d) (ap (mend_row s count) e) (ap (account s count) e)
 tells_row s first count es (past_count x) e d =
     let p = place_after 0 es in
     let z = d.ends in
@@ -102,15 +108,15 @@ tells_row s first count es (past_count x) e d =
 tells : (s : List ℕ) (first count : ℕ) → Tells s first count (row s first 0 count).ending (summary_of 0 first 0 count (row s first 0 count))
 tells s first count = tells_row s first count (row s first 0 count).entries (row s first 0 count).ending refl (rowed s first 0 count)
 
-is_past : (s : List ℕ) (first count : ℕ) (x : Ending) (r : RowEnd) → how_of x ≡ 4 → Tells s first count x r → Past s first count r
+is_past : (s : List ℕ) (first count : ℕ) (x : Ending) (r : RowEnd) → how_of x ≡ way.PastCount → Tells s first count x r → Past s first count r
 is_past s first count (past_count e) r h t = t
-is_past s first count placed_all r h t = absurd (omega arith)
-is_past s first count table_end r h t = absurd (omega arith)
-is_past s first count stop_byte r h t = absurd (omega arith)
-is_past s first count (cut_short e) r h t = absurd (omega arith)
-is_past s first count out_of_range r h t = absurd (omega arith)
+is_past s first count placed_all r h t = absurd (omega (arith, ap number h))
+is_past s first count table_end r h t = absurd (omega (arith, ap number h))
+is_past s first count stop_byte r h t = absurd (omega (arith, ap number h))
+is_past s first count (cut_short e) r h t = absurd (omega (arith, ap number h))
+is_past s first count out_of_range r h t = absurd (omega (arith, ap number h))
 
-is_filled : (s : List ℕ) (first count : ℕ) (x : Ending) (r : RowEnd) → (how_of x ≡ 4 → ⊥) → Tells s first count x r → Filled s first count r
+is_filled : (s : List ℕ) (first count : ℕ) (x : Ending) (r : RowEnd) → (how_of x ≡ way.PastCount → ⊥) → Tells s first count x r → Filled s first count r
 is_filled s first count (past_count e) r h t = absurd (h refl)
 is_filled s first count placed_all r h t = t
 is_filled s first count table_end r h t = t
@@ -118,30 +124,30 @@ is_filled s first count stop_byte r h t = t
 is_filled s first count (cut_short e) r h t = t
 is_filled s first count out_of_range r h t = t
 
-pub told-past : (s : List ℕ) (first count : ℕ) {e : RowEnd} → e ≡ summary s first count → e.how ≡ 4 → Past s first count e
+pub told-past : (s : List ℕ) (first count : ℕ) {e : RowEnd} → e ≡ summary s first count → e.how ≡ way.PastCount → Past s first count e
 unfolding summary
 told-past s first count {e} q h =
     subst (Past s first count) (sym q) (is_past s first count (row s first 0 count).ending _ (sym (ap (λ r. r.how) q) ∙ h) (tells s first count))
 
-pub told_filled : (s : List ℕ) (first count : ℕ) {e : RowEnd} → e ≡ summary s first count → (e.how ≡ 4 → ⊥) → Filled s first count e
+pub told_filled : (s : List ℕ) (first count : ℕ) {e : RowEnd} → e ≡ summary s first count → (e.how ≡ way.PastCount → ⊥) → Filled s first count e
 unfolding summary
 told_filled s first count {e} q h =
     subst (Filled s first count) (sym q) (is_filled s first count (row s first 0 count).ending _ (λ z. h (ap (λ r. r.how) q ∙ z)) (tells s first count))
 
 -- ---- the ways out
-abbrev pub Repairs : List ℕ → ℕ → ℕ → ℕ → Salvaged → List ℕ → Type 0
+abbrev pub Repairs : List ℕ → ℕ → ℕ → ℕ → Result Salvaged Fault → List ℕ → Type 0
 Repairs s first count n r zs = (r ≡ (repair s first count n).0) × (zs ≡ (repair s first count n).1)
 
-pub repairs_long : (s : List ℕ) (first count n : ℕ) {r : Salvaged} {zs : List ℕ} → most_bytes < length s → r ≡ refused_with input_too_long 0 → zs ≡ zeros n → Repairs s first count n r zs
+pub repairs_long : (s : List ℕ) (first count n : ℕ) {r : Result Salvaged Fault} {zs : List ℕ} → most_bytes < length s → r ≡ refused InputTooLong 0 → zs ≡ zeros n → Repairs s first count n r zs
 unfolding repair
 repairs_long s first count n h e q = rw (lt-ltb most_bytes (length s) h) (e, q)
 
-pub repairs_large : (s : List ℕ) (first count n k : ℕ) {r : Salvaged} {zs : List ℕ} → length s ≤ most_bytes → length (salvaged s first count) ≡ k → most_bytes < k → r ≡ refused_with input_too_long 0 → zs ≡ zeros n
+pub repairs_large : (s : List ℕ) (first count n k : ℕ) {r : Result Salvaged Fault} {zs : List ℕ} → length s ≤ most_bytes → length (salvaged s first count) ≡ k → most_bytes < k → r ≡ refused InputTooLong 0 → zs ≡ zeros n
     → Repairs s first count n r zs
 unfolding repair
 repairs_large s first count n k h l m e q = rw (le-ltb most_bytes (length s) h, l, lt-ltb most_bytes k m) (e, q)
 
-pub repairs_short : (s : List ℕ) (first count n k : ℕ) {r : Salvaged} {zs : List ℕ} → length s ≤ most_bytes → length (salvaged s first count) ≡ k → k ≤ most_bytes → n < k → r ≡ refused_with no_room (min n 4294967295) → zs ≡ zeros n
+pub repairs_short : (s : List ℕ) (first count n k : ℕ) {r : Result Salvaged Fault} {zs : List ℕ} → length s ≤ most_bytes → length (salvaged s first count) ≡ k → k ≤ most_bytes → n < k → r ≡ refused NoRoom (min n 4294967295) → zs ≡ zeros n
     → Repairs s first count n r zs
 unfolding repair
 repairs_short s first count n k h l m o e q = rw (le-ltb most_bytes (length s) h, l, le-ltb most_bytes k m, lt-ltb n k o) (e, q)
@@ -153,13 +159,13 @@ over_zeros n vs h =
     let z : 0 + length vs ≡ length vs = omega arith in
     sets-eq vs (zeros n) 0 (omega arith) ∙ rw z (ap (λ t. vs ++ t) (drop-zeros (length vs) n))
 
-pub repairs_done : (s : List ℕ) (first count n k : ℕ) {r : Salvaged} {ys zs vs : List ℕ} → length s ≤ most_bytes → length (salvaged s first count) ≡ k → k ≤ most_bytes → k ≤ n
-    → salvaged s first count ≡ vs → ys ≡ zeros n → zs ≡ sets ys 0 vs → r ≡ listed k (salvage s first count) → Repairs s first count n r zs
+pub repairs_done : (s : List ℕ) (first count n k : ℕ) {r : Result Salvaged Fault} {ys zs vs : List ℕ} → length s ≤ most_bytes → length (salvaged s first count) ≡ k → k ≤ most_bytes → k ≤ n
+    → salvaged s first count ≡ vs → ys ≡ zeros n → zs ≡ sets ys 0 vs → r ≡ Ok (listed k (salvage s first count)) → Repairs s first count n r zs
 unfolding repair
 repairs_done s first count n k {vs = vs} h l m o b y z e =
     rw (le-ltb most_bytes (length s) h, l, le-ltb most_bytes k m, le-ltb n k o)
     (e, z ∙ ap (λ t. sets t 0 vs) y ∙ over_zeros n vs (omega (arith, ap length b)) ∙ ap (padded n) (sym b))
 
 -- the same first line by another name
-pub repairs_from : (s : List ℕ) (n count : ℕ) {first first' : ℕ} {r : Salvaged} {zs : List ℕ} → first ≡ first' → Repairs s first count n r zs → Repairs s first' count n r zs
+pub repairs_from : (s : List ℕ) (n count : ℕ) {first first' : ℕ} {r : Result Salvaged Fault} {zs : List ℕ} → first ≡ first' → Repairs s first count n r zs → Repairs s first' count n r zs
 repairs_from s n count {r = r} {zs = zs} e x = subst (λ f. Repairs s f count n r zs) e x

@@ -3,6 +3,7 @@
 #![tactic(auto)]
 
 use printing::{say, say_bytes, say_number, say_refused};
+use refusals::Fault;
 use salvage::Salvaged;
 use std::io::{self, BufWriter, Write};
 
@@ -23,11 +24,10 @@ fn say_list(writer: &mut impl Write, answer: Salvaged) -> io::Result<()> {
     say_word(writer, answer.covered)
 }
 
-fn say_answer(writer: &mut impl Write, answer: Salvaged) -> io::Result<()> {
-    if answer.refusal == 0 {
-        say_list(writer, answer)?;
-    } else {
-        say_refused(writer, answer.refusal, answer.place)?;
+fn say_answer(writer: &mut impl Write, answer: Result<Salvaged, Fault>) -> io::Result<()> {
+    match answer {
+        Ok(told) => say_list(writer, told)?,
+        Err(why) => say_refused(writer, why.refusal.number(), why.place)?,
     }
     Ok(())
 }

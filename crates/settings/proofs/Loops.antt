@@ -13,6 +13,7 @@ use Rattle.taggedfields.specs.Looking.{placed, size_in, field_at, bytes_at}
 use Rattle.taggedfields.proofs.Parts.{field_found}
 use Rattle.taggedfields.proofs.Spelt.{Bytes, bytes_at_lem, in_bytes}
 use Rattle.taggedfields.proofs.Unread.{Unread, rest, unread_start, unread_end, unread_next}
+use Rattle.std.specs.Prelude as rust
 use Rattle.settings.specs.Rewriting.{or_new, changed, if_new, added}
 use Rattle.settings.specs.Putting.{after, Puts}
 
@@ -22,9 +23,18 @@ Left room start out₀ all out used left = (more : List ℕ) → after room used
 
 -- bytes are put, and what comes behind them is left
 put_more : {room : ℕ} (start : ℕ) (out₀ all : List ℕ) {out : List ℕ} {used : ℕ} (left bytes left' : List ℕ) → Left room start out₀ all out used left → left ≡ bytes ++ left'
-    → {out' : List ℕ} {r : ℕ} → Puts room used out bytes r out' → Left room start out₀ all out' r left'
+    → {out' : List ℕ} {r : ℕ} → Puts room used out bytes (rust.Some r) out' → Left room start out₀ all out' r left'
 put_more {room} start out₀ all {out} {used} left bytes left' g e {out'} {r} p =
     λ more. p.comes (left' ++ more) ∙ ap (after room used out) (sym (append_assoc bytes left' more)) ∙ ap (λ x. after room used out (x ++ more)) (sym e) ∙ g more
+
+-- bytes that do not fit
+put_no_more : {room : ℕ} (start : ℕ) (out₀ all : List ℕ) {out : List ℕ} {used : ℕ} (left bytes left' : List ℕ) → Left room start out₀ all out used left → left ≡ bytes ++ left'
+    → {out' out'' : List ℕ} → Puts room used out bytes rust.None out' → Puts room start out₀ all rust.None out''
+put_no_more {room} start out₀ all {out} {used} left bytes left' g e {out'} p =
+    record {
+      upto = λ q. absurd (cc);
+      comes = λ more. p.comes (left' ++ more) ∙ ap (after room used out) (sym (append_assoc bytes left' more)) ∙ ap (λ x. after room used out (x ++ more)) (sym e) ∙ g more;
+    }
 
 -- a place that is noted for a tag is a whole field's
 pub place-whole : (file : List ℕ) (t place : ℕ) → place ≡ placed (field_in file t) → 0 < place → place - 1 + 3 + size_in file (place - 1) ≤ length file
@@ -55,7 +65,7 @@ pub record KeptSoFar (file changes : List ℕ) (room : ℕ) (out₀ out : List �
   pub unread : Unread file at
   pub within : at ≤ length file
   pub same : length out ≡ length out₀
-  pub upto : used ≤ room + 1
+  pub upto : used ≤ room
   pub left : Left room 0 out₀ (spelt (changed (reading changes).fields (reading file).fields)) out used (spelt (changed (reading changes).fields (rest unread)))
 
 pub kept_start : {file changes : List ℕ} {room : ℕ} {out : List ℕ} → (reading file).fault ≡ none → KeptSoFar file changes room out out 0 0
@@ -75,7 +85,7 @@ kept_whole g h = (unread_next g.unread h).whole
 
 pub kept_more : {file changes : List ℕ} {room : ℕ} {out₀ out : List ℕ} {at used place size : ℕ} {out' : List ℕ} {r : ℕ} → KeptSoFar file changes room out₀ out at used → at < length file
     → Bytes file → Bytes changes → place ≡ placed (field_in changes (get_or file at 0)) → size ≡ size_in file at → length out' ≡ length out
-    → Puts room used out (cond (eqb place 0) (bytes_at file at) (bytes_at changes (place - 1))) r out' → KeptSoFar file changes room out₀ out' (at + 3 + size) r
+    → Puts room used out (cond (eqb place 0) (bytes_at file at) (bytes_at changes (place - 1))) (rust.Some r) out' → KeptSoFar file changes room out₀ out' (at + 3 + size) r
 unfolding changed spelt
 kept_more {file} {changes} {room} {out₀} {out} {at} {used} {place} {size} {out'} {r} g h b c e z l p =
     let n = unread_next g.unread h in
@@ -89,27 +99,41 @@ kept_more {file} {changes} {room} {out₀} {out} {at} {used} {place} {size} {out
       unread = n.behind;
       within = n.whole;
       same = l ∙ g.same;
-      upto = p.upto;
+      upto = p.upto refl;
       left = put_more 0 out₀ (spelt (changed cs (reading file).fields))
           (spelt (changed cs (rest g.unread))) new behind g.left s p;
     })
 
+pub kept_short : {file changes : List ℕ} {room : ℕ} {out₀ out : List ℕ} {at used place : ℕ} {out' out'' : List ℕ} → KeptSoFar file changes room out₀ out at used → at < length file
+    → Bytes file → Bytes changes → place ≡ placed (field_in changes (get_or file at 0))
+    → Puts room used out (cond (eqb place 0) (bytes_at file at) (bytes_at changes (place - 1))) rust.None out'
+    → Puts room 0 out₀ (spelt (changed (reading changes).fields (reading file).fields)) rust.None out''
+unfolding changed spelt
+kept_short {file} {changes} {room} {out₀} {out} {at} {used} {place} g h b c e p =
+    let n = unread_next g.unread h in
+    let cs = (reading changes).fields in
+    let new = cond (eqb place 0) (bytes_at file at) (bytes_at changes (place - 1)) in
+    let behind = spelt (changed cs (rest n.behind)) in
+    let s : spelt (changed cs (rest g.unread)) ≡ new ++ behind =
+    ap (λ fs. spelt (changed cs fs)) n.splits ∙ ap (λ x. x ++ behind) (new-bytes file changes at place b c n.whole e) in
+    put_no_more 0 out₀ (spelt (changed cs (reading file).fields)) (spelt (changed cs (rest g.unread))) new behind g.left s p
+
 pub kept_end : {file changes : List ℕ} {room : ℕ} {out₀ out : List ℕ} {at used : ℕ} → KeptSoFar file changes room out₀ out at used → length file ≤ at
-    → Puts room 0 out₀ (spelt (changed (reading changes).fields (reading file).fields)) used out
+    → Puts room 0 out₀ (spelt (changed (reading changes).fields (reading file).fields)) (rust.Some used) out
 unfolding changed spelt
 kept_end {file} {changes} {room} {out₀} {out} {at} {used} g h =
     let e : spelt (changed (reading changes).fields (rest g.unread)) ≡ [] = ap (λ fs. spelt (changed (reading changes).fields fs)) (unread_end g.unread h) in
-    record { upto = g.upto; comes = λ more. ap (λ x. after room used out (x ++ more)) (sym e) ∙ g.left more }
+    record { upto = λ {n} q. (let z : used ≡ n = cc in let u = g.upto in omega arith); comes = λ more. ap (λ x. after room used out (x ++ more)) (sym e) ∙ g.left more }
 
 -- ---- the fields of the changes whose tags the file does not have
 pub record AddedSoFar (changes file : List ℕ) (room start : ℕ) (out₀ out : List ℕ) (at used : ℕ) : Type 0 where
   pub unread : Unread changes at
   pub within : at ≤ length changes
   pub same : length out ≡ length out₀
-  pub upto : used ≤ room + 1
+  pub upto : used ≤ room
   pub left : Left room start out₀ (spelt (added (reading file).fields (reading changes).fields)) out used (spelt (added (reading file).fields (rest unread)))
 
-pub added_start : {changes file : List ℕ} {room start : ℕ} {out : List ℕ} → (reading changes).fault ≡ none → start ≤ room + 1 → AddedSoFar changes file room start out out 0 start
+pub added_start : {changes file : List ℕ} {room start : ℕ} {out : List ℕ} → (reading changes).fault ≡ none → start ≤ room → AddedSoFar changes file room start out out 0 start
 added_start {changes} {file} {room} {start} {out} e s =
     let u = unread_start changes e in
     record {
@@ -136,7 +160,7 @@ new_or_none changes file at place behind b h e = go (field_in file (get_or chang
 
 pub added_more : {changes file : List ℕ} {room start : ℕ} {out₀ out : List ℕ} {at used place size : ℕ} {out' : List ℕ} {r : ℕ} → AddedSoFar changes file room start out₀ out at used
     → at < length changes → Bytes changes → place ≡ placed (field_in file (get_or changes at 0)) → size ≡ size_in changes at → length out' ≡ length out
-    → Puts room used out (cond (eqb place 0) (bytes_at changes at) []) r out' → AddedSoFar changes file room start out₀ out' (at + 3 + size) r
+    → Puts room used out (cond (eqb place 0) (bytes_at changes at) []) (rust.Some r) out' → AddedSoFar changes file room start out₀ out' (at + 3 + size) r
 unfolding added
 added_more {changes} {file} {room} {start} {out₀} {out} {at} {used} {place} {size} {out'} {r} g h b e z l p =
     let n = unread_next g.unread h in
@@ -149,14 +173,26 @@ added_more {changes} {file} {room} {start} {out₀} {out} {at} {used} {place} {s
       unread = n.behind;
       within = n.whole;
       same = l ∙ g.same;
-      upto = p.upto;
+      upto = p.upto refl;
       left = put_more start out₀ (spelt (added fs (reading changes).fields))
           (spelt (added fs (rest g.unread))) new (spelt (added fs (rest n.behind))) g.left s p;
     })
 
+pub added_short : {changes file : List ℕ} {room start : ℕ} {out₀ out : List ℕ} {at used place : ℕ} {out' out'' : List ℕ} → AddedSoFar changes file room start out₀ out at used
+    → at < length changes → Bytes changes → place ≡ placed (field_in file (get_or changes at 0)) → Puts room used out (cond (eqb place 0) (bytes_at changes at) []) rust.None out'
+    → Puts room start out₀ (spelt (added (reading file).fields (reading changes).fields)) rust.None out''
+unfolding added
+added_short {changes} {file} {room} {start} {out₀} {out} {at} {used} {place} g h b e p =
+    let n = unread_next g.unread h in
+    let fs = (reading file).fields in
+    let new = cond (eqb place 0) (bytes_at changes at) [] in
+    let s : spelt (added fs (rest g.unread)) ≡ new ++ spelt (added fs (rest n.behind)) =
+    ap (λ gs. spelt (added fs gs)) n.splits ∙ new_or_none changes file at place (added fs (rest n.behind)) b n.whole e in
+    put_no_more start out₀ (spelt (added fs (reading changes).fields)) (spelt (added fs (rest g.unread))) new (spelt (added fs (rest n.behind))) g.left s p
+
 pub added_end : {changes file : List ℕ} {room start : ℕ} {out₀ out : List ℕ} {at used : ℕ} → AddedSoFar changes file room start out₀ out at used → length changes ≤ at
-    → Puts room start out₀ (spelt (added (reading file).fields (reading changes).fields)) used out
+    → Puts room start out₀ (spelt (added (reading file).fields (reading changes).fields)) (rust.Some used) out
 unfolding added spelt
 added_end {changes} {file} {room} {start} {out₀} {out} {at} {used} g h =
     let e : spelt (added (reading file).fields (rest g.unread)) ≡ [] = ap (λ gs. spelt (added (reading file).fields gs)) (unread_end g.unread h) in
-    record { upto = g.upto; comes = λ more. ap (λ x. after room used out (x ++ more)) (sym e) ∙ g.left more }
+    record { upto = λ {n} q. (let z : used ≡ n = cc in let u = g.upto in omega arith); comes = λ more. ap (λ x. after room used out (x ++ more)) (sym e) ∙ g.left more }

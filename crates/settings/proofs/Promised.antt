@@ -8,17 +8,20 @@ use Prim.Native.Nat.{ℕ, ◌≤◌, min}
 use lib.Dec.{eqb}
 use lib.ListN.{length, take, drop}
 use borrow.Author.Tests.{le-ltb, eqb-true, eqb-false}
-use Rattle.refusals.specs.Numbers.{no_room}
+use Rattle.std.specs.Prelude.{Result, Ok}
+use Rattle.refusals.specs.declared.Fault.{Fault}
+use Rattle.refusals.specs.declared.Refusal.TheVariants.{NoRoom}
+use Rattle.refusals.specs.Faults.{fault}
 use Rattle.refusals.specs.Limits.{nothing}
 use Rattle.clearing.specs.Lent.{padded}
 use Rattle.taggedfields.specs.Fields.{Field, read_from, reading, find, spelt, bytes_of}
 use Rattle.taggedfields.specs.Promised.{tags_of, laid, Sound}
 use Rattle.taggedfields.proofs.Promised.{fields_keep_their_promises}
-use Rattle.settings.specs.declared.rewriting.Rewritten.{Rewritten}
-use Rattle.settings.specs.Setting.{setting_of, contents_of}
+use Rattle.settings.specs.declared.Setting.{Setting}
+use Rattle.settings.specs.Setting.{setting_of}
 use Rattle.settings.specs.Rewriting.{changed, added, rewritten, refused_as, in_room, rewrite_from, rewrite_of}
 use Rattle.settings.specs.Promised.{contents_in, Rewrites, Promised}
-use Rattle.settings.proofs.Lookups.{Says, says}
+use Rattle.settings.proofs.Lookups.{says}
 use Rattle.settings.proofs.Tags.{changed_tags, tags_append, laid_tags, laid-find, laid-others, find-both, added-append, others-changed, others-added, once-both}
 
 spelt-append : (xs ys : List Field) → spelt (xs ++ ys) ≡ spelt xs ++ spelt ys
@@ -71,31 +74,18 @@ nothing-changed file s =
     ∙ append-nil (spelt (changed [] (reading file).fields)) ∙ ap spelt (changed_none (reading file).fields) ∙ fields_keep_their_promises.whole file s
 
 -- ---- the call
-in_room_lem : (bytes : List ℕ) (room : ℕ) → length bytes ≤ min room nothing → in_room bytes room ≡ (record { refusal = 0; place = 0; written = length bytes }, padded room bytes)
+in_room_lem : (bytes : List ℕ) (room : ℕ) → length bytes ≤ min room nothing → in_room bytes room ≡ (Ok (length bytes), padded room bytes)
 in_room_lem bytes room h =
-    ap (λ t. cond {A = Rewritten × List ℕ} t (refused_as (no_room, min room nothing) room) (record { refusal = 0; place = 0; written = length bytes }, padded room bytes))
+    ap (λ t. cond {A = Result ℕ Fault × List ℕ} t (refused_as (fault NoRoom (min room nothing)) room) (Ok (length bytes), padded room bytes))
     (le-ltb (min room nothing) (length bytes) h)
 
 is_written : (file changes : List ℕ) (room : ℕ) → (reading file).fault ≡ none → (reading changes).fault ≡ none → length (rewritten file changes) ≤ min room nothing
-    → rewrite_of file changes room ≡ (record { refusal = 0; place = 0; written = length (rewritten file changes) }, padded room (rewritten file changes))
+    → rewrite_of file changes room ≡ (Ok (length (rewritten file changes)), padded room (rewritten file changes))
 unfolding rewrite_of
 is_written file changes room a b h =
     ap (λ o. rewrite_from o (reading changes).fault (rewritten file changes) room) a ∙ ap (λ o. rewrite_from none o (rewritten file changes) room) b
     ∙ in_room_lem (rewritten file changes) room h
 
--- ---- the part
-part-has : (own fallback : List ℕ) (t : ℕ) → (setting_of own fallback t).refusal ≡ 0
-    → take (setting_of own fallback t).size (drop (setting_of own fallback t).start (cond (eqb (setting_of own fallback t).file 0) own fallback)) ≡ contents_of own fallback t
-part-has own fallback t z = go (eqb (setting_of own fallback t).file 0) refl
-  where
-    told : Says own fallback t (setting_of own fallback t)
-    told = says own fallback t refl
-
-    go : (c : Bool) → eqb (setting_of own fallback t).file 0 ≡ c
-        → take (setting_of own fallback t).size (drop (setting_of own fallback t).start (cond c own fallback)) ≡ contents_of own fallback t
-    go true e = (told.override z (eqb-true (setting_of own fallback t).file 0 e)).same
-    go false e = (told.default z (eqb-false (setting_of own fallback t).file 0 e)).same
-
 pub settings_keep_their_promises : Promised
 settings_keep_their_promises =
-    record { part = part-has; rewrites = rewrites_so; unchanged = nothing-changed; written = is_written }
+    record { part = λ own fallback t s e. (says own fallback t (sym e)).same; rewrites = rewrites_so; unchanged = nothing-changed; written = is_written }

@@ -1,11 +1,12 @@
 -- What 02's K8 promises of a lookup and of a rewriting. `proofs/Promised` has the theorem.
-use Rattle.std.specs.Prelude.{◌≡◌, cond, List, [], ◌++◌, ℕ, ◌≤◌, min, eqb, length, take, drop}
+use Rattle.std.specs.Prelude.{◌≡◌, Ok, List, [], ◌++◌, ℕ, ◌≤◌, min, length, take, drop}
 use Rattle.std.proofs.Math.Option.{Option, none, some}
 use Rattle.refusals.specs.Limits.{nothing}
 use Rattle.clearing.specs.Lent.{padded}
 use Rattle.taggedfields.specs.Fields.{Field, reading, field_in, spelt}
 use Rattle.taggedfields.specs.Promised.{tags_of, Sound}
-use Rattle.settings.specs.Setting.{setting_of, contents_of}
+use Rattle.settings.specs.declared.Setting.{Setting}
+use Rattle.settings.specs.Setting.{file_of, setting_of, contents_of}
 use Rattle.settings.specs.Rewriting.{added, rewritten, rewrite_of}
 
 -- what a file says of a tag, if it has it
@@ -33,11 +34,11 @@ pub record Rewrites (file changes : List ℕ) : Type 0 where
 
 pub record Promised : Type 0 where
   -- "as a part of the file it came from": the part that an answer names has the contents
-  pub part : (own fallback : List ℕ) (t : ℕ) → (setting_of own fallback t).refusal ≡ 0
-      → take (setting_of own fallback t).size (drop (setting_of own fallback t).start (cond (eqb (setting_of own fallback t).file 0) own fallback)) ≡ contents_of own fallback t
+  pub part : (own fallback : List ℕ) (t : ℕ) (s : Setting) → setting_of own fallback t ≡ Ok s
+      → take s.contents.size (drop s.contents.start (file_of s.origin own fallback)) ≡ contents_of own fallback t
   pub rewrites : (file changes : List ℕ) → Rewrites file changes
   -- with no changes the file comes back
   pub unchanged : (file : List ℕ) → Sound file → rewritten file [] ≡ file
   -- the call writes it wherever there is room
   pub written : (file changes : List ℕ) (room : ℕ) → (reading file).fault ≡ none → (reading changes).fault ≡ none → length (rewritten file changes) ≤ min room nothing
-      → rewrite_of file changes room ≡ (record { refusal = 0; place = 0; written = length (rewritten file changes) }, padded room (rewritten file changes))
+      → rewrite_of file changes room ≡ (Ok (length (rewritten file changes)), padded room (rewritten file changes))

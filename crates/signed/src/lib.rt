@@ -3,40 +3,28 @@
 #![tactic(auto)]
 
 ghost use Rattle.std.specs.Prelude.{◌≡◌, ◌<◌};
-ghost use Rattle.std.specs.Int.{w32, w64};
-ghost use Rattle.std.proofs.Common.{to_z, of_z};
+ghost use Rattle.std.specs.Int.{w32, w64, cast_signed, cast_unsigned};
 
 // The 32 bits of a signed number.
 pub fn bits32(number: i32) -> u32
-    ensures { result ≡ of_z w32 number }
+    ensures { result ≡ cast_unsigned w32 number }
 {
-    if number < 0 {
-        0xFFFF_FFFF - (!number) as u32
-    } else {
-        number as u32
-    }
+    number.cast_unsigned()
 }
 
 // The signed number that 32 bits stand for.
+// std's casts, as in `bits32` and `signed64`, under the names that the clauses above speak of.
 pub fn signed32(bits: u32) -> i32
-    ensures { result ≡ to_z w32 bits }
+    ensures { result ≡ cast_signed w32 bits }
 {
-    if bits < 0x8000_0000 {
-        bits as i32
-    } else {
-        !((0xFFFF_FFFF - bits) as i32)
-    }
+    u32::cast_signed(bits)
 }
 
 // The signed number that 64 bits stand for.
 pub fn signed64(bits: u64) -> i64
-    ensures { result ≡ to_z w64 bits }
+    ensures { result ≡ cast_signed w64 bits }
 {
-    if bits < 0x8000_0000_0000_0000 {
-        bits as i64
-    } else {
-        !((0xFFFF_FFFF_FFFF_FFFF - bits) as i64)
-    }
+    u64::cast_signed(bits)
 }
 
 // A byte, and that it is small: sums of such take no proof.

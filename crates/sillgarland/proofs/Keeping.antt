@@ -3,12 +3,14 @@
 use mathlib.Core.Path.{◌≡◌, ap, ◌∙◌}
 use Prim.Native.Nat.{ℕ}
 use mathlib.Core.List.{List}
+use Rattle.std.specs.Prelude.{Result}
+use Rattle.refusals.specs.declared.Fault.{Fault}
 use Rattle.keep.specs.declared.Kept.{Kept}
 use Rattle.keep.specs.Kept.{Held, Keeps}
 use Rattle.sillgarland.specs.declared.reclaiming.SillKept.{SillKept}
 use Rattle.sillgarland.specs.Reclaiming.{keep_struct, KeptAs}
 
-pub kept_handed : {o : Held} {size : ℕ} {answer : Kept} {r : SillKept} {nodes entries slots stack : List ℕ}
+pub kept_handed : {o : Held} {size : ℕ} {answer : Result Kept Fault} {r : SillKept} {nodes entries slots stack : List ℕ}
     → r ≡ keep_struct answer → Keeps o size answer nodes entries slots stack → KeptAs o size r nodes entries slots stack
 kept_handed is k =
     record {

@@ -2,5 +2,4 @@ pub mod Handing
 pub mod Splitting
 pub mod Reading
 pub mod Writing
-pub mod Lines
 pub mod Keeping

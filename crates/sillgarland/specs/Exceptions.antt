@@ -1,23 +1,14 @@
--- The structs that the exports of exception tables return: the numbers of each answer, and what the lent store holds.
-use Rattle.std.specs.Prelude.{ℕ, List}
+-- The struct that the reading export of exception tables returns: the numbers of each answer, and what the lent store holds. The writing
+-- export's is a written varint's.
+use Rattle.std.specs.Prelude.{ℕ, List, Result, Ok, Err}
 use Rattle.refusals.specs.Numbers.{accepted}
-use Rattle.exceptiontable.specs.declared.Decoded.{Decoded}
-use Rattle.exceptiontable.specs.declared.Decoded.TheVariants as decoded
-use Rattle.exceptiontable.specs.declared.Encoded.{Encoded}
-use Rattle.exceptiontable.specs.declared.Encoded.TheVariants as encoded
+use Rattle.refusals.specs.Faults.{number_of}
+use Rattle.refusals.specs.declared.Fault.{Fault}
 use Rattle.sillgarland.specs.declared.exceptions.SillExceptions.{SillExceptions}
-use Rattle.sillgarland.specs.declared.varints.SillWritten.{SillWritten}
 
-abbrev pub decoded_struct : Decoded → SillExceptions
-decoded_struct (decoded.Done count) = record { refusal = accepted; place = 0; count = count }
-decoded_struct (decoded.Refused number place) = record { refusal = number; place = place; count = 0 }
+abbrev pub decoded_struct : Result ℕ Fault → SillExceptions
+decoded_struct (Ok count) = record { refusal = accepted; place = 0; count = count }
+decoded_struct (Err f) = record { refusal = number_of f.refusal; place = f.place; count = 0 }
 
-abbrev pub decoded_as : Decoded × List ℕ → SillExceptions × List ℕ
+abbrev pub decoded_as : Result ℕ Fault × List ℕ → SillExceptions × List ℕ
 decoded_as outcome = (decoded_struct outcome.0, outcome.1)
-
-abbrev pub encoded_struct : Encoded → SillWritten
-encoded_struct (encoded.Done count) = record { refusal = accepted; place = 0; written = count }
-encoded_struct (encoded.Refused number place) = record { refusal = number; place = place; written = 0 }
-
-abbrev pub encoded_as : Encoded × List ℕ → SillWritten × List ℕ
-encoded_as outcome = (encoded_struct outcome.0, outcome.1)

@@ -1,16 +1,18 @@
 -- The struct that the split's export returns: 01's numbers of each answer.
-use Rattle.std.specs.Prelude.{◌≡◌, List, ℕ}
+use Rattle.std.specs.Prelude.{◌≡◌, List, ℕ, Result, Ok, Err}
 use Rattle.refusals.specs.Numbers.{accepted}
+use Rattle.refusals.specs.Faults.{number_of}
+use Rattle.refusals.specs.declared.Fault.{Fault}
 use Rattle.varint.specs.Answers.{truth}
 use Rattle.localsplus.specs.declared.Split.{Split}
-use Rattle.localsplus.specs.declared.Split.TheVariants.{Done, Refused}
 use Rattle.localsplus.specs.Answer.{rooms_of, split_of, IsSplit}
 use Rattle.sillgarland.specs.declared.locals.SillSplit.{SillSplit}
 
-abbrev pub split_struct : Split → SillSplit
-split_struct (Done locals cells frees present) =
-    record { refusal = accepted; place = 0; locals = locals; cells = cells; frees = frees; present = truth present }
-split_struct (Refused number place) = record { refusal = number; place = place; locals = 0; cells = 0; frees = 0; present = 0 }
+abbrev pub split_struct : Result Split Fault → SillSplit
+split_struct (Ok split) =
+    record { refusal = accepted; place = 0; locals = split.locals; cells = split.cells; frees = split.frees; present = truth split.present }
+split_struct (Err fault) =
+    record { refusal = number_of fault.refusal; place = fault.place; locals = 0; cells = 0; frees = 0; present = 0 }
 
 -- The contract: r gives the split's numbers, and the five stores hold what `localsplus` says of the split.
 pub record SplitAs

@@ -1,21 +1,34 @@
--- The structs that the exports of settings files return: each answer's numbers, which have 01's form already.
+-- The structs that the exports of settings files return: 01's numbers of each answer.
+use Rattle.std.specs.Prelude.{ℕ, Result, Ok, Err}
+use Rattle.refusals.specs.Numbers.{accepted}
+use Rattle.refusals.specs.Faults.{number_of}
+use Rattle.refusals.specs.declared.Fault.{Fault}
+use Rattle.taggedfields.specs.declared.Span.{Span}
+use Rattle.settings.specs.declared.Origin.{Origin}
+use Rattle.settings.specs.declared.Origin.TheVariants as origin
 use Rattle.settings.specs.declared.Setting.{Setting}
-use Rattle.settings.specs.declared.rewriting.Rewritten.{Rewritten}
-use Rattle.editions.specs.declared.Edition.{Edition}
-use Rattle.editions.specs.declared.Kept.{Kept}
 use Rattle.sillgarland.specs.declared.settingfiles.SillSetting.{SillSetting}
 use Rattle.sillgarland.specs.declared.settingfiles.SillRewritten.{SillRewritten}
 use Rattle.sillgarland.specs.declared.settingfiles.SillSaved.{SillSaved}
 use Rattle.sillgarland.specs.declared.settingfiles.SillEdition.{SillEdition}
 
-abbrev pub setting_struct : Setting → SillSetting
-setting_struct a = record { refusal = a.refusal; place = a.place; file = a.file; start = a.start; size = a.size }
+-- the file that has a tag: 0 the override, 1 the default
+abbrev pub file_number : Origin → ℕ
+file_number origin.Override = 0
+file_number origin.Default = 1
 
-abbrev pub rewritten_struct : Rewritten → SillRewritten
-rewritten_struct a = record { refusal = a.refusal; place = a.place; written = a.written }
+abbrev pub setting_struct : Result Setting Fault → SillSetting
+setting_struct (Ok a) = record { refusal = accepted; place = 0; file = file_number a.origin; start = a.contents.start; size = a.contents.size }
+setting_struct (Err f) = record { refusal = number_of f.refusal; place = f.place; file = 0; start = 0; size = 0 }
 
-abbrev pub kept_struct : Kept → SillSaved
-kept_struct a = record { refusal = a.refusal; place = a.place; written = a.written }
+abbrev pub rewritten_struct : Result ℕ Fault → SillRewritten
+rewritten_struct (Ok written) = record { refusal = accepted; place = 0; written = written }
+rewritten_struct (Err f) = record { refusal = number_of f.refusal; place = f.place; written = 0 }
 
-abbrev pub edition_struct : Edition → SillEdition
-edition_struct a = record { refusal = a.refusal; place = a.place; start = a.start; size = a.size }
+abbrev pub kept_struct : Result ℕ Fault → SillSaved
+kept_struct (Ok written) = record { refusal = accepted; place = 0; written = written }
+kept_struct (Err f) = record { refusal = number_of f.refusal; place = f.place; written = 0 }
+
+abbrev pub edition_struct : Result Span Fault → SillEdition
+edition_struct (Ok a) = record { refusal = accepted; place = 0; start = a.start; size = a.size }
+edition_struct (Err f) = record { refusal = number_of f.refusal; place = f.place; start = 0; size = 0 }

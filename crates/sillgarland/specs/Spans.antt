@@ -1,12 +1,12 @@
 -- The struct that the export of spans returns: the numbers of each answer. 02, K7.
 use Rattle.refusals.specs.Numbers.{accepted}
 use Rattle.varint.specs.Answers.{truth}
-use Rattle.nodespan.specs.declared.Answered.{Answered}
-use Rattle.nodespan.specs.declared.Answered.TheVariants.{Told, Refused}
+use Rattle.grammar.specs.Reading.{Answer, gives, stops}
+use Rattle.nodespan.specs.declared.Found.{Found}
 use Rattle.sillgarland.specs.declared.spans.SillSpan.{SillSpan}
 
-abbrev pub span_struct : Answered → SillSpan
-span_struct (Told found) =
+abbrev pub span_struct : Answer Found → SillSpan
+span_struct (gives found) =
     record {
       refusal = accepted;
       place = 0;
@@ -15,4 +15,4 @@ span_struct (Told found) =
       closed = truth found.closed;
       slots_before = found.slots_before;
     }
-span_struct (Refused number place) = record { refusal = number; place = place; start = 0; end = 0; closed = 0; slots_before = 0 }
+span_struct (stops number place) = record { refusal = number; place = place; start = 0; end = 0; closed = 0; slots_before = 0 }

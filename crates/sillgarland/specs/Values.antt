@@ -4,9 +4,7 @@ use Rattle.refusals.specs.Numbers.{accepted}
 use Rattle.grammar.specs.Reading.{Answer, gives, stops}
 use Rattle.grammar.specs.Answer.{Counts, Outcome}
 use Rattle.writing.specs.Answer.{output_held}
-use Rattle.output.specs.declared.Wrote.{Wrote}
-use Rattle.output.specs.declared.Wrote.TheVariants as wrote
-use Rattle.writer.specs.Entry.{wrote_of}
+use Rattle.writer.specs.Entry.{length_in}
 use Rattle.sillgarland.specs.declared.values.SillRead.{SillRead}
 use Rattle.sillgarland.specs.declared.varints.SillWritten.{SillWritten}
 
@@ -29,11 +27,11 @@ pub record ReadAs (o : Outcome) (r : SillRead) (nodes entries slots : List ℕ) 
   pub holds-entries : entries ≡ o.entries
   pub holds-slots : slots ≡ o.slots
 
-abbrev pub wrote_struct : Wrote → SillWritten
-wrote_struct (wrote.Done bytes) = record { refusal = accepted; place = 0; written = bytes }
-wrote_struct (wrote.Refused number place) = record { refusal = number; place = place; written = 0 }
+abbrev pub wrote_struct : Answer ℕ → SillWritten
+wrote_struct (gives bytes) = record { refusal = accepted; place = 0; written = bytes }
+wrote_struct (stops number place) = record { refusal = number; place = place; written = 0 }
 
 -- The contract: r gives the answer's numbers, and the output holds the bytes, then zeros; refused, zeros.
 pub record WroteAs (answer : Answer (List ℕ)) (room : ℕ) (r : SillWritten) (output : List ℕ) : Type 0 where
-  pub numbers : r ≡ wrote_struct (wrote_of answer)
+  pub numbers : r ≡ wrote_struct (length_in answer)
   pub holds : output ≡ output_held room answer

@@ -1,21 +1,20 @@
 -- The structs that the varint exports return: 01's numbers of each answer, as `varint` defines them.
-use Rattle.std.specs.Prelude.{ℕ, List}
-use Rattle.varint.specs.declared.Written.{Written}
-use Rattle.varintread.specs.declared.Found.{Found}
+use Rattle.std.specs.Prelude.{ℕ, List, Result}
+use Rattle.refusals.specs.declared.Fault.{Fault}
 use Rattle.varint.specs.Answers.{written_numbers}
-use Rattle.varintread.specs.Reading.{found_numbers}
+use Rattle.varintread.specs.Reading.{Reading, found_numbers}
 use Rattle.sillgarland.specs.declared.varints.SillWritten.{SillWritten}
 use Rattle.sillgarland.specs.declared.varints.SillFound.{SillFound}
 
-abbrev pub written_struct : Written → SillWritten
+abbrev pub written_struct : Result ℕ Fault → SillWritten
 written_struct answer =
     record { refusal = (written_numbers answer).refusal; place = (written_numbers answer).place; written = (written_numbers answer).written }
 
 -- a writer's answer as a struct, and what it leaves in the store
-abbrev pub written_as : Written × List ℕ → SillWritten × List ℕ
+abbrev pub written_as : Result ℕ Fault × List ℕ → SillWritten × List ℕ
 written_as outcome = (written_struct outcome.0, outcome.1)
 
-abbrev pub found_struct : ℕ → Found → SillFound
+abbrev pub found_struct : ℕ → Reading → SillFound
 found_struct at answer =
     record {
       refusal = (found_numbers at answer).refusal;

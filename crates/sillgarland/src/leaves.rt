@@ -1,6 +1,7 @@
 // The leaf question, and the line table of a node, for C and Rust callers. See include/sillgarland.h for what a caller owes.
 ghost use Rattle.std.specs.Prelude.{◌≡◌, ◌/◌, length};
 ghost use Rattle.grammar.specs.Leaf.{leaf_of};
+ghost use Rattle.grammar.specs.Numbered.{numbered};
 ghost use Rattle.leaf.specs.Answers.{answered_of};
 ghost use Rattle.linetable.specs.Answer.{first_line_of, answer, records_of};
 ghost use Rattle.locate.specs.Part.{located_at};
@@ -8,7 +9,8 @@ ghost use Rattle.sillgarland.specs.Leaves.{leaf_struct};
 ghost use Rattle.sillgarland.specs.Locations.{located_struct};
 
 use crate::locations::SillLocated;
-use leaf::Answered;
+use leaf::Told;
+use refusals::Fault;
 
 // A leaf's answer: its refusal and place, or the kind of leaf and its one or two values.
 #[repr(C)]
@@ -23,10 +25,11 @@ pub struct SillLeaf {
 }
 
 // What a node is, if it is a leaf.
+// C lends the input and the nodes, with the count of those that are used, here and in `sill_locate_node`.
 pub fn sill_leaf(input: &[u8], nodes: &[u32], used: u32, node: u32) -> SillLeaf
     ensures { result ≡ leaf_struct (answered_of (leaf_of input.now nodes.now used node)) }
 {
-    leaf_numbers(leaf::leaf_of(input, nodes, used, node))
+    SillLeaf::from(leaf::leaf_of(input, nodes, used, node))
 }
 
 // `linetable_to_locations` of a bytes node, four numbers an instruction.
@@ -43,32 +46,30 @@ pub fn sill_locate_node(
         × (records.new ≡ records_of (length records.old)
         (located_at input.now nodes.now used node (first_line_of first_line) count (length records.old / 4))) }
 {
-    let answer = locate::locate_node(input, nodes, used, node, first_line, count, records);
-    crate::locations::located_numbers(answer)
+    SillLocated::from(locate::locate_node(input, nodes, used, node, first_line, count, records))
 }
 
-fn leaf_numbers(answer: Answered) -> SillLeaf
-    ensures { result ≡ leaf_struct answer }
-{
-    match answer {
-        Answered::Told(told) => {
-            let case = told.leaf;
-            SillLeaf {
+impl From<Result<Told, Fault>> for SillLeaf {
+    ghost from_gives = { λ answer numbers. numbers ≡ leaf_struct (numbered answer) };
+
+    fn from(answer: Result<Told, Fault>) -> SillLeaf {
+        match answer {
+            Ok(told) => SillLeaf {
                 refusal: refusals::ACCEPTED,
                 place: 0,
-                kind: leaf::kind_of(case),
+                kind: leaf::kind_of(told.leaf),
                 pad: 0,
                 first: told.first,
                 second: told.second,
-            }
+            },
+            Err(fault) => SillLeaf {
+                refusal: fault.refusal.number(),
+                place: fault.place,
+                kind: 0,
+                pad: 0,
+                first: 0,
+                second: 0,
+            },
         }
-        Answered::Refused(number, place) => SillLeaf {
-            refusal: number,
-            place,
-            kind: 0,
-            pad: 0,
-            first: 0,
-            second: 0,
-        },
     }
 }

@@ -4,6 +4,7 @@ ghost use Rattle.localsplus.specs.Answer.{rooms_of, split_of, IsSplit};
 ghost use Rattle.sillgarland.specs.Locals.{split_struct, SplitAs};
 
 use localsplus::Split;
+use refusals::Fault;
 
 // The split's answer: its refusal and place, or how many names of each kind, and whether the cell-to-argument list is present.
 #[repr(C)]
@@ -38,33 +39,30 @@ pub fn sill_split(
     let answer = localsplus::split_localplus(
         kinds, names, args, kwonly, flags, locals, cells, frees, map, cell_args,
     );
-    split_numbers(answer)
+    SillSplit::from(answer)
 }
 
-fn split_numbers(answer: Split) -> SillSplit
-    ensures { result ≡ split_struct answer }
-{
-    match answer {
-        Split::Done {
-            locals,
-            cells,
-            frees,
-            present,
-        } => SillSplit {
-            refusal: refusals::ACCEPTED,
-            place: 0,
-            locals,
-            cells,
-            frees,
-            present: present as u32,
-        },
-        Split::Refused(number, place) => SillSplit {
-            refusal: number,
-            place,
-            locals: 0,
-            cells: 0,
-            frees: 0,
-            present: 0,
-        },
+impl From<Result<Split, Fault>> for SillSplit {
+    ghost from_gives = { λ answer numbers. numbers ≡ split_struct answer };
+
+    fn from(answer: Result<Split, Fault>) -> SillSplit {
+        match answer {
+            Ok(split) => SillSplit {
+                refusal: refusals::ACCEPTED,
+                place: 0,
+                locals: split.locals,
+                cells: split.cells,
+                frees: split.frees,
+                present: split.present as u32,
+            },
+            Err(fault) => SillSplit {
+                refusal: fault.refusal.number(),
+                place: fault.place,
+                locals: 0,
+                cells: 0,
+                frees: 0,
+                present: 0,
+            },
+        }
     }
 }

@@ -1,10 +1,11 @@
 // Line tables for C and Rust callers. See include/sillgarland.h for what a caller owes.
 ghost use Rattle.std.specs.Prelude.{◌≡◌, ◌/◌, min, length};
-ghost use Rattle.linetable.specs.Answer.{first_line_of, located, answer, records_of, locations_of};
+ghost use Rattle.linetable.specs.Answer.{first_line_of, located, answer, numbered, records_of, locations_of};
 ghost use Rattle.sillgarland.specs.Locations.{located_struct};
 
 use lineentry::Location;
 use linetable::Located;
+use refusals::Fault;
 
 // A table's answer: its refusal and place, or how many instructions came from entries, and whether the table was whole.
 #[repr(C)]
@@ -21,8 +22,7 @@ pub fn sill_locate(table: &[u8], first_line: i32, count: u32, records: &mut [u32
     ensures { (result ≡ located_struct (answer (located table.now (first_line_of first_line) count (length records.old / 4))))
         × (records.new ≡ records_of (length records.old) (located table.now (first_line_of first_line) count (length records.old / 4))) }
 {
-    let answer = linetable::linetable_to_records(table, first_line, count, records);
-    located_numbers(answer)
+    SillLocated::from(linetable::linetable_to_records(table, first_line, count, records))
 }
 
 // `linetable_to_locations`, one struct an instruction, with a store of four numbers an instruction beside it.
@@ -38,28 +38,26 @@ pub fn sill_locations(
         × (out.new ≡ locations_of (length out.old)
         (located table.now (first_line_of first_line) count (min (length flat.old / 4) (length out.old)))) }
 {
-    let answer = linetable::linetable_to_locations(table, first_line, count, flat, out);
-    located_numbers(answer)
+    SillLocated::from(linetable::linetable_to_locations(table, first_line, count, flat, out))
 }
 
-pub fn located_numbers(answer: Located) -> SillLocated
-    ensures { result ≡ located_struct answer }
-{
-    match answer {
-        Located::Done {
-            from_entries,
-            whole,
-        } => SillLocated {
-            refusal: refusals::ACCEPTED,
-            place: 0,
-            from_entries,
-            whole: whole as u32,
-        },
-        Located::Refused { number, place } => SillLocated {
-            refusal: number,
-            place,
-            from_entries: 0,
-            whole: 0,
-        },
+impl From<Result<Located, Fault>> for SillLocated {
+    ghost from_gives = { λ answer it. it ≡ located_struct (numbered answer) };
+
+    fn from(answer: Result<Located, Fault>) -> SillLocated {
+        match answer {
+            Ok(told) => SillLocated {
+                refusal: refusals::ACCEPTED,
+                place: 0,
+                from_entries: told.from_entries,
+                whole: told.whole as u32,
+            },
+            Err(why) => SillLocated {
+                refusal: why.refusal.number(),
+                place: why.place,
+                from_entries: 0,
+                whole: 0,
+            },
+        }
     }
 }

@@ -4,7 +4,8 @@ ghost use Rattle.linetable.specs.Answer.{first_line_of};
 ghost use Rattle.sources.specs.Marks.{answer_of, bytes_of};
 ghost use Rattle.sillgarland.specs.Sources.{marks_for, sourced_struct};
 
-use sources::Sourced;
+use refusals::Fault;
+use sources::Counts;
 
 // The answer: its refusal and place, or how many instructions are from an entry, have a line, have both columns too, and have a sure row.
 #[repr(C)]
@@ -23,19 +24,30 @@ pub fn sill_sources(table: &[u8], first_line: i32, count: u32, sources: &mut [u8
     ensures { (result ≡ sourced_struct (answer_of (marks_for table.now (first_line_of first_line) count (length sources.old))))
         × (sources.new ≡ bytes_of (length sources.old) (marks_for table.now (first_line_of first_line) count (length sources.old))) }
 {
-    let answer = sources::sources_of_table(table, first_line, count, sources);
-    sourced_numbers(answer)
+    SillSourced::from(sources::sources_of_table(table, first_line, count, sources))
 }
 
-fn sourced_numbers(answer: Sourced) -> SillSourced
-    ensures { result ≡ sourced_struct answer }
-{
-    SillSourced {
-        refusal: answer.refusal,
-        place: answer.place,
-        from_entries: answer.from_entries,
-        with_line: answer.with_line,
-        with_columns: answer.with_columns,
-        sure: answer.sure,
+impl From<Result<Counts, Fault>> for SillSourced {
+    ghost from_gives = { λ answer it. it ≡ sourced_struct answer };
+
+    fn from(answer: Result<Counts, Fault>) -> SillSourced {
+        match answer {
+            Ok(counts) => SillSourced {
+                refusal: refusals::ACCEPTED,
+                place: 0,
+                from_entries: counts.from_entries,
+                with_line: counts.with_line,
+                with_columns: counts.with_columns,
+                sure: counts.sure,
+            },
+            Err(fault) => SillSourced {
+                refusal: fault.refusal.number(),
+                place: fault.place,
+                from_entries: 0,
+                with_line: 0,
+                with_columns: 0,
+                sure: 0,
+            },
+        }
     }
 }

@@ -6,6 +6,7 @@ ghost use Rattle.sillgarland.specs.Pieces.{pieced_struct, LeavesStruct};
 
 use crate::locations::SillLocated;
 use piecestate::Pieced;
+use refusals::Fault;
 
 // `locate_begin`.
 pub fn sill_locate_begin(
@@ -16,33 +17,40 @@ pub fn sill_locate_begin(
 ) -> SillLocated
     ensures { LeavesStruct (begin (first_line_of first_line) count state.old records.old) result state.new records.new }
 {
-    let answer = bypiece::locate_begin(first_line, count, state, records);
-    pieced_numbers(answer)
+    SillLocated::from(bypiece::locate_begin(first_line, count, state, records))
 }
 
 // `locate_piece`.
 pub fn sill_locate_piece(bytes: &[u8], state: &mut [u32], records: &mut [u32]) -> SillLocated
     ensures { LeavesStruct (piece bytes.now state.old records.old) result state.new records.new }
 {
-    let answer = bypiece::locate_piece(bytes, state, records);
-    pieced_numbers(answer)
+    SillLocated::from(bypiece::locate_piece(bytes, state, records))
 }
 
 // `locate_end`.
 pub fn sill_locate_end(state: &mut [u32], records: &mut [u32]) -> SillLocated
     ensures { LeavesStruct (end state.old records.old) result state.new records.new }
 {
-    let answer = bypiece::locate_end(state, records);
-    pieced_numbers(answer)
+    SillLocated::from(bypiece::locate_end(state, records))
 }
 
-fn pieced_numbers(answer: Pieced) -> SillLocated
-    ensures { result ≡ pieced_struct answer }
-{
-    SillLocated {
-        refusal: answer.refusal,
-        place: answer.place,
-        from_entries: answer.from_entries,
-        whole: answer.whole as u32,
+impl From<Result<Pieced, Fault>> for SillLocated {
+    ghost from_gives = { λ answer located. located ≡ pieced_struct answer };
+
+    fn from(answer: Result<Pieced, Fault>) -> SillLocated {
+        match answer {
+            Ok(pieced) => SillLocated {
+                refusal: refusals::ACCEPTED,
+                place: 0,
+                from_entries: pieced.from_entries,
+                whole: pieced.whole as u32,
+            },
+            Err(why) => SillLocated {
+                refusal: why.refusal.number(),
+                place: why.place,
+                from_entries: 0,
+                whole: 0,
+            },
+        }
     }
 }

@@ -7,6 +7,7 @@ ghost use Rattle.sillgarland.specs.Values.{ReadAs};
 
 use crate::values::SillRead;
 use keep::Kept;
+use refusals::Fault;
 
 // A move's answer: its refusal and place, or how many nodes and entries are kept, and how many of each a new read can claim.
 #[repr(C)]
@@ -21,6 +22,7 @@ pub struct SillKept {
 }
 
 // A node and everything reachable from it moves to the front of the stores. Refused, nodes, entries and slots are as they were.
+// C lends the stores of nodes and entries, whose records are told by their index, and the counts of what is used of them.
 pub fn sill_keep(
     nodes: &mut [u32],
     entries: &mut [u32],
@@ -34,19 +36,31 @@ pub fn sill_keep(
         (length stack.old) result nodes.new entries.new slots.new stack.new }
 {
     let answer = keep::keep(nodes, entries, slots, used_nodes, used_entries, node, stack);
-    kept_numbers(answer)
+    SillKept::from(answer)
 }
 
-fn kept_numbers(answer: Kept) -> SillKept
-    ensures { result ≡ keep_struct answer }
-{
-    SillKept {
-        refusal: answer.refusal,
-        place: answer.place,
-        nodes: answer.nodes,
-        entries: answer.entries,
-        free_nodes: answer.freenodes,
-        free_entries: answer.freeentries,
+impl From<Result<Kept, Fault>> for SillKept {
+    ghost from_gives = { λ answer numbers. numbers ≡ keep_struct answer };
+
+    fn from(answer: Result<Kept, Fault>) -> SillKept {
+        match answer {
+            Ok(kept) => SillKept {
+                refusal: refusals::ACCEPTED,
+                place: 0,
+                nodes: kept.nodes,
+                entries: kept.entries,
+                free_nodes: kept.freenodes,
+                free_entries: kept.freeentries,
+            },
+            Err(fault) => SillKept {
+                refusal: fault.refusal.number(),
+                place: fault.place,
+                nodes: 0,
+                entries: 0,
+                free_nodes: 0,
+                free_entries: 0,
+            },
+        }
     }
 }
 
@@ -81,5 +95,5 @@ pub fn sill_read_more(
         kept_entries,
         input_number,
     );
-    crate::values::read_numbers(answer)
+    SillRead::from(answer)
 }

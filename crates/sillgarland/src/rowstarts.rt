@@ -4,8 +4,7 @@ ghost use Rattle.startindex.specs.Index.{indexed};
 ghost use Rattle.starts.specs.Questions.{starts_before, start_at};
 ghost use Rattle.sillgarland.specs.Starts.{indexed_struct, indexed_as, start_struct};
 
-use startindex::Indexed;
-use starts::Answer;
+use refusals::Fault;
 
 // The answer of a building: its refusal and place, or how many starts there are.
 #[repr(C)]
@@ -26,42 +25,61 @@ pub struct SillStart {
 }
 
 // `index_starts`.
+// This export, `sill_starts_before` and `sill_start_at` are names of C, which lends an index and says how many records it stands for.
 pub fn sill_index_starts(records: &[u32], count: u32, index: &mut [u64]) -> SillIndexed
     ensures { (result, index.new) ≡ indexed_as (indexed records.now count (length index.old)) }
 {
-    indexed_numbers(startindex::index_starts(records, count, index))
+    SillIndexed::from(startindex::index_starts(records, count, index))
 }
 
 // `starts_before`.
 pub fn sill_starts_before(index: &[u64], count: u32, n: u32) -> SillStart
     ensures { result ≡ start_struct (starts_before index.now count n) }
 {
-    start_numbers(starts::starts_before(index, count, n))
+    SillStart::from(starts::starts_before(index, count, n))
 }
 
 // `start_at`.
 pub fn sill_start_at(index: &[u64], count: u32, k: u32) -> SillStart
     ensures { result ≡ start_struct (start_at index.now count k) }
 {
-    start_numbers(starts::start_at(index, count, k))
+    SillStart::from(starts::start_at(index, count, k))
 }
 
-fn indexed_numbers(answer: Indexed) -> SillIndexed
-    ensures { result ≡ indexed_struct answer }
-{
-    SillIndexed {
-        refusal: answer.refusal,
-        place: answer.place,
-        starts: answer.starts,
+impl From<Result<u32, Fault>> for SillIndexed {
+    ghost from_gives = { λ answer it. it ≡ indexed_struct answer };
+
+    fn from(answer: Result<u32, Fault>) -> SillIndexed {
+        match answer {
+            Ok(starts) => SillIndexed {
+                refusal: refusals::ACCEPTED,
+                place: 0,
+                starts,
+            },
+            Err(fault) => SillIndexed {
+                refusal: fault.refusal.number(),
+                place: fault.place,
+                starts: 0,
+            },
+        }
     }
 }
 
-fn start_numbers(answer: Answer) -> SillStart
-    ensures { result ≡ start_struct answer }
-{
-    SillStart {
-        refusal: answer.refusal,
-        place: answer.place,
-        value: answer.value,
+impl From<Result<u64, Fault>> for SillStart {
+    ghost from_gives = { λ answer it. it ≡ start_struct answer };
+
+    fn from(answer: Result<u64, Fault>) -> SillStart {
+        match answer {
+            Ok(value) => SillStart {
+                refusal: refusals::ACCEPTED,
+                place: 0,
+                value,
+            },
+            Err(fault) => SillStart {
+                refusal: fault.refusal.number(),
+                place: fault.place,
+                value: 0,
+            },
+        }
     }
 }

@@ -5,9 +5,9 @@ ghost use Rattle.settings.specs.Rewriting.{rewrite_of};
 ghost use Rattle.editions.specs.Answers.{edition_of, saved_of};
 ghost use Rattle.sillgarland.specs.Settingfiles.{setting_struct, rewritten_struct, edition_struct, kept_struct};
 
-use editions::{Edition, Kept};
-use settings::Setting;
-use settings::rewriting::Rewritten;
+use refusals::Fault;
+use settings::{Origin, Setting};
+use taggedfields::Span;
 
 // A lookup's answer: its refusal and place, or the file (0 the override, 1 the default) and where in it the contents stand.
 #[repr(C)]
@@ -21,6 +21,7 @@ pub struct SillSetting {
 }
 
 // A rewriting's answer: its refusal and place, or how many bytes were written.
+// A type of C's header, as `SillSaved` is, with the fields of `SillWritten`.
 #[repr(C)]
 #[derive(Clone, Copy)]
 pub struct SillRewritten {
@@ -52,8 +53,7 @@ pub struct SillEdition {
 pub fn sill_setting(own: &[u8], fallback: &[u8], tag: u32) -> SillSetting
     ensures { result ≡ setting_struct (setting_of own.now fallback.now tag) }
 {
-    let answer = settings::find_setting(own, fallback, tag);
-    setting_numbers(answer)
+    SillSetting::from(settings::find_setting(own, fallback, tag))
 }
 
 // Writes a file of fields again with the contents that the changes have.
@@ -61,8 +61,7 @@ pub fn sill_rewrite_settings(file: &[u8], changes: &[u8], out: &mut [u8]) -> Sil
     ensures { (result ≡ rewritten_struct (rewrite_of file.now changes.now (length out.old)).0)
         × (out.new ≡ (rewrite_of file.now changes.now (length out.old)).1) }
 {
-    let answer = settings::rewriting::rewrite(file, changes, out);
-    rewritten_numbers(answer)
+    SillRewritten::from(settings::rewriting::rewrite(file, changes, out))
 }
 
 // Saves a file behind those of an archive.
@@ -70,57 +69,97 @@ pub fn sill_save_edition(archive: &[u8], file: &[u8], out: &mut [u8]) -> SillSav
     ensures { (result ≡ kept_struct (saved_of archive.now file.now (length out.old)).0)
         × (out.new ≡ (saved_of archive.now file.now (length out.old)).1) }
 {
-    let answer = editions::save_edition(archive, file, out);
-    kept_numbers(answer)
+    SillSaved::from(editions::save_edition(archive, file, out))
 }
 
 // Where the file of an edition stands in an archive.
 pub fn sill_edition(archive: &[u8], edition: &[u8]) -> SillEdition
     ensures { result ≡ edition_struct (edition_of archive.now edition.now) }
 {
-    let answer = editions::find_edition(archive, edition);
-    edition_numbers(answer)
+    SillEdition::from(editions::find_edition(archive, edition))
 }
 
-fn setting_numbers(answer: Setting) -> SillSetting
-    ensures { result ≡ setting_struct answer }
-{
-    SillSetting {
-        refusal: answer.refusal,
-        place: answer.place,
-        file: answer.file,
-        start: answer.start,
-        size: answer.size,
+impl From<Result<Setting, Fault>> for SillSetting {
+    ghost from_gives = { λ answer it. it ≡ setting_struct answer };
+
+    fn from(answer: Result<Setting, Fault>) -> SillSetting {
+        match answer {
+            Ok(setting) => SillSetting {
+                refusal: refusals::ACCEPTED,
+                place: 0,
+                file: match setting.origin {
+                    Origin::Override => 0,
+                    Origin::Default => 1,
+                },
+                start: setting.contents.start,
+                size: setting.contents.size,
+            },
+            Err(fault) => SillSetting {
+                refusal: fault.refusal.number(),
+                place: fault.place,
+                file: 0,
+                start: 0,
+                size: 0,
+            },
+        }
     }
 }
 
-fn rewritten_numbers(answer: Rewritten) -> SillRewritten
-    ensures { result ≡ rewritten_struct answer }
-{
-    SillRewritten {
-        refusal: answer.refusal,
-        place: answer.place,
-        written: answer.written,
+impl From<Result<u32, Fault>> for SillRewritten {
+    ghost from_gives = { λ answer it. it ≡ rewritten_struct answer };
+
+    fn from(answer: Result<u32, Fault>) -> SillRewritten {
+        match answer {
+            Ok(written) => SillRewritten {
+                refusal: refusals::ACCEPTED,
+                place: 0,
+                written,
+            },
+            Err(fault) => SillRewritten {
+                refusal: fault.refusal.number(),
+                place: fault.place,
+                written: 0,
+            },
+        }
     }
 }
 
-fn kept_numbers(answer: Kept) -> SillSaved
-    ensures { result ≡ kept_struct answer }
-{
-    SillSaved {
-        refusal: answer.refusal,
-        place: answer.place,
-        written: answer.written,
+impl From<Result<u32, Fault>> for SillSaved {
+    ghost from_gives = { λ answer it. it ≡ kept_struct answer };
+
+    fn from(answer: Result<u32, Fault>) -> SillSaved {
+        match answer {
+            Ok(written) => SillSaved {
+                refusal: refusals::ACCEPTED,
+                place: 0,
+                written,
+            },
+            Err(fault) => SillSaved {
+                refusal: fault.refusal.number(),
+                place: fault.place,
+                written: 0,
+            },
+        }
     }
 }
 
-fn edition_numbers(answer: Edition) -> SillEdition
-    ensures { result ≡ edition_struct answer }
-{
-    SillEdition {
-        refusal: answer.refusal,
-        place: answer.place,
-        start: answer.start,
-        size: answer.size,
+impl From<Result<Span, Fault>> for SillEdition {
+    ghost from_gives = { λ answer it. it ≡ edition_struct answer };
+
+    fn from(answer: Result<Span, Fault>) -> SillEdition {
+        match answer {
+            Ok(span) => SillEdition {
+                refusal: refusals::ACCEPTED,
+                place: 0,
+                start: span.start,
+                size: span.size,
+            },
+            Err(fault) => SillEdition {
+                refusal: fault.refusal.number(),
+                place: fault.place,
+                start: 0,
+                size: 0,
+            },
+        }
     }
 }

@@ -1,11 +1,13 @@
 // Where a node's bytes begin and end, for C and Rust callers. See include/sillgarland.h for what a caller owes.
 ghost use Rattle.std.specs.Prelude.{◌≡◌};
 ghost use Rattle.grammar.specs.Record.{tables_of};
+ghost use Rattle.grammar.specs.Numbered.{numbered};
 ghost use Rattle.nodespan.specs.Span.{span_of};
 ghost use Rattle.nodespan.specs.Walk.{answered_of};
 ghost use Rattle.sillgarland.specs.Spans.{span_struct};
 
-use nodespan::Answered;
+use nodespan::Found;
+use refusals::Fault;
 
 // A span's answer: its refusal and place, or where the node's bytes begin and end, whether every reference in them names a slot
 // reserved in them, and how many slots are reserved before them.
@@ -21,6 +23,7 @@ pub struct SillSpan {
 }
 
 // The bytes of a node, and whether they stand alone.
+// C lends the stores of nodes and entries, whose records are told by their index, and the counts of what is used of them.
 pub fn sill_span(
     input: &[u8],
     nodes: &[u32],
@@ -31,31 +34,30 @@ pub fn sill_span(
 ) -> SillSpan
     ensures { result ≡ span_struct (answered_of (span_of (tables_of input.now nodes.now entries.now used_nodes used_entries) node)) }
 {
-    span_numbers(nodespan::span_of(input, nodes, entries, used_nodes, used_entries, node))
+    SillSpan::from(nodespan::span_of(input, nodes, entries, used_nodes, used_entries, node))
 }
 
-fn span_numbers(answer: Answered) -> SillSpan
-    ensures { result ≡ span_struct answer }
-{
-    match answer {
-        Answered::Told(found) => {
-            let closed = found.closed as u32;
-            SillSpan {
+impl From<Result<Found, Fault>> for SillSpan {
+    ghost from_gives = { λ answer numbers. numbers ≡ span_struct (numbered answer) };
+
+    fn from(answer: Result<Found, Fault>) -> SillSpan {
+        match answer {
+            Ok(found) => SillSpan {
                 refusal: refusals::ACCEPTED,
                 place: 0,
                 start: found.start,
                 end: found.end,
-                closed,
+                closed: found.closed as u32,
                 slots_before: found.slots_before,
-            }
+            },
+            Err(fault) => SillSpan {
+                refusal: fault.refusal.number(),
+                place: fault.place,
+                start: 0,
+                end: 0,
+                closed: 0,
+                slots_before: 0,
+            },
         }
-        Answered::Refused(number, place) => SillSpan {
-            refusal: number,
-            place,
-            start: 0,
-            end: 0,
-            closed: 0,
-            slots_before: 0,
-        },
     }
 }

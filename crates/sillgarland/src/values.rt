@@ -4,11 +4,11 @@ ghost use Rattle.grammar.specs.Answer.{read_of};
 ghost use Rattle.reader.specs.Delivered.{answer_of};
 ghost use Rattle.writing.specs.Answer.{written};
 ghost use Rattle.grammar.specs.Record.{tables_of};
-ghost use Rattle.sillgarland.specs.Values.{read_struct, ReadAs, wrote_struct, WroteAs};
+ghost use Rattle.sillgarland.specs.Values.{read_struct, ReadAs, WroteAs};
 
 use crate::varints::SillWritten;
-use output::Wrote;
-use reader::Outcome;
+use reader::Read;
+use refusals::Fault;
 
 // A reading's answer: its refusal and place, or how many bytes and how many of each record were used.
 #[repr(C)]
@@ -22,7 +22,33 @@ pub struct SillRead {
     pub slots: u32,
 }
 
+impl From<Result<Read, Fault>> for SillRead {
+    ghost from_gives = { λ answer numbers. numbers ≡ read_struct (answer_of answer) };
+
+    fn from(answer: Result<Read, Fault>) -> SillRead {
+        match answer {
+            Ok(read) => SillRead {
+                refusal: refusals::ACCEPTED,
+                place: 0,
+                consumed: read.consumed,
+                nodes: read.nodes,
+                entries: read.entries,
+                slots: read.slots,
+            },
+            Err(fault) => SillRead {
+                refusal: fault.refusal.number(),
+                place: fault.place,
+                consumed: 0,
+                nodes: 0,
+                entries: 0,
+                slots: 0,
+            },
+        }
+    }
+}
+
 // `deserialize_value`.
+// C lends the stores of nodes, entries and slots one by one here, and in `sill_write` with the counts of what is used of them.
 pub fn sill_read(
     input: &[u8],
     nodes: &mut [u32],
@@ -33,36 +59,7 @@ pub fn sill_read(
     ensures { ReadAs (read_of input.now (length nodes.old) (length entries.old) (length slots.old) nesting)
         result nodes.new entries.new slots.new }
 {
-    let answer = reader::deserialize_value(input, nodes, entries, slots, nesting);
-    read_numbers(answer)
-}
-
-pub fn read_numbers(answer: Outcome) -> SillRead
-    ensures { result ≡ read_struct (answer_of answer) }
-{
-    match answer {
-        Outcome::Read {
-            consumed,
-            nodes,
-            entries,
-            slots,
-        } => SillRead {
-            refusal: refusals::ACCEPTED,
-            place: 0,
-            consumed,
-            nodes,
-            entries,
-            slots,
-        },
-        Outcome::Refused(number, place) => SillRead {
-            refusal: number,
-            place,
-            consumed: 0,
-            nodes: 0,
-            entries: 0,
-            slots: 0,
-        },
-    }
+    SillRead::from(reader::deserialize_value(input, nodes, entries, slots, nesting))
 }
 
 // `serialize_value`.
@@ -79,7 +76,7 @@ pub fn sill_write(
     ensures { WroteAs (written (tables_of input.now nodes.now entries.now used_nodes used_entries) root nesting (length out.old))
         (length out.old) result out.new }
 {
-    let answer = writer::serialize_value(
+    SillWritten::from(writer::serialize_value(
         input,
         nodes,
         entries,
@@ -88,23 +85,5 @@ pub fn sill_write(
         root,
         nesting,
         out,
-    );
-    wrote_numbers(answer)
-}
-
-fn wrote_numbers(answer: Wrote) -> SillWritten
-    ensures { result ≡ wrote_struct answer }
-{
-    match answer {
-        Wrote::Done(written) => SillWritten {
-            refusal: refusals::ACCEPTED,
-            place: 0,
-            written,
-        },
-        Wrote::Refused(number, place) => SillWritten {
-            refusal: number,
-            place,
-            written: 0,
-        },
-    }
+    ))
 }

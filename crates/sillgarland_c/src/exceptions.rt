@@ -2,7 +2,8 @@
 ghost use Rattle.std.specs.Prelude.{◌≡◌, length};
 ghost use Rattle.exceptiontable.specs.Reading.{decoded_of};
 ghost use Rattle.exceptiontable.specs.Writing.{encoded_of};
-ghost use Rattle.sillgarland.specs.Exceptions.{decoded_as, encoded_as};
+ghost use Rattle.sillgarland.specs.Exceptions.{decoded_as};
+ghost use Rattle.sillgarland.specs.Varints.{written_as};
 
 use sillgarland::exceptions::SillExceptions;
 use sillgarland::varints::SillWritten;
@@ -18,7 +19,7 @@ pub extern "C" fn sill_read_exceptions(table: &[u8], entries: &mut [u32]) -> Sil
 // `encode_exception_table`.
 #[unsafe(no_mangle)]
 pub extern "C" fn sill_write_exceptions(entries: &[u32], out: &mut [u8]) -> SillWritten
-    ensures { (result, out.new) ≡ encoded_as (encoded_of entries.now (length out.old)) }
+    ensures { (result, out.new) ≡ written_as (encoded_of entries.now (length out.old)) }
 {
     sillgarland::exceptions::sill_write_exceptions(entries, out)
 }

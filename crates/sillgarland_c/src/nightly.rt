@@ -2,7 +2,8 @@
 ghost use Rattle.std.specs.Prelude.{◌≡◌, length};
 ghost use Rattle.totals.specs.Totals.{totals_of, added_of};
 ghost use Rattle.printedtotals.specs.Lines.{printed_of};
-ghost use Rattle.sillgarland.specs.Nightly.{totalled_as, printed_as};
+ghost use Rattle.sillgarland.specs.Nightly.{totalled_as};
+ghost use Rattle.sillgarland.specs.Varints.{written_as};
 
 use sillgarland::nightly::SillTotalled;
 use sillgarland::varints::SillWritten;
@@ -26,7 +27,7 @@ pub extern "C" fn sill_add_totals(a: &[u64], b: &[u64], sum: &mut [u64]) -> Sill
 // `print_totals`.
 #[unsafe(no_mangle)]
 pub extern "C" fn sill_print_totals(totals: &[u64], out: &mut [u8]) -> SillWritten
-    ensures { (result, out.new) ≡ printed_as (printed_of totals.now (length out.old)) }
+    ensures { (result, out.new) ≡ written_as (printed_of totals.now (length out.old)) }
 {
     sillgarland::nightly::sill_print_totals(totals, out)
 }

@@ -19,9 +19,9 @@ use Rattle.grammar.specs.State.{Node}
 use Rattle.grammar.specs.Record.{counted, reads_as, ruled}
 use Rattle.fields.specs.Classes.{classes, class_at}
 use Rattle.fields.specs.Behind.{Reads, fields_of, behind_of, children_of}
-use Rattle.fields.specs.declared.Kids.{Kids}
 use Rattle.fields.specs.declared.Behind.{Behind}
-use Rattle.fields.specs.declared.Behind.TheVariants as behind
+use Rattle.std.specs.Prelude.{Result, Ok, Err}
+use Rattle.refusals.specs.declared.Fault.{Fault}
 
 -- of a class that has a form, the fields are read again
 form_ruled : (s : List ℕ) (n : Node) (class : ℕ) → class < 9 → reads_as (fields_of s (class_at class) n.place) n ≡ ruled s n (class_at class)
@@ -37,19 +37,19 @@ form_ruled s n (suc (suc (suc (suc (suc (suc (suc zero))))))) h = refl
 form_ruled s n (suc (suc (suc (suc (suc (suc (suc (suc zero)))))))) h = refl
 form_ruled s n (suc (suc (suc (suc (suc (suc (suc (suc (suc more))))))))) h = absurd (omega arith)
 
-module _ (s : List ℕ) (n : Node) (class : ℕ) {r : Behind} (form : class < 9) (reads : Reads s (class_at class) n.place r) where
+module _ (s : List ℕ) (n : Node) (class : ℕ) {r : Result Behind Fault} (form : class < 9) (reads : Reads s (class_at class) n.place r) where
   again : reads_as (behind_of r) n ≡ ruled s n (class_at class)
   again = ap (λ answer. reads_as answer n) reads.exact ∙ form_ruled s n class form
 
-  pub again-refused : {number place : ℕ} → r ≡ behind.Refused number place → false ≡ ruled s n (class_at class)
+  pub again-refused : {f : Fault} → r ≡ Err f → false ≡ ruled s n (class_at class)
   again-refused is = rw is at again
 
-  module _ {place size : ℕ} {kids : Kids} (is : r ≡ behind.Span place size kids) where
-    pub again_differs : (n.size ≡ size → ⊥) → false ≡ ruled s n (class_at class)
-    again_differs apart = rw (is, ne_eqb n.size size apart) at again
+  module _ {read : Behind} (is : r ≡ Ok read) where
+    pub again_differs : (n.size ≡ read.size → ⊥) → false ≡ ruled s n (class_at class)
+    again_differs apart = rw (is, ne_eqb n.size read.size apart) at again
 
-    pub again-counted : {t : Bool} → n.size ≡ size → t ≡ counted (children_of kids) n.count → t ≡ ruled s n (class_at class)
-    again-counted same told = told ∙ rw (is, eq-eqb n.size size same) at again
+    pub again-counted : {t : Bool} → n.size ≡ read.size → t ≡ counted (children_of read.kids) n.count → t ≡ ruled s n (class_at class)
+    again-counted same told = told ∙ rw (is, eq-eqb n.size read.size same) at again
 
 -- a class above the code's is not kept
 pub not_kept : (s : List ℕ) (n : Node) (class : ℕ) → 13 ≤ class → false ≡ ruled s n (class_at class)

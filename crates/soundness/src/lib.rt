@@ -13,6 +13,7 @@ ghost use Rattle.fields.specs.Behind.{children_of};
 ghost use Rattle.stores.specs.Written.{node_of};
 ghost use Rattle.soundness.specs.Texts.{too_long};
 
+use fields::cursor::Cursor;
 use grammar::{CODE_NUMBERS, CODE_PARTS, SHORT_INTERNED_LETTER, SHORT_LETTER};
 
 // Whether a count is what the fields say of the children.
@@ -31,14 +32,13 @@ fn read_again(s: &[u8], node: stores::Node, class: u32) -> bool
     requires { (class < form_classes) × (node.place ≤ length s.now) × (length s.now ≤ most_bytes) }
     ensures { result ≡ Record.ruled s.now (node_of node) (class_at class) }
 {
-    match fields::read_form(s, class, node.place) {
-        fields::Behind::Refused(_, _) => false,
-        fields::Behind::Span(_, size, kids) => {
-            if node.size != size {
-                return false;
-            }
-            counted(kids, node.count)
-        }
+    let from = Cursor {
+        input: s,
+        at: node.place,
+    };
+    match fields::read_form(from, class) {
+        Err(_) => false,
+        Ok(read) => node.size == read.size && counted(read.kids, node.count),
     }
 }
 

@@ -92,8 +92,8 @@ and_parts false b h = (refl, h)
 
 agrees_joined : (left n : ℕ) (l : Location) (byte : ℕ) (missing : Bool) (r : Reading) (m : Marks) → n ≤ left → Shows l byte → has 1 byte ≡ true → has 32 byte ≡ missing
     → Agrees (left - n) r m → Agrees left (joined (replicate n l) n missing r) (behind (replicate n byte) m)
-agrees_joined left n l byte missing (refused number place) (denied number' place') h x o w g = g
-agrees_joined left n l byte missing (done ls k whole) (denied number place) h x o w g = g
+agrees_joined left n l byte missing (refused number place) (denied why place') h x o w g = g
+agrees_joined left n l byte missing (done ls k whole) (denied why place) h x o w g = g
 agrees_joined left n l byte missing (refused number place) (marked bytes) h x o w g = g
 agrees_joined left n l byte missing (done ls k whole) (marked bytes) h x o w g =
     let these = replicate n byte in

@@ -7,10 +7,8 @@ use Prim.Native.Nat.{ℕ, ◌+◌, ◌-◌, ◌*◌, ◌/◌, ◌%◌, ◌≤◌
 use native.Mathlib.Omega.{arith}
 use lib.Dec.{ltb, eqb}
 use borrow.Author.Tests.{eq-eqb, ne_eqb, ltb-true, ltb-false, eqb-true}
+use Rattle.std.specs.Prelude.{Option, Some, None}
 use Rattle.lineentry.specs.declared.Varint.{Varint}
-use Rattle.lineentry.specs.declared.Varint.TheVariants.{Value, TooLong}
-use Rattle.lineentry.specs.declared.Moved.{Moved}
-use Rattle.lineentry.specs.declared.Moved.TheVariants.{To, Outside}
 use Rattle.lineentry.specs.declared.Span.{Span}
 use Rattle.lineentry.specs.declared.Entry.{Entry}
 use Rattle.lineentry.specs.declared.Entry.TheVariants.{Covers, Stop, OutOfRange}
@@ -65,13 +63,13 @@ low-cond : (code : ℕ) (long : LongForm) (t : Bool) (a b : Entry) → (t ≡ tr
 low-cond code long true a b p q = p refl
 low-cond code long false a b p q = q refl
 
-low-number : (code : ℕ) (long : LongForm) (v : Varint) (go : ℕ → ℕ → Bool → Entry) → ((x p : ℕ) (m : Bool) → Low code long (go x p m)) → Low code long (with_number v go)
-low-number code long (Value x p m) go h = h x p m
-low-number code long TooLong go h = tt
+low-number : (code : ℕ) (long : LongForm) (v : Option Varint) (go : ℕ → ℕ → Bool → Entry) → ((x p : ℕ) (m : Bool) → Low code long (go x p m)) → Low code long (with_number v go)
+low-number code long (Some v) go h = h v.value v.next v.missing
+low-number code long None go h = tt
 
-low-line : (code : ℕ) (long : LongForm) (l : Moved) (go : ℕ → Entry) → ((x : ℕ) → Low code long (go x)) → Low code long (with_line l go)
-low-line code long (To x) go h = h x
-low-line code long Outside go h = tt
+low-line : (code : ℕ) (long : LongForm) (l : Option ℕ) (go : ℕ → Entry) → ((x : ℕ) → Low code long (go x)) → Low code long (with_line l go)
+low-line code long (Some x) go h = h x
+low-line code long None go h = tt
 
 -- where the end line is the line
 one_shown : (code line : ℕ) (long : LongForm) → eqb code 14 ≡ false → lines_above code line long ≡ false → min (shown line) (shown line) ≡ 1
@@ -87,26 +85,26 @@ both-shown to end true true p q h =
     let z : ◌≡◌ {A = ℕ} 1 0 = ap (λ t. cond t 1 0) h in
     absurd (omega arith)
 
-low_end : (s : List ℕ) (to n p : ℕ) (long : LongForm) (m : Moved) → moved to (as_signed long.end_step) ≡ m → Low 14 long (with_line m λ end. long_columns s to end n p)
+low_end : (s : List ℕ) (to n p : ℕ) (long : LongForm) (m : Option ℕ) → moved to (as_signed long.end_step) ≡ m → Low 14 long (with_line m λ end. long_columns s to end n p)
 unfolding long_columns
-low_end s to n p long Outside q = tt
-low_end s to n p long (To end) q =
+low_end s to n p long None q = tt
+low_end s to n p long (Some end) q =
     low-number 14 long (varint_at s p) _ (λ column p₁ _. low-number 14 long (varint_at s p₁) _ (λ last p₂ _ h. both-shown to end _ _ refl refl (rw q at (h))))
 
-low-to : (s : List ℕ) (n p x : ℕ) (long : LongForm) (m : Moved) → long.end_step ≡ x → Low 14 long (with_line m λ to. with_line (moved to (as_signed x)) λ end. long_columns s to end n p)
-low-to s n p x long Outside e = tt
-low-to s n p x long (To to) e = low_end s to n p long (moved to (as_signed x)) (ap (λ v. moved to (as_signed v)) e)
+low-to : (s : List ℕ) (n p x : ℕ) (long : LongForm) (m : Option ℕ) → long.end_step ≡ x → Low 14 long (with_line m λ to. with_line (moved to (as_signed x)) λ end. long_columns s to end n p)
+low-to s n p x long None e = tt
+low-to s n p x long (Some to) e = low_end s to n p long (moved to (as_signed x)) (ap (λ v. moved to (as_signed v)) e)
 
-low_step : (s : List ℕ) (line step n q : ℕ) (long : LongForm) (w : Varint) → long.end_step ≡ (number_in q w).value
+low_step : (s : List ℕ) (line step n q : ℕ) (long : LongForm) (w : Option Varint) → long.end_step ≡ (number_in q w).value
     → Low 14 long (with_number w λ end_step p₂ _. with_line (moved line step) λ to. with_line (moved to (as_signed end_step)) λ end. long_columns s to end n p₂)
-low_step s line step n q long TooLong e = tt
-low_step s line step n q long (Value x p m) e = low-to s n p x long (moved line step) e
+low_step s line step n q long None e = tt
+low_step s line step n q long (Some v) e = low-to s n v.next v.value long (moved line step) e
 
-low_first : (s : List ℕ) (line n p : ℕ) (v : Varint)
+low_first : (s : List ℕ) (line n p : ℕ) (v : Option Varint)
     → Low 14 (long_from s (number_in p v).next) (with_number (signed v) λ step p₁ _. with_number (varint_at s p₁) λ end_step p₂ _. with_line (moved line step) λ to. with_line (moved to (as_signed end_step)) λ end. long_columns s to end n p₂)
 unfolding number_at
-low_first s line n p TooLong = tt
-low_first s line n p (Value v q m) = low_step s line (signed_of v) n q (long_from s q) (varint_at s q) refl
+low_first s line n p None = tt
+low_first s line n p (Some w) = low_step s line (signed_of w.value) n w.next (long_from s w.next) (varint_at s w.next) refl
 
 low-long : (s : List ℕ) (line n p : ℕ) → Low 14 (long_at s p) (long_form s line n p)
 unfolding long_form long_at number_at signed_at

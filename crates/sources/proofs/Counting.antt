@@ -5,7 +5,6 @@ use mathlib.Core.Bool.{Bool, true, false, not}
 use mathlib.Core.List.{List, [], ◌∷◌, ◌++◌, append_assoc}
 use Prim.Native.Nat.{ℕ, zero, suc, ◌+◌, ◌-◌, ◌≤◌, ◌<◌}
 use native.Mathlib.Nat.{zero-add}
-use native.Mathlib.Numerals.{sub-one, towards_suc}
 use native.Mathlib.Omega.{arith}
 use lib.ListN.{length, replicate, set, length-append, length-replicate}
 use lib.Seq.{sets}
@@ -86,12 +85,15 @@ pub lacks-nothing : (m byte : ℕ) (l : Lacks) → byte ≡ 31 → l ≡ lacking
 lacks-nothing m byte l e = rw e (lacks_eq (omega arith) (omega arith) (omega arith))
 
 -- ---- the store
-pub fill-turn : (xs : List ℕ) (j left byte : ℕ) → 0 < left → sets xs j (replicate left byte) ≡ sets (set xs j byte) (j + 1) (replicate (left - 1) byte)
-fill-turn xs j zero byte h = absurd (omega arith)
-fill-turn xs j (suc left) byte h = simp (towards_suc, sub-one)
+-- one byte is stored of n that go from a place on, behind j that are stored
+pub fill-turn : (xs : List ℕ) (from n j byte : ℕ) → j < n → sets xs (from + j) (replicate (n - j) byte) ≡ sets (set xs (from + j) byte) (from + (j + 1)) (replicate (n - (j + 1)) byte)
+fill-turn xs from n j byte h =
+    let a : n - j ≡ suc (n - (j + 1)) = omega arith in
+    let b : from + (j + 1) ≡ suc (from + j) = omega arith in
+    rw (a, b)
 
-pub fill_done : (xs : List ℕ) (j left byte : ℕ) → left ≡ 0 → sets xs j (replicate left byte) ≡ xs
-fill_done xs j left byte e = rw e
+pub fill_done : (xs : List ℕ) (at left byte : ℕ) → left ≡ 0 → sets xs at (replicate left byte) ≡ xs
+fill_done xs at left byte e = rw e
 
 zeros_more : (k m : ℕ) → zeros k ++ zeros m ≡ zeros (k + m)
 zeros_more zero m = rw zero-add

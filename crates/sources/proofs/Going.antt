@@ -10,7 +10,11 @@ use lib.ListN.{length, replicate, drop, length-append, length-replicate, drop_of
 use lib.Seq.{sets, sets-eq, length-sets, take-append_seam, drop-append-add}
 use lib.Dec.{leb}
 use borrow.Author.Tests.{eq-eqb, ne_eqb, lt-ltb, le-ltb, leb-true}
-use Rattle.refusals.specs.Numbers.{accepted, input_too_long, no_room, number_range}
+use Rattle.std.specs.Prelude.{Result, Ok}
+use Rattle.refusals.specs.Faults.{refused}
+use Rattle.refusals.specs.declared.Refusal.{Refusal}
+use Rattle.refusals.specs.declared.Refusal.TheVariants.{InputTooLong, NoRoom, NumberRange}
+use Rattle.refusals.specs.declared.Fault.{Fault}
 use Rattle.refusals.specs.Limits.{most_bytes}
 use Rattle.clearing.specs.Lent.{zeros, padded}
 use Rattle.lineentry.specs.declared.Span.{Span}
@@ -19,11 +23,10 @@ use Rattle.lineentry.specs.declared.Entry.TheVariants.{Covers, Stop, OutOfRange}
 use Rattle.lineentry.specs.Entry.{entry_at}
 use Rattle.lineentry.proofs.Entries.{entry-places}
 use Rattle.sources.specs.declared.Counts.{Counts}
-use Rattle.sources.specs.declared.Sourced.{Sourced}
 use Rattle.sources.specs.declared.Lacks.{Lacks}
 use Rattle.sources.specs.declared.Mark.{Mark}
 use Rattle.sources.specs.Source.{source_of}
-use Rattle.sources.specs.Marks.{Marks, marked, denied, behind, from_entry, marks, sources, is_placed, counts, times, plus, counts_of, told, answer_of, bytes_of}
+use Rattle.sources.specs.Marks.{Marks, marked, denied, behind, from_entry, marks, sources, is_placed, times, plus, counts_of, answer_of, bytes_of}
 use Rattle.sources.specs.Turns.{lacks, lacking, Few, having}
 use Rattle.sources.proofs.Counting.{plus_none, counts-append, counts-replicate, having_more, few_more, padded-zeros}
 use Rattle.sources.proofs.Bits.{source-placed}
@@ -42,11 +45,11 @@ marks-entry (suc turns) s line p left h k =
 
 behind_none : (m : Marks) → behind [] m ≡ m
 behind_none (marked bytes) = refl
-behind_none (denied number place) = refl
+behind_none (denied why place) = refl
 
 behind-twice : (xs ys : List ℕ) (m : Marks) → behind xs (behind ys m) ≡ behind (xs ++ ys) m
 behind-twice xs ys (marked bytes) = ap marked (sym (append_assoc xs ys bytes))
-behind-twice xs ys (denied number place) = refl
+behind-twice xs ys (denied why place) = refl
 
 -- ---- what is stored behind what is placed
 laid : (placed rest vs : List ℕ) → length placed + length vs ≤ length (placed ++ rest) → sets (placed ++ rest) (length placed) vs ≡ placed ++ (vs ++ drop (length vs) rest)
@@ -120,21 +123,21 @@ pub record Going (s : List ℕ) (total n : ℕ) (goal : Marks) (xs : List ℕ) (
   pub comes : goal ≡ behind placed (marks turns s line at (total - i))
 
 -- the answer r and the store's contents ys are the goal's
-abbrev pub Ends : ℕ → Marks → Sourced → List ℕ → Type 0
+abbrev pub Ends : ℕ → Marks → Result Counts Fault → List ℕ → Type 0
 Ends n goal r ys = (r ≡ answer_of goal) × (ys ≡ bytes_of n goal)
 
-ends-marked : (n : ℕ) (goal : Marks) (bytes : List ℕ) (c : Counts) {r : Sourced} {ys : List ℕ} → goal ≡ marked bytes → r ≡ told accepted 0 c → c ≡ counts_of bytes → ys ≡ padded n bytes → Ends n goal r ys
+ends-marked : (n : ℕ) (goal : Marks) (bytes : List ℕ) (c : Counts) {ys : List ℕ} → goal ≡ marked bytes → c ≡ counts_of bytes → ys ≡ padded n bytes → Ends n goal (Ok c) ys
 unfolding bytes_of
-ends-marked n goal bytes c e p q h = rw e (p ∙ ap (told accepted 0) q, h)
+ends-marked n goal bytes c e q h = rw e (ap {B = Result Counts Fault} (λ x. Ok x) q, h)
 
-pub ends_zero : (n : ℕ) {goal : Marks} {number place : ℕ} {r : Sourced} {ys : List ℕ} → goal ≡ denied number place → (r ≡ told number place (counts 0 0 0 0)) × (ys ≡ zeros n) → Ends n goal r ys
+pub ends_zero : (n : ℕ) {goal : Marks} {why : Refusal} {place : ℕ} {r : Result Counts Fault} {ys : List ℕ} → goal ≡ denied why place → (r ≡ refused why place) × (ys ≡ zeros n) → Ends n goal r ys
 unfolding bytes_of
 ends_zero n e x = rw e x
 
 -- where the loop begins nothing is placed
-pub going_start : (s : List ℕ) (count first : ℕ) (xs : List ℕ) (c : Lacks) → count ≤ length xs → c ≡ lacks 0 0 0
-    → Going s count (length xs) (marks count s first 0 count) xs c first 0 0
-going_start s count first xs c h q =
+pub going_start : (s : List ℕ) (count first : ℕ) (xs : List ℕ) → count ≤ length xs
+    → Going s count (length xs) (marks count s first 0 count) xs (lacks 0 0 0) first 0 0
+going_start s count first xs h =
     record {
       placed = [];
       count = refl;
@@ -142,8 +145,8 @@ going_start s count first xs c h q =
       room = omega arith;
       same = refl;
       begins = record { rest = xs; holds = refl };
-      tallied = ap (having 0) q;
-      few = record { few-lines = rw q (omega arith); few-columns = rw q (omega arith); few_sure = rw q (omega arith) };
+      tallied = refl;
+      few = record { few-lines = omega arith; few-columns = omega arith; few_sure = omega arith };
       turns = count;
       enough = omega arith;
       comes =
@@ -161,18 +164,18 @@ module _ {s : List ℕ} {total n : ℕ} {goal : Marks} {xs : List ℕ} {c : Lack
   padded-placed : {ys : List ℕ} → ys ≡ sets xs i (zeros (length xs - i)) → ys ≡ padded n g.placed
   padded-placed q = cleared-behind g.placed g.begins.rest g.begins.holds g.count g.same (omega (arith, g.upto, g.room)) q
 
-  pub ends-stop : {r : Sourced} {ys : List ℕ} {d : Counts} → i < total → entry_at s line at ≡ Stop → ys ≡ sets xs i (zeros (length xs - i)) → d ≡ having i c → r ≡ told accepted 0 d → Ends n goal r ys
-  ends-stop {d = d} h q w f e =
-      ends-marked n goal (g.placed ++ zeros (total - i)) d (at_entry Stop h q) e
+  pub ends-stop : {ys : List ℕ} {d : Counts} → i < total → entry_at s line at ≡ Stop → ys ≡ sets xs i (zeros (length xs - i)) → d ≡ having i c → Ends n goal (Ok d) ys
+  ends-stop {d = d} h q w f =
+      ends-marked n goal (g.placed ++ zeros (total - i)) d (at_entry Stop h q)
       (f ∙ g.tallied ∙ sym (counts-append g.placed (zeros (total - i)) ∙ ap (plus (counts_of g.placed)) (counts-replicate (total - i) 0) ∙ plus_none (counts_of g.placed)))
       (padded-placed w ∙ padded-zeros n (total - i) g.placed (omega (arith, g.count, g.upto, g.room)))
 
-  pub ends-refused : {r : Sourced} {ys : List ℕ} → i < total → entry_at s line at ≡ OutOfRange → (r ≡ told number_range at (counts 0 0 0 0)) × (ys ≡ zeros (length xs)) → Ends n goal r ys
+  pub ends-refused : {r : Result Counts Fault} {ys : List ℕ} → i < total → entry_at s line at ≡ OutOfRange → (r ≡ refused NumberRange at) × (ys ≡ zeros (length xs)) → Ends n goal r ys
   ends-refused h q e = ends_zero n (at_entry OutOfRange h q) (e.0, e.1 ∙ ap zeros g.same)
 
-  pub ends_all : {r : Sourced} {ys : List ℕ} {d : Counts} → total ≤ i → ys ≡ sets xs i (zeros (length xs - i)) → d ≡ having i c → r ≡ told accepted 0 d → Ends n goal r ys
-  ends_all {d = d} h w f e =
-      ends-marked n goal (g.placed ++ []) d (g.comes ∙ ap (behind g.placed) (marks-ended g.turns s line at (total - i) (omega arith))) e
+  pub ends_all : {ys : List ℕ} {d : Counts} → total ≤ i → ys ≡ sets xs i (zeros (length xs - i)) → d ≡ having i c → Ends n goal (Ok d) ys
+  ends_all {d = d} h w f =
+      ends-marked n goal (g.placed ++ []) d (g.comes ∙ ap (behind g.placed) (marks-ended g.turns s line at (total - i) (omega arith)))
       (f ∙ g.tallied ∙ ap counts_of (sym (append-nil g.placed))) (padded-placed w ∙ ap (padded n) (sym (append-nil g.placed)))
 
   goes : (x : Span) (ys : List ℕ) (m byte : ℕ) (d : Lacks) → i < total → entry_at s line at ≡ Covers x → m ≡ min x.instructions (total - i) → byte ≡ source_of s at x.line x.missing
@@ -209,11 +212,11 @@ module _ {s : List ℕ} {total n : ℕ} {goal : Marks} {xs : List ℕ} {c : Lack
 
 -- ---- the answer of a whole table, case by case: 14, 17, then the walk
 module _ (s : List ℕ) (first count capacity : ℕ) where
-  pub sources-long : most_bytes < length s → sources s first count capacity ≡ denied input_too_long 0
+  pub sources-long : most_bytes < length s → sources s first count capacity ≡ denied InputTooLong 0
   unfolding sources
   sources-long h = rw (lt-ltb most_bytes (length s) h)
 
-  pub sources-short : length s ≤ most_bytes → capacity < count → sources s first count capacity ≡ denied no_room capacity
+  pub sources-short : length s ≤ most_bytes → capacity < count → sources s first count capacity ≡ denied NoRoom capacity
   unfolding sources
   sources-short h k = rw (le-ltb most_bytes (length s) h, lt-ltb capacity count k)
 
@@ -221,6 +224,6 @@ module _ (s : List ℕ) (first count capacity : ℕ) where
   unfolding sources
   sources_walks h k = rw (le-ltb most_bytes (length s) h, le-ltb capacity count k)
 
-pub ends-walk : (s : List ℕ) (first count capacity : ℕ) (n x : ℕ) {r : Sourced} {ys : List ℕ} → length s ≤ most_bytes → count ≤ capacity → x ≡ first
+pub ends-walk : (s : List ℕ) (first count capacity : ℕ) (n x : ℕ) {r : Result Counts Fault} {ys : List ℕ} → length s ≤ most_bytes → count ≤ capacity → x ≡ first
     → Ends n (marks count s x 0 count) r ys → Ends n (sources s first count capacity) r ys
 ends-walk s first count capacity n x' h k e x = rw (sources_walks s first count capacity h k, ← e) x

@@ -7,10 +7,8 @@ use Prim.Native.Nat.{ℕ, ◌+◌, ◌%◌, max}
 use native.Mathlib.Omega.{arith}
 use lib.Dec.{ltb}
 use borrow.Author.Tests.{lt-ltb, ltb-true}
+use Rattle.std.specs.Prelude.{Option, Some, None}
 use Rattle.lineentry.specs.declared.Varint.{Varint}
-use Rattle.lineentry.specs.declared.Varint.TheVariants.{Value, TooLong}
-use Rattle.lineentry.specs.declared.Moved.{Moved}
-use Rattle.lineentry.specs.declared.Moved.TheVariants.{To, Outside}
 use Rattle.lineentry.specs.declared.Location.{Location}
 use Rattle.lineentry.specs.declared.Span.{Span}
 use Rattle.lineentry.specs.declared.Entry.{Entry}
@@ -27,41 +25,41 @@ Shown long (Covers e) = LongShown long e.line e.location
 Shown long Stop = Unit {0}
 Shown long OutOfRange = Unit {0}
 
-module _ (s : List ℕ) (to end n : ℕ) (long : LongForm) (ends : moved to (as_signed long.end_step) ≡ To end) where
-  shown_last : (x q : ℕ) (w : Varint) → long.column ≡ x → long.end_column ≡ (number_in q w).value
+module _ (s : List ℕ) (to end n : ℕ) (long : LongForm) (ends : moved to (as_signed long.end_step) ≡ Some end) where
+  shown_last : (x q : ℕ) (w : Option Varint) → long.column ≡ x → long.end_column ≡ (number_in q w).value
       → Shown long (with_number w λ last p missing. covers n to (location (shown to) (max 1 x) (shown end) (max 1 last)) p missing)
-  shown_last x q TooLong a b = tt
-  shown_last x q (Value y p m) a b =
+  shown_last x q None a b = tt
+  shown_last x q (Some v) a b =
       record { end = end; ends = ends; lines = refl; end_lines = refl; columns = ap (max 1) (sym a); end_columns = ap (max 1) (sym b) }
 
-  shown_column : (p : ℕ) (v : Varint) → long.column ≡ (number_in p v).value → long.end_column ≡ (number_at s (number_in p v).next).value
+  shown_column : (p : ℕ) (v : Option Varint) → long.column ≡ (number_in p v).value → long.end_column ≡ (number_at s (number_in p v).next).value
       → Shown long (with_number v λ x q _. with_number (varint_at s q) λ last r missing. covers n to (location (shown to) (max 1 x) (shown end) (max 1 last)) r missing)
   unfolding number_at
-  shown_column p TooLong a b = tt
-  shown_column p (Value x q m) a b = shown_last x q (varint_at s q) a b
+  shown_column p None a b = tt
+  shown_column p (Some v) a b = shown_last v.value v.next (varint_at s v.next) a b
 
-shown-columns : (s : List ℕ) (to n p : ℕ) (long : LongForm) (m : Moved) → moved to (as_signed long.end_step) ≡ m → long.column ≡ (number_at s p).value
+shown-columns : (s : List ℕ) (to n p : ℕ) (long : LongForm) (m : Option ℕ) → moved to (as_signed long.end_step) ≡ m → long.column ≡ (number_at s p).value
     → long.end_column ≡ (number_at s (number_at s p).next).value → Shown long (with_line m λ end. long_columns s to end n p)
 unfolding long_columns number_at
-shown-columns s to n p long Outside e a b = tt
-shown-columns s to n p long (To end) e a b = shown_column s to end n long e p (varint_at s p) a b
+shown-columns s to n p long None e a b = tt
+shown-columns s to n p long (Some end) e a b = shown_column s to end n long e p (varint_at s p) a b
 
-shown-to : (s : List ℕ) (n p x : ℕ) (long : LongForm) (m : Moved) → long.end_step ≡ x → long.column ≡ (number_at s p).value
+shown-to : (s : List ℕ) (n p x : ℕ) (long : LongForm) (m : Option ℕ) → long.end_step ≡ x → long.column ≡ (number_at s p).value
     → long.end_column ≡ (number_at s (number_at s p).next).value → Shown long (with_line m λ to. with_line (moved to (as_signed x)) λ end. long_columns s to end n p)
-shown-to s n p x long Outside e a b = tt
-shown-to s n p x long (To to) e a b = shown-columns s to n p long (moved to (as_signed x)) (ap (λ v. moved to (as_signed v)) e) a b
+shown-to s n p x long None e a b = tt
+shown-to s n p x long (Some to) e a b = shown-columns s to n p long (moved to (as_signed x)) (ap (λ v. moved to (as_signed v)) e) a b
 
-shown_step : (s : List ℕ) (line step n q : ℕ) (long : LongForm) (w : Varint) → long.end_step ≡ (number_in q w).value → long.column ≡ (number_at s (number_in q w).next).value
+shown_step : (s : List ℕ) (line step n q : ℕ) (long : LongForm) (w : Option Varint) → long.end_step ≡ (number_in q w).value → long.column ≡ (number_at s (number_in q w).next).value
     → long.end_column ≡ (number_at s (number_at s (number_in q w).next).next).value
     → Shown long (with_number w λ end_step p₂ _. with_line (moved line step) λ to. with_line (moved to (as_signed end_step)) λ end. long_columns s to end n p₂)
-shown_step s line step n q long TooLong e a b = tt
-shown_step s line step n q long (Value x p m) e a b = shown-to s n p x long (moved line step) e a b
+shown_step s line step n q long None e a b = tt
+shown_step s line step n q long (Some v) e a b = shown-to s n v.next v.value long (moved line step) e a b
 
-shown_first : (s : List ℕ) (line n p : ℕ) (v : Varint)
+shown_first : (s : List ℕ) (line n p : ℕ) (v : Option Varint)
     → Shown (long_from s (number_in p v).next) (with_number (signed v) λ step p₁ _. with_number (varint_at s p₁) λ end_step p₂ _. with_line (moved line step) λ to. with_line (moved to (as_signed end_step)) λ end. long_columns s to end n p₂)
 unfolding number_at
-shown_first s line n p TooLong = tt
-shown_first s line n p (Value v q m) = shown_step s line (signed_of v) n q (long_from s q) (varint_at s q) refl refl refl
+shown_first s line n p None = tt
+shown_first s line n p (Some w) = shown_step s line (signed_of w.value) n w.next (long_from s w.next) (varint_at s w.next) refl refl refl
 
 shown-long : (s : List ℕ) (line n p : ℕ) → Shown (long_at s p) (long_form s line n p)
 unfolding long_form long_at number_at signed_at

@@ -1,6 +1,7 @@
 -- What holds of the bytes beside the places that `sill_locate` shows for the same table, first line, count and room. `proofs/Beside` has the
 -- theorem.
 use Rattle.std.specs.Prelude.{◌≡◌, Bool, true, false, List, [], ◌∷◌, ◌++◌, ℕ, ◌-◌, min, length}
+use Rattle.refusals.specs.Faults.{number_of}
 use Rattle.clearing.specs.Lent.{zeros}
 use Rattle.lineentry.specs.declared.Location.{Location}
 use Rattle.linetable.specs.Walk.{Reading, done, refused}
@@ -37,8 +38,8 @@ pub record Beside (count : ℕ) (ls : List Location) (k : ℕ) (whole : Bool) (b
 -- both accept, or both refuse alike
 abbrev pub Agrees : ℕ → Reading → Marks → Type 0
 Agrees count (done ls k whole) (marked bytes) = Beside count ls k whole bytes
-Agrees count (refused number place) (denied number' place') = (number ≡ number') × (place ≡ place')
-Agrees count (done ls k whole) (denied number place) = ⊥
+Agrees count (refused number place) (denied why place') = (number ≡ number_of why) × (place ≡ place')
+Agrees count (done ls k whole) (denied why place) = ⊥
 Agrees count (refused number place) (marked bytes) = ⊥
 
 pub record BesideLocated : Type 0 where

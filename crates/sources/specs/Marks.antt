@@ -1,7 +1,10 @@
 -- `sill_sources`: "A byte an instruction, 0 where it is left over", else what its entry tells (Source), in the order of 01's walk; how many
 -- have what; and what the lent bytes hold. "Refusals as `sill_locate`."
-use Rattle.std.specs.Prelude.{Bool, not, ◌&&◌, cond, List, [], ◌∷◌, ◌++◌, ℕ, zero, suc, ◌+◌, ◌-◌, ◌/◌, ◌%◌, min, length, replicate, ltb, eqb}
-use Rattle.refusals.specs.Numbers.{accepted, input_too_long, no_room, number_range}
+use Rattle.std.specs.Prelude.{Bool, not, ◌&&◌, cond, List, [], ◌∷◌, ◌++◌, ℕ, zero, suc, ◌+◌, ◌-◌, ◌/◌, ◌%◌, min, length, replicate, ltb, eqb, Result, Ok}
+use Rattle.refusals.specs.Faults.{refused}
+use Rattle.refusals.specs.declared.Refusal.{Refusal}
+use Rattle.refusals.specs.declared.Refusal.TheVariants.{InputTooLong, NoRoom, NumberRange}
+use Rattle.refusals.specs.declared.Fault.{Fault}
 use Rattle.refusals.specs.Limits.{most_bytes}
 use Rattle.clearing.specs.Lent.{zeros, padded}
 use Rattle.lineentry.specs.declared.Entry.{Entry}
@@ -9,23 +12,22 @@ use Rattle.lineentry.specs.declared.Entry.TheVariants.{Covers, Stop, OutOfRange}
 use Rattle.lineentry.specs.Entry.{entry_at}
 use Rattle.sources.specs.Source.{source_of}
 use Rattle.sources.specs.declared.Counts.{Counts}
-use Rattle.sources.specs.declared.Sourced.{Sourced}
 
--- A byte an instruction; or the refusal's number and place.
+-- A byte an instruction; or the refusal and its place.
 pub data Marks : Type 0 where
   marked : List ℕ → Marks
-  denied : ℕ → ℕ → Marks
+  denied : Refusal → ℕ → Marks
 
 abbrev pub behind : List ℕ → Marks → Marks
 behind before (marked bytes) = marked (before ++ bytes)
-behind before (denied number place) = denied number place
+behind before (denied why place) = denied why place
 
 -- The byte of the entry at p, at every instruction that it places; `on` goes on behind it. Instructions left over have 0.
 abbrev pub from_entry : (ℕ → ℕ → ℕ → Marks) → List ℕ → ℕ → ℕ → Entry → Marks
 from_entry on s p left (Covers e) =
     behind (replicate (min e.instructions left) (source_of s p e.line e.missing)) (on e.line e.next (left - e.instructions))
 from_entry on s p left Stop = marked (replicate left 0)
-from_entry on s p left OutOfRange = denied number_range p
+from_entry on s p left OutOfRange = denied NumberRange p
 
 -- From the place p on, at the line so far, with `left` instructions to place; as many turns as there are instructions are enough.
 abbrev pub marks : ℕ → List ℕ → ℕ → ℕ → ℕ → Marks
@@ -35,8 +37,8 @@ marks (suc turns) s line p left = cond (eqb left 0) (marked []) (from_entry (mar
 -- "Capacity is the length of `sources`." 14, then 17, then the table, as `sill_locate` has them.
 unfoldable pub sources : List ℕ → ℕ → ℕ → ℕ → Marks
 sources s first count capacity =
-    cond (ltb most_bytes (length s)) (denied input_too_long 0)
-    (cond (ltb capacity count) (denied no_room capacity)
+    cond (ltb most_bytes (length s)) (denied InputTooLong 0)
+    (cond (ltb capacity count) (denied NoRoom capacity)
     (marks count s first 0 count))
 
 -- ---- "Counted: 1; 2; 2, 4 and 8 together; `sure`: 2 and 16 without 32."
@@ -75,14 +77,10 @@ counts_of [] = counts 0 0 0 0
 counts_of (byte ∷ bytes) = plus (times 1 byte) (counts_of bytes)
 
 -- ---- the answer, and the lent bytes
-abbrev pub told : ℕ → ℕ → Counts → Sourced
-told refusal place c =
-    record { refusal = refusal; place = place; from_entries = c.from_entries; with_line = c.with_line; with_columns = c.with_columns; sure = c.sure }
-
-abbrev pub answer_of : Marks → Sourced
-answer_of (marked bytes) = told accepted 0 (counts_of bytes)
-answer_of (denied number place) = told number place (counts 0 0 0 0)
+abbrev pub answer_of : Marks → Result Counts Fault
+answer_of (marked bytes) = Ok (counts_of bytes)
+answer_of (denied why place) = refused why place
 
 unfoldable pub bytes_of : ℕ → Marks → List ℕ
 bytes_of n (marked bytes) = padded n bytes
-bytes_of n (denied number place) = zeros n
+bytes_of n (denied why place) = zeros n

@@ -1,10 +1,7 @@
 -- What one entry of a location table tells of the place that it gives: "the sum of: 1 from an entry; 2 the entry has a line; 4 a column and 8
 -- an end column; 16 it has a line, and line and end line are above 0 as stored; 32 a byte of the entry is missing".
-use Rattle.std.specs.Prelude.{◌≡◌, Bool, false, not, ◌&&◌, cond, List, ℕ, ◌+◌, ◌/◌, ◌%◌, max, ltb, eqb}
+use Rattle.std.specs.Prelude.{Option, Some, None, ◌≡◌, Bool, false, not, ◌&&◌, cond, List, ℕ, ◌+◌, ◌/◌, ◌%◌, max, ltb, eqb}
 use Rattle.lineentry.specs.declared.Varint.{Varint}
-use Rattle.lineentry.specs.declared.Varint.TheVariants.{Value, TooLong}
-use Rattle.lineentry.specs.declared.Moved.{Moved}
-use Rattle.lineentry.specs.declared.Moved.TheVariants.{To, Outside}
 use Rattle.lineentry.specs.Varint.{byte_at, varint_at}
 use Rattle.lineentry.specs.declared.Location.{Location}
 use Rattle.lineentry.specs.Line.{origin, as_signed, moved, shown}
@@ -16,9 +13,9 @@ abbrev pub code_at : List ℕ → ℕ → ℕ
 code_at s p = (byte_at s p).value / 8 % 16
 
 -- A number of the entry, and the place after it. No entry that covers instructions has a number that is too long.
-abbrev pub number_in : ℕ → Varint → Number
-number_in p (Value v q m) = record { value = v; next = q }
-number_in p TooLong = record { value = 0; next = p }
+abbrev pub number_in : ℕ → Option Varint → Number
+number_in p (Some w) = record { value = w.value; next = w.next }
+number_in p None = record { value = 0; next = p }
 
 unfoldable pub number_at : List ℕ → ℕ → Number
 number_at s p = number_in p (varint_at s p)
@@ -43,9 +40,9 @@ has_column code number = cond (eqb code 14) (ltb 0 number) (ltb code 13)
 abbrev pub above : ℕ → Bool
 above line = ltb origin line
 
-abbrev pub above_after : Moved → Bool
-above_after (To line) = above line
-above_after Outside = false
+abbrev pub above_after : Option ℕ → Bool
+above_after (Some line) = above line
+above_after None = false
 
 -- "line and end line are above 0 as stored": the end line is the line, but for code 14, whose "end-line step is taken as signed"
 abbrev pub lines_above : ℕ → ℕ → LongForm → Bool
@@ -74,7 +71,7 @@ source_of s p line missing = source_by (code_at s p) line (long_at s (byte_at s 
 -- no 1, it tells the entry's byte, and the numbers need not be read again.
 pub record LongShown (long : LongForm) (line : ℕ) (l : Location) : Type 0 where
   pub end : ℕ
-  pub ends : moved line (as_signed long.end_step) ≡ To end
+  pub ends : moved line (as_signed long.end_step) ≡ Some end
   pub lines : l.line ≡ shown line
   pub end_lines : l.end_line ≡ shown end
   pub columns : l.column ≡ max 1 long.column

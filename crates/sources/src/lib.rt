@@ -5,6 +5,7 @@
 ghost use Rattle.std.specs.Prelude.{◌≡◌, ◌&&◌, not, cond, ◌+◌, ◌-◌, ◌<◌, ◌≤◌, min, length, replicate, leb};
 ghost use Rattle.std.proofs.lemmas.List.Edits.{sets};
 ghost use Rattle.refusals.specs.Limits.{most_bytes};
+ghost use Rattle.refusals.specs.Faults.{refused};
 ghost use Rattle.clearing.specs.Lent.{zeros};
 ghost use Rattle.lineentry.specs.Line.{moved, as_signed};
 ghost use Rattle.linetable.specs.Answer.{first_line_of};
@@ -12,16 +13,18 @@ ghost use Rattle.lineentry.specs.Varint.{byte_at};
 ghost use Rattle.lineentry.specs.Quick.{Plain};
 ghost use Rattle.lineentry.specs.Short.{Long, Read};
 ghost use Rattle.sources.specs.Source.{code_at, number_at, long_from, long_at, LongShown, above_one, above, above_after, bit, sum, source_by, long_source, source_of};
-ghost use Rattle.sources.specs.Marks.{marks, sources, has, share, counts, told, answer_of, bytes_of};
+ghost use Rattle.sources.specs.Marks.{marks, sources, has, share, answer_of, bytes_of};
 ghost use Rattle.sources.specs.Turns.{turn_at, lacks, Few, lacking, having};
 
 use lineentry::short::Numbers;
-use lineentry::{Entry, Location, Moved, Varint};
+use lineentry::{Entry, Location};
+use refusals::{Fault, Refusal};
 
 // 0 as a line is kept.
 const ORIGIN: u32 = 0x8000_0000;
 
 // A number of an entry, and the place after it.
+// varintread `Found` has the same fields, of big-endian bytes in another crate; one type would bring that crate here for two names: no plainer.
 #[derive(Clone, Copy)]
 pub struct Number {
     pub value: u32,
@@ -70,27 +73,16 @@ pub struct Lacks {
     pub sure: u32,
 }
 
-// A refusal's number and place, or the counts.
-#[derive(Clone, Copy)]
-pub struct Sourced {
-    pub refusal: u32,
-    pub place: u32,
-    pub from_entries: u32,
-    pub with_line: u32,
-    pub with_columns: u32,
-    pub sure: u32,
-}
-
+// `table`, `at` and `line`, here and below, stay apart for the reason at lineentry `lt_byte`.
 fn number_at(table: &[u8], at: usize) -> Number
     ensures { result ≡ number_at table.now at }
 {
     match lineentry::lt_read_varint(table, at) {
-        Varint::TooLong => Number { value: 0, next: at },
-        Varint::Value {
-            value,
-            next,
-            missing: _,
-        } => Number { value, next },
+        None => Number { value: 0, next: at },
+        Some(read) => Number {
+            value: read.value,
+            next: read.next,
+        },
     }
 }
 
@@ -115,12 +107,6 @@ fn long_at(table: &[u8], at: usize) -> LongForm
     long_from(table, step.next)
 }
 
-fn both(a: bool, b: bool) -> bool
-    ensures { result ≡ (a && b) }
-{
-    if a { b } else { false }
-}
-
 fn is_above(line: u32) -> bool
     ensures { result ≡ above line }
 {
@@ -132,11 +118,13 @@ fn above_after(line: u32, step: u32) -> bool
     ensures { result ≡ above_after (moved line (as_signed step)) }
 {
     match lineentry::move_line(line, lineentry::as_signed(step)) {
-        Moved::Outside => false,
-        Moved::To(end) => is_above(end),
+        None => false,
+        Some(end) => is_above(end),
     }
 }
 
+// `share_of` is the same for numbers of 32 bits: one for both would need a trait of numbers with its laws, and be no plainer.
+// `given`, in both, is a bit of the data and no choice of steps.
 fn weigh(weight: u8, given: bool) -> u8
     ensures { (result ≡ bit weight given) × (result ≤ weight) }
 {
@@ -158,9 +146,7 @@ fn sum_of(line: bool, column: bool, end_column: bool, positive: bool, missing: b
 fn above_one(shows: Location) -> bool
     ensures { result ≡ above_one shows }
 {
-    let columns = both(1 < shows.column, 1 < shows.end_column);
-    let end = both(1 < shows.end_line, columns);
-    both(1 < shows.line, end)
+    1 < shows.line && 1 < shows.end_line && 1 < shows.column && 1 < shows.end_column
 }
 
 // Code 14, whose numbers start at a place and show as they do: where they show no 1, none of them is 0 or less.
@@ -178,8 +164,7 @@ fn long_source(table: &[u8], at: usize, line: u32, missing: bool, shows: Locatio
 fn by_numbers(long: LongForm, line: u32, missing: bool) -> u8
     ensures { result ≡ source_by 14 line long missing }
 {
-    let end = above_after(line, long.end_step);
-    let positive = both(is_above(line), end);
+    let positive = is_above(line) && above_after(line, long.end_step);
     sum_of(
         true,
         0 < long.column,
@@ -237,12 +222,12 @@ fn lack_more(before: Lacks, i: usize, n: u32, byte: u8) -> Lacks
         return before;
     }
     let line = has_bit(2, byte);
-    let columns = both(has_bit(4, byte), has_bit(8, byte));
-    let sure = both(has_bit(16, byte), !has_bit(32, byte));
+    let columns = line && has_bit(4, byte) && has_bit(8, byte);
+    let sure = line && has_bit(16, byte) && !has_bit(32, byte);
     Lacks {
         line: before.line + share_of(n, !line),
-        columns: before.columns + share_of(n, !both(line, columns)),
-        sure: before.sure + share_of(n, !both(line, sure)),
+        columns: before.columns + share_of(n, !columns),
+        sure: before.sure + share_of(n, !sure),
     }
 }
 
@@ -276,13 +261,8 @@ fn fill(bytes: &mut [u8], from: usize, n: usize, byte: u8)
     requires { (from + n ≤ length bytes.old) × (n ≤ 8) }
     ensures { bytes.new ≡ sets bytes.old from (replicate n byte) }
 {
-    let mut j = from;
-    let mut left = n;
-    while 0 < left {
-        let stored = one_of_eight(byte, left);
-        bytes[j] = stored;
-        j += 1;
-        left -= 1;
+    for j in 0..n {
+        bytes[from + j] = one_of_eight(byte, n - j);
     }
 }
 
@@ -291,12 +271,8 @@ fn fill_eight(bytes: &mut [u8], from: usize, byte: u8)
     requires { from + 8 ≤ length bytes.old }
     ensures { bytes.new ≡ sets bytes.old from (replicate 8 byte) }
 {
-    let mut j = from;
-    let mut left = 8usize;
-    while 0 < left {
-        bytes[j] = byte;
-        j += 1;
-        left -= 1;
+    for j in 0..8 {
+        bytes[from + j] = byte;
     }
 }
 
@@ -312,63 +288,12 @@ fn fill_up(bytes: &mut [u8], from: usize, n: usize, byte: u8)
     fill(bytes, from, n, byte);
 }
 
-// Every byte is zero from one on.
-fn clear_from(bytes: &mut [u8], from: usize)
-    ensures { bytes.new ≡ sets bytes.old from (zeros (length bytes.old - from)) }
-{
-    let mut i = from;
-    while i < bytes.len() {
-        bytes[i] = 0;
-        i += 1;
-    }
-}
-
-fn answer(refusal: u32, place: u32, counts: Counts) -> Sourced
-    ensures { result ≡ told refusal place counts }
-{
-    Sourced {
-        refusal,
-        place,
-        from_entries: counts.from_entries,
-        with_line: counts.with_line,
-        with_columns: counts.with_columns,
-        sure: counts.sure,
-    }
-}
-
-fn none() -> Counts
-    ensures { result ≡ counts 0 0 0 0 }
-{
-    Counts {
-        from_entries: 0,
-        with_line: 0,
-        with_columns: 0,
-        sure: 0,
-    }
-}
-
-fn nothing() -> Lacks
-    ensures { result ≡ lacks 0 0 0 }
-{
-    Lacks {
-        line: 0,
-        columns: 0,
-        sure: 0,
-    }
-}
-
 // A refusal leaves every byte zero.
-fn refuse(bytes: &mut [u8], number: u32, place: u32) -> Sourced
-    ensures { (result ≡ told number place (counts 0 0 0 0)) × (bytes.new ≡ zeros (length bytes.old)) }
+fn refuse(bytes: &mut [u8], why: Refusal, place: u32) -> Result<Counts, Fault>
+    ensures { (result ≡ refused why place) × (bytes.new ≡ zeros (length bytes.old)) }
 {
     clearing::clear_bytes(bytes);
-    answer(number, place, none())
-}
-
-fn smaller(a: usize, b: usize) -> usize
-    ensures { (result ≡ min a b) × (result ≤ b) }
-{
-    if a <= b { a } else { b }
+    Err(why.at(place))
 }
 
 // An entry of codes 0 to 12.
@@ -448,27 +373,32 @@ fn turn_here(table: &[u8], line: u32, at: usize) -> Turn
 }
 
 // Gives every instruction its entry's byte, entry by entry; those left over, and what was stored past the last, are cleared.
-fn walk_marks(table: &[u8], first: u32, count: u32, bytes: &mut [u8]) -> Sourced
+// `table`, `first` and `count` go no further than this walk; `sources_of_table` has them as C gives them.
+fn walk_marks(table: &[u8], first: u32, count: u32, bytes: &mut [u8]) -> Result<Counts, Fault>
     requires { (length table.now ≤ most_bytes) × (count ≤ length bytes.old) }
     ensures { (result ≡ answer_of (marks count table.now first 0 count))
         × (bytes.new ≡ bytes_of (length bytes.old) (marks count table.now first 0 count)) }
 {
     let total = count as usize;
-    let mut lacks = nothing();
+    let mut lacks = Lacks {
+        line: 0,
+        columns: 0,
+        sure: 0,
+    };
     let mut line = first;
     let mut at = 0;
     let mut i = 0;
     while i < total {
         match turn_here(table, line, at) {
             Turn::Refuses => {
-                return refuse(bytes, refusals::NUMBER_RANGE, at as u32);
+                return refuse(bytes, Refusal::NumberRange, at as u32);
             }
             Turn::Stops => {
-                clear_from(bytes, i);
-                return answer(refusals::ACCEPTED, 0, have(i as u32, lacks));
+                clearing::clear_bytes(&mut bytes[i..]);
+                return Ok(have(i as u32, lacks));
             }
             Turn::Gives(mark) => {
-                let n = smaller(mark.instructions, total - i);
+                let n = mark.instructions.min(total - i);
                 fill_up(bytes, i, n, mark.byte);
                 lacks = lack_more(lacks, i, n as u32, mark.byte);
                 i += n;
@@ -477,20 +407,25 @@ fn walk_marks(table: &[u8], first: u32, count: u32, bytes: &mut [u8]) -> Sourced
             }
         }
     }
-    clear_from(bytes, i);
-    answer(refusals::ACCEPTED, 0, have(i as u32, lacks))
+    clearing::clear_bytes(&mut bytes[i..]);
+    Ok(have(i as u32, lacks))
 }
 
 // A byte for each instruction, from a first line as code objects have it.
-pub fn sources_of_table(table: &[u8], first_line: i32, count: u32, bytes: &mut [u8]) -> Sourced
+pub fn sources_of_table(
+    table: &[u8],
+    first_line: i32,
+    count: u32,
+    bytes: &mut [u8],
+) -> Result<Counts, Fault>
     ensures { (result ≡ answer_of (sources table.now (first_line_of first_line) count (length bytes.old)))
         × (bytes.new ≡ bytes_of (length bytes.old) (sources table.now (first_line_of first_line) count (length bytes.old))) }
 {
     if (refusals::MOST_BYTES as usize) < table.len() {
-        return refuse(bytes, refusals::INPUT_TOO_LONG, 0);
+        return refuse(bytes, Refusal::InputTooLong, 0);
     }
     if bytes.len() < count as usize {
-        return refuse(bytes, refusals::NO_ROOM, bytes.len() as u32);
+        return refuse(bytes, Refusal::NoRoom, bytes.len() as u32);
     }
     let first = lineentry::as_signed(signed::bits32(first_line));
     walk_marks(table, first, count, bytes)

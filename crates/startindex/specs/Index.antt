@@ -1,10 +1,11 @@
 -- 02, K4: "Keep beside the locations one bit per instruction .. with running totals every 512 bits." The index as it is built from records, in
 -- blocks of nine words of 64 bits: a running total and eight words of bits. Block n / 512 is there for n equal to the count too.
-use Rattle.std.specs.Prelude.{cond, List, [], ◌∷◌, ◌++◌, ℕ, zero, suc, ◌+◌, ◌-◌, ◌*◌, ◌/◌, min, length, ltb}
-use Rattle.refusals.specs.Numbers.{accepted, no_room}
+use Rattle.std.specs.Prelude.{cond, List, [], ◌∷◌, ◌++◌, ℕ, zero, suc, ◌+◌, ◌-◌, ◌*◌, ◌/◌, min, length, ltb, Result, Ok}
+use Rattle.refusals.specs.Faults.{refused}
+use Rattle.refusals.specs.declared.Fault.{Fault}
+use Rattle.refusals.specs.declared.Refusal.TheVariants.{NoRoom}
 use Rattle.clearing.specs.Lent.{zeros, padded}
 use Rattle.startindex.specs.Starts.{is_start, bit, starts_in}
-use Rattle.startindex.specs.declared.Indexed.{Indexed}
 
 -- the bits of the n instructions from i on, the first of them lowest
 unfoldable pub word_of : List ℕ → ℕ → ℕ → ℕ
@@ -36,12 +37,9 @@ unfoldable pub built : List ℕ → ℕ → List ℕ
 built records count = blocks records count 0 (blocks_of count)
 
 -- ---- the answer, and the lent words
-abbrev pub told : ℕ → ℕ → ℕ → Indexed
-told refusal place starts = record { refusal = refusal; place = place; starts = starts }
-
 -- "store short 17": fewer records than instructions, then an index of too few words
-unfoldable pub indexed : List ℕ → ℕ → ℕ → Indexed × List ℕ
+unfoldable pub indexed : List ℕ → ℕ → ℕ → Result ℕ Fault × List ℕ
 indexed records count room =
-    cond (ltb (length records / 4) count) (told no_room (length records / 4) 0, zeros room)
-    (cond (ltb room (need count)) (told no_room room 0, zeros room)
-    (told accepted 0 (starts_in records 0 count), padded room (built records count)))
+    cond (ltb (length records / 4) count) (refused NoRoom (length records / 4), zeros room)
+    (cond (ltb room (need count)) (refused NoRoom room, zeros room)
+    (Ok (starts_in records 0 count), padded room (built records count)))

@@ -4,29 +4,31 @@
 ghost use Rattle.std.specs.Prelude.{◌≡◌, ◌+◌, ◌-◌, ◌*◌, ◌/◌, ◌≤◌, ◌<◌, min, length};
 ghost use Rattle.std.proofs.lemmas.List.Edits.{sets};
 ghost use Rattle.std.specs.Int.Count.{ones};
-ghost use Rattle.clearing.specs.Lent.{zeros};
 ghost use Rattle.startindex.specs.Starts.{is_start, bit, starts_in};
-ghost use Rattle.startindex.specs.Index.{word_of, block, blocks, blocks_of, need, told, indexed};
+ghost use Rattle.startindex.specs.Index.{word_of, block, blocks, blocks_of, need, indexed};
+
+use refusals::{Fault, Refusal};
 
 // How many instructions a word and a block have a bit for, and how many words a block is.
-const WORD_BITS: usize = 64;
+pub const WORD_BITS: usize = 64;
 
-const BLOCK_BITS: usize = 512;
+pub const BLOCK_BITS: usize = 512;
 
-const BLOCK_WORDS: usize = 9;
+pub const BLOCK_WORDS: usize = 9;
 
 // How many numbers a record is.
 const RECORD_WIDTH: usize = 4;
 
-// A refusal's number and place, or how many starts there are.
+// The first `count` records, which are all there.
 #[derive(Clone, Copy)]
-pub struct Indexed {
-    pub refusal: u32,
-    pub place: u32,
-    pub starts: u32,
+struct Records<'a> {
+    numbers: &'a [u32],
+    count: usize,
+    ghost all: { (4 * count ≤ length numbers.now) × (count < 0x100000000) },
 }
 
 // Whether an instruction behind the first starts a row: every one does whose line is not that of the one before.
+// A 0 or 1 by `if`: as `u64::from` of the comparison the clause did not prove.
 fn later_bit(records: &[u32], i: usize) -> u64
     requires { (0 < i) × (4 * i < length records.now) }
     ensures { (result ≡ bit (is_start records.now i)) × (result ≤ 1) }
@@ -55,9 +57,7 @@ fn word_of(records: &[u32], from: usize, n: usize) -> u64
     ensures { result ≡ word_of records.now from n }
 {
     let mut word = 0u64;
-    let mut i = from + n;
-    while from < i {
-        i -= 1;
+    for i in (from..from + n).rev() {
         word = word * 2 + start_bit(records, i);
     }
     word
@@ -91,29 +91,27 @@ fn full_word(records: &[u32], from: usize) -> u64
     ensures { result ≡ word_of records.now from 64 }
 {
     let mut word = 0u64;
-    let mut j = 8;
-    while 0 < j {
-        j -= 1;
+    for j in (0..8).rev() {
         word = word * 256 + eight_bits(records, from + 8 * j);
     }
     word
 }
 
 // The word whose first bit is this instruction's. Behind the last instruction no bit is set.
-fn word_at(records: &[u32], count: usize, i: usize) -> u64
-    requires { 4 * count ≤ length records.now }
-    ensures { result ≡ word_of records.now i (min 64 (count - i)) }
+fn word_at(records: Records<'_>, i: usize) -> u64
+    ensures { result ≡ word_of records.entry.numbers.now i (min 64 (records.entry.count - i)) }
 {
+    let count = records.count;
     if count <= i {
         return 0;
     }
     if count - i < WORD_BITS {
-        return word_of(records, i, count - i);
+        return word_of(records.numbers, i, count - i);
     }
     if i == 0 {
-        return word_of(records, i, WORD_BITS);
+        return word_of(records.numbers, i, WORD_BITS);
     }
-    full_word(records, i)
+    full_word(records.numbers, i)
 }
 
 // The ones of a word.
@@ -124,60 +122,36 @@ pub fn ones_of(word: u64) -> u64
 }
 
 // Stores one block: the running total, then the words of its instructions. The answer is the total behind them.
-fn put_block(index: &mut [u64], b: usize, total: u64, records: &[u32], count: usize) -> u64
-    requires { (9 * b + 9 ≤ length index.old) × (4 * count ≤ length records.now) × (count < 0x100000000) × (512 * b ≤ count)
-        × (total ≡ starts_in records.now 0 (512 * b)) }
-    ensures { (result ≡ starts_in records.now 0 (min (512 * b + 512) count))
-        × (index.new ≡ sets index.old (9 * b) (block records.now count b)) }
+fn put_block(index: &mut [u64], b: usize, total: u64, records: Records<'_>) -> u64
+    requires { (9 * b + 9 ≤ length index.old) × (512 * b ≤ records.count) × (total ≡ starts_in records.numbers.now 0 (512 * b)) }
+    ensures { (result ≡ starts_in records.entry.numbers.now 0 (min (512 * b + 512) records.entry.count))
+        × (index.new ≡ sets index.old (9 * b) (block records.entry.numbers.now records.entry.count b)) }
 {
     let at = BLOCK_WORDS * b;
     index[at] = total;
     let mut sum = total;
     let mut i = BLOCK_BITS * b;
-    let mut j = 1;
-    while j < BLOCK_WORDS {
-        let word = word_at(records, count, i);
+    for j in 1..BLOCK_WORDS {
+        let word = word_at(records, i);
         index[at + j] = word;
         sum += ones_of(word);
         i += WORD_BITS;
-        j += 1;
     }
     sum
 }
 
 // Stores every block, and answers how many starts there are.
-fn put_blocks(index: &mut [u64], n: usize, records: &[u32], count: usize) -> u64
-    requires { (9 * n ≤ length index.old) × (4 * count ≤ length records.now) × (count < 0x100000000) × (n ≡ blocks_of count) }
-    ensures { (result ≡ starts_in records.now 0 count) × (index.new ≡ sets index.old 0 (blocks records.now count 0 n)) }
+fn put_blocks(index: &mut [u64], records: Records<'_>) -> u64
+    requires { need records.count ≤ length index.old }
+    ensures { (result ≡ starts_in records.entry.numbers.now 0 records.entry.count)
+        × (index.new ≡ sets index.old 0 (blocks records.entry.numbers.now records.entry.count 0 (blocks_of records.entry.count))) }
 {
+    let n = records.count / BLOCK_BITS + 1;
     let mut total = 0u64;
-    let mut b = 0;
-    while b < n {
-        total = put_block(index, b, total, records, count);
-        b += 1;
+    for b in 0..n {
+        total = put_block(index, b, total, records);
     }
     total
-}
-
-// Every word of the index is zero.
-fn clear(index: &mut [u64])
-    ensures { index.new ≡ zeros (length index.old) }
-{
-    let mut i = 0;
-    while i < index.len() {
-        index[i] = 0;
-        i += 1;
-    }
-}
-
-fn answer(refusal: u32, place: u32, starts: u32) -> Indexed
-    ensures { result ≡ told refusal place starts }
-{
-    Indexed {
-        refusal,
-        place,
-        starts,
-    }
 }
 
 // How many words an index of so many instructions has.
@@ -187,20 +161,23 @@ pub fn words_needed(count: u32) -> usize
     BLOCK_WORDS * (count as usize / BLOCK_BITS + 1)
 }
 
-// Builds the index of so many records.
-pub fn index_starts(records: &[u32], count: u32, index: &mut [u64]) -> Indexed
+// Builds the index of so many records, and answers how many starts there are. C gives the records and their count apart.
+pub fn index_starts(records: &[u32], count: u32, index: &mut [u64]) -> Result<u32, Fault>
     ensures { (result ≡ (indexed records.now count (length index.old)).0)
         × (index.new ≡ (indexed records.now count (length index.old)).1) }
 {
-    clear(index);
+    index.fill(0);
     let kept = records.len() / RECORD_WIDTH;
     if kept < count as usize {
-        return answer(refusals::NO_ROOM, kept as u32, 0);
+        return Err(Refusal::NoRoom.at(kept as u32));
     }
     if index.len() < words_needed(count) {
-        return answer(refusals::NO_ROOM, index.len() as u32, 0);
+        return Err(Refusal::NoRoom.at(index.len() as u32));
     }
-    let n = count as usize / BLOCK_BITS + 1;
-    let starts = put_blocks(index, n, records, count as usize);
-    answer(refusals::ACCEPTED, 0, starts as u32)
+    let held = Records {
+        numbers: records,
+        count: count as usize,
+    };
+    let starts = put_blocks(index, held);
+    Ok(starts as u32)
 }

@@ -1,14 +1,12 @@
 -- The second question of an index that was built: the bisection and one block find the k-th start of the records. Assumes nothing.
 use Rattle.std.proofs.Common.{◌≡◌, ℕ, zero, suc, ◌+◌, ◌-◌, ◌*◌, ◌/◌, ◌<◌, ◌≤◌, min, Bool, true, false, cond, ltb, leb, ◌⊎◌, List, get_or, sym, refl, ap, ◌∙◌, inl, inr, zero-add, arith, ltb-false, ltb-true, le-ltb, lt-ltb, leb-false, leb-true}
-use mathlib.Core.Option.{Option, none, some}
+use Rattle.std.specs.Prelude.{Option, None, Some}
 use lib.Count.{ones}
 use Rattle.startindex.specs.Starts.{starts_in, kth_start}
 use Rattle.startindex.specs.Index.{word_of, blocks_of, need}
 use Rattle.startindex.proofs.Counts.{starts-append, ones_word}
-use Rattle.starts.specs.declared.Spot.{Spot}
-use Rattle.starts.specs.declared.Spot.TheVariants.{Missing, At}
 use Rattle.starts.specs.Questions.{total_of, first_word, bisect, block_with, kth_bit, kth_of, in_count, kth}
-use Rattle.starts.specs.Promised.{spot, index_of}
+use Rattle.starts.specs.Promised.{index_of}
 use Rattle.starts.proofs.Built.{total_cell, bits_cell}
 use Rattle.starts.proofs.Kth.{kth_zero, kth_empty, kth-within, kth-behind, kth-inverts, bit_found}
 
@@ -30,9 +28,9 @@ past rs count i n k = go (leb 64 (count - i)) refl where
       ∙ ap (λ (m : ℕ). kth_start rs (i + 64) m k) (sym z)
 
 -- one word, and `on` behind it
-one_word : (rs : List ℕ) (count i n k word : ℕ) (on : Spot) → 0 < k → word ≡ word_of rs i (min 64 (count - i))
-    → (starts_in rs i (min 64 (count - i)) < k → on ≡ spot (kth_start rs (i + 64) (min (64 * n) (count - (i + 64))) (k - starts_in rs i (min 64 (count - i)))))
-    → cond (leb k (ones word)) (At (i + kth_bit 64 word k)) on ≡ spot (kth_start rs i (min (64 * suc n) (count - i)) k)
+one_word : (rs : List ℕ) (count i n k word : ℕ) (on : Option ℕ) → 0 < k → word ≡ word_of rs i (min 64 (count - i))
+    → (starts_in rs i (min 64 (count - i)) < k → on ≡ (kth_start rs (i + 64) (min (64 * n) (count - (i + 64))) (k - starts_in rs i (min 64 (count - i)))))
+    → cond (leb k (ones word)) (Some (i + kth_bit 64 word k)) on ≡ (kth_start rs i (min (64 * suc n) (count - i)) k)
 one_word rs count i n k word on p e ih = go (leb k (starts_in rs i m)) refl where
   m : ℕ
   m = min 64 (count - i)
@@ -46,26 +44,26 @@ one_word rs count i n k word on p e ih = go (leb k (starts_in rs i m)) refl wher
   split : min (64 * suc n) (count - i) ≡ m + rest
   split = omega arith
 
-  go : (t : Bool) → leb k (starts_in rs i m) ≡ t → cond (leb k (ones word)) (At (i + kth_bit 64 word k)) on ≡ spot (kth_start rs i (min (64 * suc n) (count - i)) k)
+  go : (t : Bool) → leb k (starts_in rs i m) ≡ t → cond (leb k (ones word)) (Some (i + kth_bit 64 word k)) on ≡ (kth_start rs i (min (64 * suc n) (count - i)) k)
   go true t =
       let h = leb-true k (starts_in rs i m) t in
-      ap (λ (x : ℕ). cond (leb k x) (At (i + kth_bit 64 word k)) on) own
-      ∙ ap (λ (b : Bool). cond b (At (i + kth_bit 64 word k)) on) t
-      ∙ ap (λ (x : ℕ). At (i + kth_bit 64 x k)) e
-      ∙ sym (ap spot (ap (λ (x : ℕ). kth_start rs i x k) split ∙ kth-within rs m rest i k p h ∙ bit_found rs 64 i m k (omega arith) p h))
+      ap (λ (x : ℕ). cond (leb k x) (Some (i + kth_bit 64 word k)) on) own
+      ∙ ap (λ (b : Bool). cond b (Some (i + kth_bit 64 word k)) on) t
+      ∙ ap (λ (x : ℕ). Some (i + kth_bit 64 x k)) e
+      ∙ sym ((ap (λ (x : ℕ). kth_start rs i x k) split ∙ kth-within rs m rest i k p h ∙ bit_found rs 64 i m k (omega arith) p h))
   go false t =
       let h = leb-false k (starts_in rs i m) t in
-      ap (λ (x : ℕ). cond (leb k x) (At (i + kth_bit 64 word k)) on) own
-      ∙ ap (λ (b : Bool). cond b (At (i + kth_bit 64 word k)) on) t
+      ap (λ (x : ℕ). cond (leb k x) (Some (i + kth_bit 64 word k)) on) own
+      ∙ ap (λ (b : Bool). cond b (Some (i + kth_bit 64 word k)) on) t
       ∙ ih h
-      ∙ sym (ap spot (ap (λ (x : ℕ). kth_start rs i x k) split ∙ kth-behind rs m rest i k h ∙ past rs count i n (k - starts_in rs i m)))
+      ∙ sym ((ap (λ (x : ℕ). kth_start rs i x k) split ∙ kth-behind rs m rest i k h ∙ past rs count i n (k - starts_in rs i m)))
 
 words-found : (rs : List ℕ) (count room b n w k : ℕ) → need count ≤ room → b < blocks_of count → w + n ≡ 8 → 0 < k
-    → kth_of (index_of rs count room) (first_word b + w) n (512 * b + 64 * w) k ≡ spot (kth_start rs (512 * b + 64 * w) (min (64 * n) (count - (512 * b + 64 * w))) k)
+    → kth_of (index_of rs count room) (first_word b + w) n (512 * b + 64 * w) k ≡ (kth_start rs (512 * b + 64 * w) (min (64 * n) (count - (512 * b + 64 * w))) k)
 unfolding kth_of
 words-found rs count room b zero w k r h l p =
     let z : min (64 * 0) (count - (512 * b + 64 * w)) ≡ 0 = omega arith in
-    sym (ap spot (ap (λ (m : ℕ). kth_start rs (512 * b + 64 * w) m k) z ∙ kth_empty rs (512 * b + 64 * w) k))
+    sym ((ap (λ (m : ℕ). kth_start rs (512 * b + 64 * w) m k) z ∙ kth_empty rs (512 * b + 64 * w) k))
 words-found rs count room b (suc n) w k r h l p =
     one_word rs count (512 * b + 64 * w) n k word on p e
     (λ q. next ∙ words-found rs count room b n (w + 1) (k - ones word) r h (omega arith) (omega (arith, own)) ∙ same) where
@@ -78,7 +76,7 @@ words-found rs count room b (suc n) w k r h l p =
       own : ones word ≡ starts_in rs (512 * b + 64 * w) (min 64 (count - (512 * b + 64 * w)))
       own = ap ones e ∙ ones_word rs (512 * b + 64 * w) (min 64 (count - (512 * b + 64 * w)))
 
-      on : Spot
+      on : Option ℕ
       on = kth_of (index_of rs count room) (first_word b + w + 1) n (512 * b + 64 * w + 64) (k - ones word)
 
       j : first_word b + w + 1 ≡ first_word b + (w + 1)
@@ -91,10 +89,10 @@ words-found rs count room b (suc n) w k r h l p =
       next = ap (λ (x : ℕ). kth_of (index_of rs count room) x n (512 * b + 64 * w + 64) (k - ones word)) j
           ∙ ap (λ (x : ℕ). kth_of (index_of rs count room) (first_word b + (w + 1)) n x (k - ones word)) i
 
-      same : spot (kth_start rs (512 * b + 64 * (w + 1)) (min (64 * n) (count - (512 * b + 64 * (w + 1)))) (k - ones word))
-          ≡ spot (kth_start rs (512 * b + 64 * w + 64) (min (64 * n) (count - (512 * b + 64 * w + 64))) (k - starts_in rs (512 * b + 64 * w) (min 64 (count - (512 * b + 64 * w)))))
-      same = ap (λ (x : ℕ). spot (kth_start rs x (min (64 * n) (count - x)) (k - ones word))) (sym i)
-          ∙ ap (λ (x : ℕ). spot (kth_start rs (512 * b + 64 * w + 64) (min (64 * n) (count - (512 * b + 64 * w + 64))) (k - x))) own
+      same : (kth_start rs (512 * b + 64 * (w + 1)) (min (64 * n) (count - (512 * b + 64 * (w + 1)))) (k - ones word))
+          ≡ (kth_start rs (512 * b + 64 * w + 64) (min (64 * n) (count - (512 * b + 64 * w + 64))) (k - starts_in rs (512 * b + 64 * w) (min 64 (count - (512 * b + 64 * w)))))
+      same = ap (λ (x : ℕ). (kth_start rs x (min (64 * n) (count - x)) (k - ones word))) (sym i)
+          ∙ ap (λ (x : ℕ). (kth_start rs (512 * b + 64 * w + 64) (min (64 * n) (count - (512 * b + 64 * w + 64))) (k - x))) own
 
 -- ---- the bisection: below k at its end, and not below k at the next, of whatever words
 pub record Ends (index : List ℕ) (k blocks r : ℕ) : Type 0 where
@@ -135,8 +133,8 @@ bisect-ends (suc turns) index k blocks low high t l m h a =
 
 -- ---- one block is enough
 block-enough : (rs : List ℕ) (count room b k : ℕ) → need count ≤ room → Ends (index_of rs count room) k (blocks_of count) b
-    → spot (kth_start rs (512 * b) (min 512 (count - 512 * b)) (k - total_of (index_of rs count room) b)) ≡ spot (kth_start rs 0 count k)
-block-enough rs count room b k r ends = sym (ap spot (ap (λ (m : ℕ). kth_start rs 0 m k) all ∙ kth-behind rs (512 * b) (count - 512 * b) 0 k before
+    → (kth_start rs (512 * b) (min 512 (count - 512 * b)) (k - total_of (index_of rs count room) b)) ≡ (kth_start rs 0 count k)
+block-enough rs count room b k r ends = sym ((ap (λ (m : ℕ). kth_start rs 0 m k) all ∙ kth-behind rs (512 * b) (count - 512 * b) 0 k before
     ∙ ap (λ (i : ℕ). kth_start rs i (count - 512 * b) (k - starts_in rs 0 (512 * b))) (zero-add (512 * b)) ∙ go ends.next
     ∙ ap (λ (t : ℕ). kth_start rs (512 * b) (min 512 (count - 512 * b)) (k - t)) (sym total))) where
       total : total_of (index_of rs count room) b ≡ starts_in rs 0 (512 * b)
@@ -163,31 +161,31 @@ block-enough rs count room b k r ends = sym (ap spot (ap (λ (m : ℕ). kth_star
           ∙ ap (λ (x : ℕ). kth_start rs (512 * b) x (k - starts_in rs 0 (512 * b))) (sym m)
 
 -- what is found is an instruction that there is
-in_count-spot : (rs : List ℕ) (count k : ℕ) → 0 < k → in_count count (spot (kth_start rs 0 count k)) ≡ spot (kth_start rs 0 count k)
-in_count-spot rs count k h = go (kth_start rs 0 count k) refl where
-  go : (o : Option ℕ) → kth_start rs 0 count k ≡ o → in_count count (spot o) ≡ spot o
-  go none e = refl
-  go (some p) e = let i = kth-inverts rs count 0 k p h e in rw (lt-ltb p count (omega (arith, i.1)))
+in_count-kept : (rs : List ℕ) (count k : ℕ) → 0 < k → in_count count (kth_start rs 0 count k) ≡ (kth_start rs 0 count k)
+in_count-kept rs count k h = go (kth_start rs 0 count k) refl where
+  go : (o : Option ℕ) → kth_start rs 0 count k ≡ o → in_count count o ≡ o
+  go None e = refl
+  go (Some p) e = let i = kth-inverts rs count 0 k p h e in rw (lt-ltb p count (omega (arith, i.1)))
 
 none_before : (rs : List ℕ) → starts_in rs 0 (512 * 0) ≡ 0
 unfolding starts_in
 none_before rs = refl
 
-pub kth-finds : (rs : List ℕ) (count room k : ℕ) → need count ≤ room → kth (index_of rs count room) count k ≡ spot (kth_start rs 0 count k)
+pub kth-finds : (rs : List ℕ) (count room k : ℕ) → need count ≤ room → kth (index_of rs count room) count k ≡ (kth_start rs 0 count k)
 unfolding kth
 kth-finds rs count room zero r =
     let b = block_with (index_of rs count room) (blocks_of count) 0 in
-    rw (le-ltb (total_of (index_of rs count room) b) 0 (omega arith)) (sym (ap spot (kth_zero rs 0 count)))
+    rw (le-ltb (total_of (index_of rs count room) b) 0 (omega arith)) (sym ((kth_zero rs 0 count)))
 kth-finds rs count room (suc m) r =
     let k = suc m in
     let index = index_of rs count room in
     let first : total_of index 0 < k = omega (arith, none_before rs, total_cell rs count room 0 r (omega arith)) in
     let ends = bisect-ends (blocks_of count) index k (blocks_of count) 0 (blocks_of count) first (omega arith) (omega arith) (omega arith) (inl refl) in
     let b = block_with index (blocks_of count) k in
-    ap (in_count count) (ap (λ (t : Bool). cond t (kth_of index (first_word b) 8 (512 * b) (k - total_of index b)) Missing) (lt-ltb (total_of index b) k ends.below)
+    ap (in_count count) (ap (λ (t : Bool). cond t (kth_of index (first_word b) 8 (512 * b) (k - total_of index b)) None) (lt-ltb (total_of index b) k ends.below)
     ∙ found b (k - total_of index b) ends.inside (omega (arith, ends.below)) ∙ block-enough rs count room b k r ends)
-    ∙ in_count-spot rs count k (omega arith) where
-      found : (b c : ℕ) → b < blocks_of count → 0 < c → kth_of (index_of rs count room) (first_word b) 8 (512 * b) c ≡ spot (kth_start rs (512 * b) (min 512 (count - 512 * b)) c)
+    ∙ in_count-kept rs count k (omega arith) where
+      found : (b c : ℕ) → b < blocks_of count → 0 < c → kth_of (index_of rs count room) (first_word b) 8 (512 * b) c ≡ (kth_start rs (512 * b) (min 512 (count - 512 * b)) c)
       found b c h p =
           let z : first_word b + 0 ≡ first_word b = omega arith in
           let i : 512 * b + 64 * 0 ≡ 512 * b = omega arith in

@@ -3,7 +3,7 @@
 use Rattle.std.proofs.Common.{◌≡◌, ℕ, zero, suc, ◌+◌, ◌-◌, ◌*◌, ◌/◌, ◌%◌, ◌<◌, ◌≤◌, cond, eqb, ltb, leb, List, get_or, sym, refl, ap, ◌∙◌, add-zero, zero-add, arith, le-ltb, lt-ltb, eq-eqb, ne_eqb, le-leb}
 use lib.Count.{ones}
 use borrow.Author.Tests.{lt-leb}
-use Rattle.starts.specs.declared.Spot.TheVariants.{Missing, At}
+use Rattle.std.specs.Prelude.{None, Some}
 use Rattle.starts.specs.Questions.{total_of, ones_of, bisect, block_with, kth_bit, kth_of}
 
 -- ---- the ones of some words
@@ -109,11 +109,12 @@ counting-found {word} {k} {rest} {left} {i} g h z =
     let s = rw (eq-eqb (left - rest % 2) 0 z, add-zero i) at (look g h) in
     (sym s, omega arith)
 
-pub counting_all : {word k rest left i : ℕ} → Counting word k rest left i → 64 ≤ i → (i ≡ kth_bit 64 word k) × (i ≤ 64)
+pub counting_all : {word k rest left i : ℕ} → Counting word k rest left i → 64 ≤ i → (64 ≡ kth_bit 64 word k) × (64 ≤ 64)
 unfolding kth_bit
 counting_all {word} {k} {rest} {left} {i} g h =
     let a : 64 - i ≡ 0 = omega arith in
-    (sym (g.comes ∙ rw (a, add-zero i)), g.most)
+    let b : i ≡ 64 = omega (arith, g.most) in
+    (sym (g.comes ∙ rw (a, b)), omega arith)
 
 -- ---- the words of a block
 pub record Searching (index : List ℕ) (from first k left i j : ℕ) : Type 0 where
@@ -126,7 +127,7 @@ pub searching_none : (index : List ℕ) (from first k : ℕ) → 0 < k → Searc
 searching_none index from first k h = record { positive = h; most = omega arith; place = omega arith; comes = rw (add-zero from) }
 
 seen : {index : List ℕ} {from first k left i j : ℕ} → Searching index from first k left i j → j < 8 → kth_of index from 8 first k
-    ≡ cond (leb left (ones (get_or index (from + j) 0))) (At (i + kth_bit 64 (get_or index (from + j) 0) left)) (kth_of index (from + j + 1) (8 - (j + 1)) (i + 64) (left - ones (get_or index (from + j) 0)))
+    ≡ cond (leb left (ones (get_or index (from + j) 0))) (Some (i + kth_bit 64 (get_or index (from + j) 0) left)) (kth_of index (from + j + 1) (8 - (j + 1)) (i + 64) (left - ones (get_or index (from + j) 0)))
 unfolding kth_of
 seen {j = j} g h = let a : 8 - j ≡ suc (8 - (j + 1)) = omega arith in g.comes ∙ rw a
 
@@ -139,12 +140,12 @@ searching_more {index} {from} {first} {k} {left} {i} {j} {own} g h e l =
     record { positive = omega arith; most = omega arith; place = omega (arith, g.place); comes = rw (b, e) s }
 
 pub searching_found : {index : List ℕ} {from first k left i j own bit : ℕ} → Searching index from first k left i j → j < 8 → own ≡ ones (get_or index (from + j) 0) → left ≤ own
-    → bit ≡ kth_bit 64 (get_or index (from + j) 0) left → At (i + bit) ≡ kth_of index from 8 first k
+    → bit ≡ kth_bit 64 (get_or index (from + j) 0) left → Some (i + bit) ≡ kth_of index from 8 first k
 searching_found {index} {from} {first} {k} {left} {i} {j} {own} {bit} g h e l b =
     let below : left ≤ ones (get_or index (from + j) 0) = omega (arith, e) in
     let s = rw (le-leb left (ones (get_or index (from + j) 0)) below) at (seen g h) in
-    ap (λ n. At (i + n)) b ∙ sym s
+    ap (λ n. Some (i + n)) b ∙ sym s
 
-pub searching_all : {index : List ℕ} {from first k left i j : ℕ} → Searching index from first k left i j → 8 ≤ j → Missing ≡ kth_of index from 8 first k
+pub searching_all : {index : List ℕ} {from first k left i j : ℕ} → Searching index from first k left i j → 8 ≤ j → None ≡ kth_of index from 8 first k
 unfolding kth_of
 searching_all {j = j} g h = let a : 8 - j ≡ 0 = omega arith in sym (g.comes ∙ rw a)

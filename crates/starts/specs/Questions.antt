@@ -1,11 +1,10 @@
 -- 02, K4: "Two questions: how many starts lie before instruction n, and where is the k-th start." Both over the words of any index, so that there
 -- is one answer whatever they hold; what the answers are of an index that was built from records stands in `Promised`.
-use Rattle.std.specs.Prelude.{ℕ, zero, suc, ◌+◌, ◌-◌, ◌*◌, ◌/◌, ◌%◌, ◌^◌, cond, List, length, ◌==◌, count_ones, nat_le, nat_lt, slice_index}
-use Rattle.refusals.specs.Numbers.{accepted, no_room, no_such_start}
+use Rattle.std.specs.Prelude.{ℕ, zero, suc, ◌+◌, ◌-◌, ◌*◌, ◌/◌, ◌%◌, ◌^◌, cond, List, length, ◌==◌, count_ones, nat_le, nat_lt, slice_index, Option, None, Some, Result, Ok}
+use Rattle.refusals.specs.Faults.{refused}
+use Rattle.refusals.specs.declared.Fault.{Fault}
+use Rattle.refusals.specs.declared.Refusal.TheVariants.{NoRoom, NoSuchStart}
 use Rattle.startindex.specs.Index.{blocks_of, need}
-use Rattle.starts.specs.declared.Answer.{Answer}
-use Rattle.starts.specs.declared.Spot.{Spot}
-use Rattle.starts.specs.declared.Spot.TheVariants.{Missing, At}
 
 -- the running total of block b, and the place of its first word of bits
 abbrev pub total_of : List ℕ → ℕ → ℕ
@@ -45,38 +44,35 @@ kth_bit zero word k = 0
 kth_bit (suc d) word k = cond (k - word % 2 == 0) 0 (suc (kth_bit d (word / 2) (k - word % 2)))
 
 -- the k-th one of the n words from j on, the first bit of which is that of instruction i
-unfoldable pub kth_of : List ℕ → ℕ → ℕ → ℕ → ℕ → Spot
-kth_of index j zero i k = Missing
+unfoldable pub kth_of : List ℕ → ℕ → ℕ → ℕ → ℕ → Option ℕ
+kth_of index j zero i k = None
 kth_of index j (suc n) i k =
-    cond (nat_le k (count_ones (slice_index index j))) (At (i + kth_bit 64 (slice_index index j) k)) (kth_of index (j + 1) n (i + 64) (k - count_ones (slice_index index j)))
+    cond (nat_le k (count_ones (slice_index index j))) (Some (i + kth_bit 64 (slice_index index j) k)) (kth_of index (j + 1) n (i + 64) (k - count_ones (slice_index index j)))
 
 -- an instruction that there is
-abbrev pub in_count : ℕ → Spot → Spot
-in_count count Missing = Missing
-in_count count (At i) = cond (nat_lt i count) (At i) Missing
+abbrev pub in_count : ℕ → Option ℕ → Option ℕ
+in_count count None = None
+in_count count (Some i) = cond (nat_lt i count) (Some i) None
 
 -- in block b: as many of its ones as k passes the running total by
-abbrev pub kth_in : List ℕ → ℕ → ℕ → Spot
-kth_in index b k = cond (nat_lt (total_of index b) k) (kth_of index (first_word b) 8 (512 * b) (k - total_of index b)) Missing
+abbrev pub kth_in : List ℕ → ℕ → ℕ → Option ℕ
+kth_in index b k = cond (nat_lt (total_of index b) k) (kth_of index (first_word b) 8 (512 * b) (k - total_of index b)) None
 
-unfoldable pub kth : List ℕ → ℕ → ℕ → Spot
+unfoldable pub kth : List ℕ → ℕ → ℕ → Option ℕ
 kth index count k = in_count count (kth_in index (block_with index (blocks_of count) k) k)
 
 -- ---- the answers
-abbrev pub told : ℕ → ℕ → ℕ → Answer
-told refusal place value = record { refusal = refusal; place = place; value = value }
-
 -- "no k-th start .. 20 at 0"
-abbrev pub found : Spot → Answer
-found Missing = told no_such_start 0 0
-found (At i) = told accepted 0 i
+abbrev pub found : Option ℕ → Result ℕ Fault
+found None = refused NoSuchStart 0
+found (Some i) = Ok i
 
 -- "Refusals: n beyond the count, or no k-th start (k counts from 1), 20 at 0; store short 17": n equal to the count is not beyond it
-unfoldable pub starts_before : List ℕ → ℕ → ℕ → Answer
+unfoldable pub starts_before : List ℕ → ℕ → ℕ → Result ℕ Fault
 starts_before index count n =
-    cond (nat_lt (length index) (need count)) (told no_room (length index) 0)
-    (cond (nat_lt count n) (told no_such_start 0 0)
-    (told accepted 0 (before index n)))
+    cond (nat_lt (length index) (need count)) (refused NoRoom (length index))
+    (cond (nat_lt count n) (refused NoSuchStart 0)
+    (Ok (before index n)))
 
-unfoldable pub start_at : List ℕ → ℕ → ℕ → Answer
-start_at index count k = cond (nat_lt (length index) (need count)) (told no_room (length index) 0) (found (kth index count k))
+unfoldable pub start_at : List ℕ → ℕ → ℕ → Result ℕ Fault
+start_at index count k = cond (nat_lt (length index) (need count)) (refused NoRoom (length index)) (found (kth index count k))

@@ -3,29 +3,10 @@
 
 ghost use Rattle.std.specs.Prelude.{◌≡◌, ◌+◌, ◌-◌, ◌*◌, ◌/◌, ◌%◌, ◌^◌, ◌<◌, ◌≤◌, length};
 ghost use Rattle.startindex.specs.Index.{blocks_of};
-ghost use Rattle.starts.specs.Questions.{ones_of, before, block_with, kth_bit, kth_of, in_count, kth, told, starts_before, start_at};
+ghost use Rattle.starts.specs.Questions.{ones_of, before, block_with, kth_bit, kth_of, kth, starts_before, start_at};
 
-// How many instructions a word and a block have a bit for, and how many words a block is.
-const WORD_BITS: usize = 64;
-
-const BLOCK_BITS: usize = 512;
-
-const BLOCK_WORDS: usize = 9;
-
-// A refusal's number and place, or what was asked for.
-#[derive(Clone, Copy)]
-pub struct Answer {
-    pub refusal: u32,
-    pub place: u32,
-    pub value: u64,
-}
-
-// Where a start is, if there is one.
-#[derive(Clone, Copy)]
-pub enum Spot {
-    Missing,
-    At(usize),
-}
+use refusals::{Fault, Refusal};
+use startindex::{BLOCK_BITS, BLOCK_WORDS, WORD_BITS};
 
 // So many low bits of a word.
 fn low_bits(word: u64, n: usize) -> u64
@@ -41,10 +22,8 @@ fn sum_ones(index: &[u64], from: usize, n: usize) -> u64
     ensures { (result ≡ ones_of index.now from n) × (result ≤ 448) }
 {
     let mut sum = 0u64;
-    let mut j = 0;
-    while j < n {
+    for j in 0..n {
         sum += startindex::ones_of(index[from + j]);
-        j += 1;
     }
     sum
 }
@@ -58,7 +37,7 @@ fn count_before(index: &[u64], n: usize) -> u64
     let words = n % BLOCK_BITS / WORD_BITS;
     let sum = sum_ones(index, at + 1, words);
     let last = startindex::ones_of(low_bits(index[at + 1 + words], n % WORD_BITS));
-    std::num::wrapping_add_u64(index[at], sum + last)
+    index[at].wrapping_add(sum + last)
 }
 
 // The block where a bisection of the running totals ends.
@@ -86,101 +65,69 @@ fn kth_bit(word: u64, k: u64) -> usize
 {
     let mut rest = word;
     let mut left = k;
-    let mut i = 0;
-    while i < WORD_BITS {
+    for i in 0..WORD_BITS {
         left -= rest % 2;
         if left == 0 {
             return i;
         }
         rest /= 2;
-        i += 1;
     }
-    i
+    WORD_BITS
 }
 
 // The k-th one of a block's eight words, which start at a place of the index; the first bit is that of instruction `first`.
-fn kth_in_words(index: &[u64], from: usize, first: usize, k: u64) -> Spot
+fn kth_in_words(index: &[u64], from: usize, first: usize, k: u64) -> Option<usize>
     requires { (from + 8 ≤ length index.now) × (first < 0x10000000000) × (0 < k) }
     ensures { result ≡ kth_of index.now from 8 first k }
 {
     let mut left = k;
     let mut i = first;
-    let mut j = 0;
-    while j < 8 {
+    for j in 0..8 {
         let word = index[from + j];
         let own = startindex::ones_of(word);
         if left <= own {
-            return Spot::At(i + kth_bit(word, left));
+            return Some(i + kth_bit(word, left));
         }
         left -= own;
         i += WORD_BITS;
-        j += 1;
     }
-    Spot::Missing
-}
-
-fn tell(refusal: u32, place: u32, value: u64) -> Answer
-    ensures { result ≡ told refusal place value }
-{
-    Answer {
-        refusal,
-        place,
-        value,
-    }
+    None
 }
 
 // How many starts lie before instruction n.
-pub fn starts_before(index: &[u64], count: u32, n: u32) -> Answer
+pub fn starts_before(index: &[u64], count: u32, n: u32) -> Result<u64, Fault>
     ensures { result ≡ starts_before index.now count n }
 {
     if index.len() < startindex::words_needed(count) {
-        return tell(refusals::NO_ROOM, index.len() as u32, 0);
+        return Err(Refusal::NoRoom.at(index.len() as u32));
     }
     if count < n {
-        return tell(refusals::NO_SUCH_START, 0, 0);
+        return Err(Refusal::NoSuchStart.at(0));
     }
-    tell(refusals::ACCEPTED, 0, count_before(index, n as usize))
+    Ok(count_before(index, n as usize))
 }
 
-// Where the k-th start is, in the block where the bisection ends.
-fn kth_start(index: &[u64], count: usize, k: u64) -> Spot
+// Where the k-th start is, in the block where the bisection ends: only an instruction that there is.
+// `index` and `count` go through this one function alone, so a struct, as startindex has of its records, would be no plainer; `starts_before` and `start_at` have them as C gives them.
+fn kth_start(index: &[u64], count: usize, k: u64) -> Option<usize>
     requires { (9 * blocks_of count ≤ length index.now) × (count < 0x100000000) }
     ensures { result ≡ kth index.now count k }
 {
     let b = block_with(index, count / BLOCK_BITS + 1, k);
     let total = index[BLOCK_WORDS * b];
     if k <= total {
-        return Spot::Missing;
+        return None;
     }
-    let spot = kth_in_words(index, BLOCK_WORDS * b + 1, BLOCK_BITS * b, k - total);
-    in_count(spot, count)
-}
-
-// Only an instruction that there is.
-fn in_count(spot: Spot, count: usize) -> Spot
-    ensures { result ≡ in_count count spot }
-{
-    match spot {
-        Spot::Missing => Spot::Missing,
-        Spot::At(i) => {
-            if i < count {
-                Spot::At(i)
-            } else {
-                Spot::Missing
-            }
-        }
-    }
+    kth_in_words(index, BLOCK_WORDS * b + 1, BLOCK_BITS * b, k - total).filter(|i| *i < count)
 }
 
 // Where the k-th start is.
-pub fn start_at(index: &[u64], count: u32, k: u32) -> Answer
+pub fn start_at(index: &[u64], count: u32, k: u32) -> Result<u64, Fault>
     ensures { result ≡ start_at index.now count k }
 {
     if index.len() < startindex::words_needed(count) {
-        return tell(refusals::NO_ROOM, index.len() as u32, 0);
+        return Err(Refusal::NoRoom.at(index.len() as u32));
     }
-    match kth_start(index, count as usize, k as u64) {
-        Spot::Missing => tell(refusals::NO_SUCH_START, 0, 0),
-        Spot::At(i) => tell(refusals::ACCEPTED, 0, i as u64),
-    }
+    let i = kth_start(index, count as usize, k as u64).ok_or(Refusal::NoSuchStart.at(0))?;
+    Ok(i as u64)
 }

@@ -2,51 +2,62 @@
 use mathlib.Core.Path.{◌≡◌, refl, sym, ap, ◌∙◌}
 use mathlib.Core.List.{List}
 use mathlib.Core.Option.{Option, none, some}
-use Prim.Native.Nat.{ℕ}
+use Prim.Native.Nat.{ℕ, ◌+◌, ◌-◌, ◌≤◌}
 use native.Mathlib.Omega.{arith}
-use lib.ListN.{length}
-use Rattle.taggedfields.specs.declared.Looked.{Looked}
-use Rattle.taggedfields.specs.Fields.{Field, reading, start_of, field_in}
-use Rattle.taggedfields.specs.Looking.{looked_as, looked}
-use Rattle.taggedfields.proofs.Parts.{fault-within}
+use lib.ListN.{length, take, drop}
+use Rattle.std.specs.Prelude.{Ok, Err}
+use Rattle.std.specs.Prelude as rust
+use Rattle.refusals.specs.declared.Fault.{Fault}
+use Rattle.taggedfields.specs.declared.Span.{Span}
+use Rattle.taggedfields.specs.Fields.{Field, reading, field_in}
+use Rattle.taggedfields.specs.Looking.{span_of, part_of, looked_as, looked}
+use Rattle.taggedfields.proofs.Parts.{field_found}
 
--- a field, and that an answer's start and size are its
-pub record Shown (file : List ℕ) (t : ℕ) (a : Looked) : Type 0 where
+-- a field, and that a part is where its contents stand
+pub record Shown (file : List ℕ) (t : ℕ) (s : Span) : Type 0 where
   pub field : Field
   pub is : field_in file t ≡ some field
-  pub start : a.start ≡ start_of field
-  pub size : a.size ≡ length field.contents
+  pub whole : s ≡ span_of field
 
-module _ (file : List ℕ) (t : ℕ) {a : Looked} (e : a ≡ looked file t) where
-  pub says-fault : (a.refusal ≡ 0 → ⊥) → (reading file).fault ≡ some (a.refusal, a.place)
+module _ (file : List ℕ) (t : ℕ) where
+  pub says-fault : {x : Fault} → Err x ≡ looked file t → (reading file).fault ≡ some x
   unfolding looked
-  says-fault k = go (reading file).fault (field_in file t) e
+  says-fault {x} e = go (reading file).fault (field_in file t) e
     where
-      go : (o : Option (ℕ × ℕ)) (x : Option Field) → a ≡ looked_as o x → o ≡ some (a.refusal, a.place)
-      go none none q = absurd (k (ap (λ r. r.refusal) q))
-      go none (some f) q = absurd (k (ap (λ r. r.refusal) q))
-      go (some f) x q = ap (λ (r : Looked). some (r.refusal, r.place)) (sym q)
+      go : (o : Option Fault) (f : Option Field) → Err x ≡ looked_as o f → o ≡ some x
+      go none f q = absurd (cc)
+      go (some y) f q = cc
 
-  pub says_none : a.refusal ≡ 0 → (reading file).fault ≡ none
+  pub says_none : {a : rust.Option Span} → Ok a ≡ looked file t → (reading file).fault ≡ none
   unfolding looked
-  says_none z = go (reading file).fault (field_in file t) refl e
+  says_none {a} e = go (reading file).fault (field_in file t) e
     where
-      go : (o : Option (ℕ × ℕ)) (x : Option Field) → (reading file).fault ≡ o → a ≡ looked_as o x → o ≡ none
-      go none x d q = refl
-      go (some f) x d q = absurd (omega (arith, (fault-within file f d).0, sym (ap (λ r. r.refusal) q) ∙ z))
+      go : (o : Option Fault) (f : Option Field) → Ok a ≡ looked_as o f → o ≡ none
+      go none f q = refl
+      go (some x) f q = absurd (cc)
 
-  pub says_absent : a.refusal ≡ 0 → a.found ≡ 0 → field_in file t ≡ none
+  pub says_absent : Ok rust.None ≡ looked file t → field_in file t ≡ none
   unfolding looked
-  says_absent z k = go (field_in file t) (e ∙ ap (λ y. looked_as y (field_in file t)) (says_none z))
+  says_absent e = go (reading file).fault (field_in file t) e
     where
-      go : (x : Option Field) → a ≡ looked_as none x → x ≡ none
-      go none q = refl
-      go (some f) q = absurd (omega (arith, k, ap (λ r. r.found) q))
+      go : (o : Option Fault) (f : Option Field) → Ok rust.None ≡ looked_as o f → f ≡ none
+      go none none q = refl
+      go none (some f) q = absurd (cc)
+      go (some x) f q = absurd (cc)
 
-  pub says-found : a.refusal ≡ 0 → (a.found ≡ 0 → ⊥) → Shown file t a
+  pub says-found : {s : Span} → Ok (rust.Some s) ≡ looked file t → Shown file t s
   unfolding looked
-  says-found z k = go (field_in file t) refl (e ∙ ap (λ y. looked_as y (field_in file t)) (says_none z))
+  says-found {s} e = go (reading file).fault (field_in file t) refl e
     where
-      go : (x : Option Field) → field_in file t ≡ x → a ≡ looked_as none x → Shown file t a
-      go none d q = absurd (k (ap (λ r. r.found) q))
-      go (some f) d q = record { field = f; is = d; start = ap (λ r. r.start) q; size = ap (λ r. r.size) q }
+      go : (o : Option Fault) (f : Option Field) → field_in file t ≡ f → Ok (rust.Some s) ≡ looked_as o f → Shown file t s
+      go none none d q = absurd (cc)
+      go none (some f) d q = record { field = f; is = d; whole = cc }
+      go (some x) f d q = absurd (cc)
+
+-- such a part is in the file, and has the contents
+module _ {file : List ℕ} {t : ℕ} {s : Span} (w : Shown file t s) where
+  pub shown_within : s.start + s.size ≤ length file
+  shown_within = omega (arith, w.whole, (field_found file t w.field w.is).0.within, ap (λ (x : Span). x.start) w.whole, ap (λ (x : Span). x.size) w.whole)
+
+  pub shown_part : part_of file s ≡ w.field.contents
+  shown_part = ap (part_of file) w.whole ∙ sym (field_found file t w.field w.is).0.part

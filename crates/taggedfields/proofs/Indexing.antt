@@ -10,9 +10,11 @@ use lib.Dec.{eqb}
 use lib.ListN.{length, get_or, set, length-set, get_or-replicate}
 use lib.Seq.{get_or-set_same, get_or-set_other}
 use borrow.Author.Tests.{eq-eqb, ne_eqb, eqb-true, eqb-false}
-use Rattle.refusals.specs.Numbers.{data_too_short, repeated_tag}
+use Rattle.refusals.specs.declared.Refusal.TheVariants.{DataTooShort, RepeatedTag}
+use Rattle.refusals.specs.declared.Fault.{Fault}
+use Rattle.refusals.specs.Faults.{refused}
+use Rattle.std.specs.Prelude.{Result, Ok}
 use Rattle.clearing.specs.Lent.{zeros}
-use Rattle.taggedfields.specs.declared.Fault.{Fault}
 use Rattle.taggedfields.specs.Fields.{Reading, ended, stopped, with_field, among, read_from, reading, find, field_in}
 use Rattle.taggedfields.specs.Looking.{told, fault_of, placed}
 use Rattle.taggedfields.specs.Looking.{size_in, field_at}
@@ -99,7 +101,7 @@ module _ {file places : List ℕ} {at : ℕ} (g : Indexing file places at) where
       go false q = sym q
 
   -- the answer where nothing is read from here on: the fault, if there is one, and the places that are noted
-  abbrev pub Answers : Fault → Type 0
+  abbrev pub Answers : Result (Unit {0}) Fault → Type 0
   Answers r = (r ≡ fault_of file) × ((t : ℕ) → t < 256 → get_or places t 0 ≡ placed (field_in file t)) × ((t : ℕ) → t < 256 → get_or places t 0 ≤ 16777729) × (length places ≡ 256)
 
   ends : (r : Reading) → from g.bound file g.tags at ≡ r → r.fields ≡ [] → Answers (told r.fault)
@@ -119,21 +121,21 @@ module _ {file places : List ℕ} {at : ℕ} (g : Indexing file places at) where
   stepped : at < length file → {r : Reading} → ((b : ℕ) → from (suc b) file g.tags at ≡ r) → from g.bound file g.tags at ≡ r
   stepped h {r} e = let b = some-bound h in ap (λ n. from n file g.tags at) b.1 ∙ e b.0
 
-  pub indexing_end : length file ≤ at → Answers (record { refusal = 0; place = 0 })
+  pub indexing_end : length file ≤ at → Answers (Ok tt)
   indexing_end h = ends ended (from_end file g.tags at g.bound h) refl
 
-  pub indexing_repeated : {tag : ℕ} → at < length file → tag ≡ get_or file at 0 → tag < 256 → (get_or places tag 0 ≡ 0 → ⊥) → Answers (record { refusal = repeated_tag; place = at })
+  pub indexing_repeated : {tag : ℕ} → at < length file → tag ≡ get_or file at 0 → tag < 256 → (get_or places tag 0 ≡ 0 → ⊥) → Answers (refused RepeatedTag at)
   indexing_repeated h s k' e' =
       let k : get_or file at 0 < 256 = omega arith in
       let e : get_or places (get_or file at 0) 0 ≡ 0 → ⊥ = λ z. e' (ap (λ i. get_or places i 0) s ∙ z) in
-      ends (stopped repeated_tag at) (stepped h (λ b. from_repeated file g.tags at b h (tag-met (get_or file at 0) k e))) refl
+      ends (stopped RepeatedTag at) (stepped h (λ b. from_repeated file g.tags at b h (tag-met (get_or file at 0) k e))) refl
 
   module _ (k : get_or file at 0 < 256) (e : get_or places (get_or file at 0) 0 ≡ 0) where
-    pub indexing_cut-header : at < length file → length file - at < 3 → Answers (record { refusal = data_too_short; place = at })
-    indexing_cut-header h q = ends (stopped data_too_short at) (stepped h (λ b. from-cut-header file g.tags at b h q (tag_new (get_or file at 0) k e))) refl
+    pub indexing_cut-header : at < length file → length file - at < 3 → Answers (refused DataTooShort at)
+    indexing_cut-header h q = ends (stopped DataTooShort at) (stepped h (λ b. from-cut-header file g.tags at b h q (tag_new (get_or file at 0) k e))) refl
 
-    pub indexing_cut : at + 3 ≤ length file → length file - at - 3 < size_in file at → Answers (record { refusal = data_too_short; place = at })
-    indexing_cut h q = ends (stopped data_too_short at) (stepped (omega arith) (λ b. from_cut file g.tags at b h q (tag_new (get_or file at 0) k e))) refl
+    pub indexing_cut : at + 3 ≤ length file → length file - at - 3 < size_in file at → Answers (refused DataTooShort at)
+    indexing_cut h q = ends (stopped DataTooShort at) (stepped (omega arith) (λ b. from_cut file g.tags at b h q (tag_new (get_or file at 0) k e))) refl
 
     pub indexing_more : size_in file at < 65536 → at + 3 + size_in file at ≤ length file → Indexing file (set places (get_or file at 0) (at + 1)) (at + 3 + size_in file at)
     unfolding among find
@@ -202,11 +204,11 @@ module _ {file places : List ℕ} {at tag : ℕ} (g : Indexing file places at) w
   met : tag ≡ get_or file at 0 → get_or places tag 0 ≡ 0 → get_or places (get_or file at 0) 0 ≡ 0
   met s e = sym (ap (λ i. get_or places i 0) s) ∙ e
 
-  pub cut-header : at < length file → tag ≡ get_or file at 0 → tag < 256 → get_or places tag 0 ≡ 0 → length file - at < 3 → Answers g (record { refusal = data_too_short; place = at })
+  pub cut-header : at < length file → tag ≡ get_or file at 0 → tag < 256 → get_or places tag 0 ≡ 0 → length file - at < 3 → Answers g (refused DataTooShort at)
   cut-header h s k e q = indexing_cut-header g (omega arith) (met s e) h q
 
   pub cut : {size : ℕ} → tag ≡ get_or file at 0 → tag < 256 → get_or places tag 0 ≡ 0 → size ≡ size_in file at → at + 3 ≤ length file → length file - at - 3 < size
-      → Answers g (record { refusal = data_too_short; place = at })
+      → Answers g (refused DataTooShort at)
   cut s k e z h q = indexing_cut g (omega arith) (met s e) h (omega arith)
 
   pub more : {size : ℕ} → tag ≡ get_or file at 0 → tag < 256 → get_or places tag 0 ≡ 0 → size ≡ size_in file at → size < 65536 → at + 3 + size ≤ length file

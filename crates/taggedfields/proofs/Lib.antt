@@ -6,3 +6,5 @@ pub mod Answers
 pub mod Spelt
 pub mod Unread
 pub mod Promised
+pub mod Stored
+pub mod Fitted

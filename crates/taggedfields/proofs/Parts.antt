@@ -1,5 +1,5 @@
--- What the reading finds stands in the file: each field is a part of it with the length that its header says, and a fault is inside it
--- and one of two. Assumes nothing.
+-- What the reading finds stands in the file: each field is a part of it with the length that its header says, and a fault is inside it.
+-- Assumes nothing.
 use mathlib.Core.Path.{◌≡◌, refl, sym, ap, ◌∙◌, subst}
 use mathlib.Core.Bool.{Bool, true, false, cond}
 use mathlib.Core.List.{List, [], ◌∷◌}
@@ -10,7 +10,8 @@ use lib.Dec.{ltb, eqb}
 use lib.ListN.{length, get_or, take, drop, length-drop}
 use lib.Seq.{length-take-le}
 use borrow.Author.Tests.{eqb-true}
-use Rattle.refusals.specs.Numbers.{data_too_short, repeated_tag}
+use Rattle.refusals.specs.declared.Fault.{Fault}
+use Rattle.refusals.specs.Faults.{fault}
 use Rattle.taggedfields.specs.Fields.{Field, stopped, with_field, among, headed, read_from, reading, find, field_in}
 use Rattle.taggedfields.specs.Looking.{size_in, field_at}
 use Rattle.taggedfields.proofs.Steps.{from, Step, ends, stops, goes, step}
@@ -45,7 +46,7 @@ found_in (suc bound) file tags at t f e = go (found_in bound file (get_or file a
 
     go : (find t rest ≡ some f → In file f × (f.tag ≡ t)) → Step file tags at bound → In file f × (f.tag ≡ t)
     go again (ends h q) = absurd (none-some (sym (ap (λ r. find t r.fields) q) ∙ e))
-    go again (stops number k h q) = absurd (none-some (sym (ap (λ r. find t r.fields) q) ∙ e))
+    go again (stops why h q) = absurd (none-some (sym (ap (λ r. find t r.fields) q) ∙ e))
     go again (goes h k q) = case (eqb t (get_or file at 0)) refl (sym (ap (λ r. find t r.fields) q) ∙ e)
       where
         case : (c : Bool) → eqb t (get_or file at 0) ≡ c → cond c (some (field_at file at)) (find t rest) ≡ some f → In file f × (f.tag ≡ t)
@@ -59,55 +60,23 @@ pub field_found : (file : List ℕ) (t : ℕ) (f : Field) → field_in file t �
 unfolding reading
 field_found file t f e = found_in (length file) file [] 0 t f e
 
--- a fault has a number, and its place is inside the file
-fault_in_lem : (bound : ℕ) (file tags : List ℕ) (at : ℕ) (x : ℕ × ℕ) → (from bound file tags at).fault ≡ some x → (0 < x.0) × (x.1 < length file)
+-- the place of a fault is inside the file
+fault_in_lem : (bound : ℕ) (file tags : List ℕ) (at : ℕ) (x : Fault) → (from bound file tags at).fault ≡ some x → x.place < length file
 unfolding read_from
 fault_in_lem zero file tags at x e = absurd (none-some e)
 fault_in_lem (suc bound) file tags at x e = go (fault_in_lem bound file (get_or file at 0 ∷ tags) (at + 3 + size_in file at) x) (step file tags at bound)
   where
-    rest : Option (ℕ × ℕ)
+    rest : Option Fault
     rest = (from bound file (get_or file at 0 ∷ tags) (at + 3 + size_in file at)).fault
 
-    go : (rest ≡ some x → (0 < x.0) × (x.1 < length file)) → Step file tags at bound → (0 < x.0) × (x.1 < length file)
+    go : (rest ≡ some x → x.place < length file) → Step file tags at bound → x.place < length file
     go again (ends h q) = absurd (none-some (sym (ap (λ r. r.fault) q) ∙ e))
-    go again (stops number k h q) = subst (λ y. (0 < y.0) × (y.1 < length file)) (here (sym (ap (λ r. r.fault) q) ∙ e)) (k, h)
+    go again (stops why h q) = subst (λ y. y.place < length file) (here (sym (ap (λ r. r.fault) q) ∙ e)) h
       where
-        here : some (number, at) ≡ some x → (number, at) ≡ x
+        here : some (fault why at) ≡ some x → fault why at ≡ x
         here y = cc
     go again (goes h k q) = again (sym (ap (λ r. r.fault) q) ∙ e)
 
-pub fault-within : (file : List ℕ) (x : ℕ × ℕ) → (reading file).fault ≡ some x → (0 < x.0) × (x.1 < length file)
+pub fault-within : (file : List ℕ) (x : Fault) → (reading file).fault ≡ some x → x.place < length file
 unfolding reading
 fault-within file x e = fault_in_lem (length file) file [] 0 x e
-
--- a fault's number is one of two
-number-most : (bound : ℕ) (tags : List ℕ) (at : ℕ) (bytes : List ℕ) (x : ℕ × ℕ) → (read_from bound tags at bytes).fault ≡ some x → x.0 ≤ repeated_tag
-unfolding read_from
-number-most zero tags at bytes x e = absurd (none-some e)
-number-most (suc bound) tags at [] x e = absurd (none-some e)
-number-most (suc bound) tags at (tag ∷ bytes) x e = go bytes (λ size rest. number-most bound (tag ∷ tags) (at + 3 + size) (drop size rest) x) (among tag tags) e
-  where
-    stop : (number : ℕ) → number ≤ repeated_tag → ◌≡◌ {A = Option (ℕ × ℕ)} (some (number, at)) (some x) → x.0 ≤ repeated_tag
-    stop number h q = omega (arith, ap first q)
-      where
-        first : Option (ℕ × ℕ) → ℕ
-        first none = 0
-        first (some y) = y.0
-
-    fits : (size : ℕ) (rest : List ℕ) → ((read_from bound (tag ∷ tags) (at + 3 + size) (drop size rest)).fault ≡ some x → x.0 ≤ repeated_tag) → (c : Bool)
-        → (cond c (stopped data_too_short at) (with_field (record { tag = tag; place = at; contents = take size rest }) (read_from bound (tag ∷ tags) (at + 3 + size)
-        (drop size rest)))).fault ≡ some x
-        → x.0 ≤ repeated_tag
-    fits size rest again true q = stop data_too_short (omega arith) q
-    fits size rest again false q = again q
-
-    go : (l : List ℕ) → ((size : ℕ) (rest : List ℕ) → (read_from bound (tag ∷ tags) (at + 3 + size) (drop size rest)).fault ≡ some x → x.0 ≤ repeated_tag)
-        → (c : Bool) → (cond c (stopped repeated_tag at) (headed tag at l (read_from bound (tag ∷ tags)))).fault ≡ some x → x.0 ≤ repeated_tag
-    go l again true q = stop repeated_tag (omega arith) q
-    go [] again false q = stop data_too_short (omega arith) q
-    go (low ∷ []) again false q = stop data_too_short (omega arith) q
-    go (low ∷ high ∷ rest) again false q = fits (low + 256 * high) rest (again (low + 256 * high) rest) (ltb (length rest) (low + 256 * high)) q
-
-pub fault-most : (file : List ℕ) (x : ℕ × ℕ) → (reading file).fault ≡ some x → x.0 ≤ repeated_tag
-unfolding reading
-fault-most file x e = number-most (length file) [] 0 file x e

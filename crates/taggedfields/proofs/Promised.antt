@@ -9,7 +9,7 @@ use native.Mathlib.Omega.{arith}
 use lib.ListN.{length, get_or, take, drop, length-append}
 use lib.Seq.{take-append_seam, drop-append_seam}
 use borrow.Author.Tests.{le-ltb}
-use Rattle.refusals.specs.Numbers.{data_too_short, repeated_tag}
+use Rattle.refusals.specs.declared.Refusal.TheVariants.{DataTooShort, RepeatedTag}
 use Rattle.taggedfields.specs.Fields.{Field, stopped, with_field, among, sized, headed, read_from, reading, field_in, bytes_of, spelt}
 use Rattle.taggedfields.specs.Looking.{size_in}
 use Rattle.taggedfields.specs.Promised.{tags_of, Once, laid, Sound, Promised}
@@ -28,9 +28,9 @@ front bound tags at f rest e =
     let size : n % 256 + 256 * (n / 256) ≡ n = omega arith in
     let k = read_from bound (f.tag ∷ tags) in
     let l : length (f.contents ++ rest) ≡ n + length rest = length-append f.contents rest in
-    ap (λ c. cond c (stopped repeated_tag at) (headed f.tag at (n % 256 ∷ n / 256 ∷ (f.contents ++ rest)) k)) e
+    ap (λ c. cond c (stopped RepeatedTag at) (headed f.tag at (n % 256 ∷ n / 256 ∷ (f.contents ++ rest)) k)) e
     ∙ ap (λ i. sized f.tag at i (f.contents ++ rest) k) size
-    ∙ ap (λ c. cond c (stopped data_too_short at) (with_field (record { tag = f.tag; place = at; contents = take n (f.contents ++ rest) }) (k (at + 3 + n) (drop n (f.contents ++ rest)))))
+    ∙ ap (λ c. cond c (stopped DataTooShort at) (with_field (record { tag = f.tag; place = at; contents = take n (f.contents ++ rest) }) (k (at + 3 + n) (drop n (f.contents ++ rest)))))
     (le-ltb (length (f.contents ++ rest)) n (omega (arith, l)))
     ∙ ap (λ (c : List ℕ). with_field (record { tag = f.tag; place = at; contents = c }) (k (at + 3 + n) (drop n (f.contents ++ rest)))) (take-append_seam f.contents rest)
     ∙ ap (λ r. with_field (record { tag = f.tag; place = at; contents = f.contents }) (k (at + 3 + n) r)) (drop-append_seam f.contents rest)
@@ -59,7 +59,7 @@ once-from (suc bound) file tags at = go (once-from bound file (get_or file at 0 
     go : Once (get_or file at 0 ∷ tags) (tags_of (from bound file (get_or file at 0 ∷ tags) (at + 3 + size_in file at)).fields) → Step file tags at bound
         → Once tags (tags_of (from (suc bound) file tags at).fields)
     go again (ends h q) = subst (λ r. Once tags (tags_of r.fields)) (sym q) tt
-    go again (stops number k h q) = subst (λ r. Once tags (tags_of r.fields)) (sym q) tt
+    go again (stops why h q) = subst (λ r. Once tags (tags_of r.fields)) (sym q) tt
     go again (goes h k q) = subst (λ r. Once tags (tags_of r.fields)) (sym q) (k, again)
 
 once-read : (file : List ℕ) → Once [] (tags_of (reading file).fields)

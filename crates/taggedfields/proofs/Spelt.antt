@@ -50,7 +50,7 @@ spelt-from (suc bound) file tags at b h e =
     go : (length file ≤ at + 3 + size_in file at + bound → rest.fault ≡ none → spelt rest.fields ≡ drop (at + 3 + size_in file at) file)
         → Step file tags at bound → spelt (from (suc bound) file tags at).fields ≡ drop at file
     go again (ends k q) = ap (λ r. spelt r.fields) q ∙ sym (drop_of_length-le file {i = at} k)
-    go again (stops number z k q) = absurd (none-some (sym e ∙ ap (λ r. r.fault) q))
+    go again (stops why k q) = absurd (none-some (sym e ∙ ap (λ r. r.fault) q))
     go again (goes k z q) =
         let t = at + 3 + size_in file at in
         let s : at + (3 + size_in file at) ≡ t = omega arith in

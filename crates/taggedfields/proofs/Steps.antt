@@ -9,7 +9,8 @@ use lib.Dec.{ltb}
 use lib.ListN.{length, get_or, drop, length-drop, drop_of_length-le}
 use lib.Seq.{drop-cons, drop-drop}
 use borrow.Author.Tests.{lt-ltb, le-ltb, ltb-true, ltb-false}
-use Rattle.refusals.specs.Numbers.{data_too_short, repeated_tag}
+use Rattle.refusals.specs.declared.Refusal.{Refusal}
+use Rattle.refusals.specs.declared.Refusal.TheVariants.{DataTooShort, RepeatedTag}
 use Rattle.taggedfields.specs.Looking.{size_in, field_at}
 use Rattle.taggedfields.specs.Fields.{Reading, ended, stopped, with_field, among, headed, read_from}
 
@@ -36,18 +37,18 @@ from_end file tags at bound h = rw (drop_of_length-le file {i = at} h) (go bound
 
 module _ (file tags : List ℕ) (at bound : ℕ) where
   opened : at < length file
-      → from (suc bound) file tags at ≡ cond (among (get_or file at 0) tags) (stopped repeated_tag at) (headed (get_or file at 0) at (drop (suc at) file) (read_from bound (get_or file at 0 ∷ tags)))
+      → from (suc bound) file tags at ≡ cond (among (get_or file at 0) tags) (stopped RepeatedTag at) (headed (get_or file at 0) at (drop (suc at) file) (read_from bound (get_or file at 0 ∷ tags)))
   unfolding read_from
   opened h = rw (drop-cons file at 0 h) refl
 
-  pub from_repeated : at < length file → among (get_or file at 0) tags ≡ true → from (suc bound) file tags at ≡ stopped repeated_tag at
+  pub from_repeated : at < length file → among (get_or file at 0) tags ≡ true → from (suc bound) file tags at ≡ stopped RepeatedTag at
   from_repeated h e = opened h ∙ rw e
 
   -- the header of a field is cut: fewer than three bytes are left
-  pub from-cut-header : at < length file → length file - at < 3 → among (get_or file at 0) tags ≡ false → from (suc bound) file tags at ≡ stopped data_too_short at
+  pub from-cut-header : at < length file → length file - at < 3 → among (get_or file at 0) tags ≡ false → from (suc bound) file tags at ≡ stopped DataTooShort at
   from-cut-header h k e = opened h ∙ rw e (go (drop (suc at) file) (omega (arith, length-drop (suc at) file)))
     where
-      go : (l : List ℕ) → length l < 2 → headed (get_or file at 0) at l (read_from bound (get_or file at 0 ∷ tags)) ≡ stopped data_too_short at
+      go : (l : List ℕ) → length l < 2 → headed (get_or file at 0) at l (read_from bound (get_or file at 0 ∷ tags)) ≡ stopped DataTooShort at
       go [] q = refl
       go (x ∷ []) q = refl
       go (x ∷ y ∷ l) q = absurd (omega arith)
@@ -56,7 +57,7 @@ module _ (file tags : List ℕ) (at bound : ℕ) where
       → from (suc bound) file tags at ≡ headed (get_or file at 0) at (get_or file (at + 1) 0 ∷ get_or file (at + 2) 0 ∷ drop (at + 3) file) (read_from bound (get_or file at 0 ∷ tags))
   headed-whole h e = opened (omega arith) ∙ rw (e, behind file at h)
 
-  pub from_cut : at + 3 ≤ length file → length file - at - 3 < size_in file at → among (get_or file at 0) tags ≡ false → from (suc bound) file tags at ≡ stopped data_too_short at
+  pub from_cut : at + 3 ≤ length file → length file - at - 3 < size_in file at → among (get_or file at 0) tags ≡ false → from (suc bound) file tags at ≡ stopped DataTooShort at
   from_cut h k e = headed-whole h e ∙ rw (lt-ltb (length (drop (at + 3) file)) (size_in file at) (omega (arith, length-drop (at + 3) file)))
 
   pub from_field : at + 3 + size_in file at ≤ length file → among (get_or file at 0) tags ≡ false
@@ -68,7 +69,7 @@ module _ (file tags : List ℕ) (at bound : ℕ) where
   -- ---- one of these steps is taken
   pub data Step : Type 0 where
     ends : length file ≤ at → from (suc bound) file tags at ≡ ended → Step
-    stops : (number : ℕ) → 0 < number → at < length file → from (suc bound) file tags at ≡ stopped number at → Step
+    stops : (why : Refusal) → at < length file → from (suc bound) file tags at ≡ stopped why at → Step
     goes : at + 3 + size_in file at ≤ length file → among (get_or file at 0) tags ≡ false
         → from (suc bound) file tags at ≡ with_field (field_at file at) (from bound file (get_or file at 0 ∷ tags) (at + 3 + size_in file at)) → Step
 
@@ -76,17 +77,17 @@ module _ (file tags : List ℕ) (at bound : ℕ) where
   step = bytes (ltb at (length file)) refl
     where
       contents : at + 3 ≤ length file → among (get_or file at 0) tags ≡ false → (c : Bool) → ltb (length file - at - 3) (size_in file at) ≡ c → Step
-      contents h e true q = stops data_too_short (omega arith) (omega arith) (from_cut h (ltb-true (length file - at - 3) (size_in file at) q) e)
+      contents h e true q = stops DataTooShort (omega arith) (from_cut h (ltb-true (length file - at - 3) (size_in file at) q) e)
       contents h e false q =
           let w : at + 3 + size_in file at ≤ length file = omega (arith, ltb-false (length file - at - 3) (size_in file at) q) in
           goes w e (from_field w e)
 
       header : at < length file → among (get_or file at 0) tags ≡ false → (c : Bool) → ltb (length file - at) 3 ≡ c → Step
-      header h e true q = stops data_too_short (omega arith) h (from-cut-header h (ltb-true (length file - at) 3 q) e)
+      header h e true q = stops DataTooShort h (from-cut-header h (ltb-true (length file - at) 3 q) e)
       header h e false q = contents (omega (arith, ltb-false (length file - at) 3 q)) e (ltb (length file - at - 3) (size_in file at)) refl
 
       tag : at < length file → (c : Bool) → among (get_or file at 0) tags ≡ c → Step
-      tag h true e = stops repeated_tag (omega arith) h (from_repeated h e)
+      tag h true e = stops RepeatedTag h (from_repeated h e)
       tag h false e = header h e (ltb (length file - at) 3) refl
 
       bytes : (c : Bool) → ltb at (length file) ≡ c → Step

@@ -39,7 +39,7 @@ unread_next {file} {at} u h = go u.bound refl
   where
     with : (b : ℕ) → u.bound ≡ suc b → Step file u.tags at b → Next u
     with b e (ends k q) = absurd (omega arith)
-    with b e (stops number z k q) = absurd (none-some (sym u.clean ∙ ap (λ n. (from n file u.tags at).fault) e ∙ ap (λ r. r.fault) q))
+    with b e (stops why k q) = absurd (none-some (sym u.clean ∙ ap (λ n. (from n file u.tags at).fault) e ∙ ap (λ r. r.fault) q))
     with b e (goes k z q) =
         let same : from u.bound file u.tags at ≡ _ = ap (λ n. from n file u.tags at) e ∙ q in
         record {

@@ -1,17 +1,17 @@
--- No export and no promise rests on this page.
 -- What is told of a file's fields: its first fault, the place of each tag, and where the field of one tag stands.
-use Rattle.std.specs.Prelude.{ℕ, ◌+◌, ◌*◌, List, length, get_or, take, drop}
+use Rattle.std.specs.Prelude.{ℕ, ◌+◌, ◌*◌, List, Result, Ok, Err, length, get_or, take, drop}
+use Rattle.std.specs.Prelude as rust
 use Rattle.std.proofs.Math.Option.{Option, none, some}
 use Rattle.taggedfields.specs.Fields.{Field, start_of, reading, field_in}
-use Rattle.taggedfields.specs.declared.Fault.{Fault}
-use Rattle.taggedfields.specs.declared.Looked.{Looked}
+use Rattle.refusals.specs.declared.Fault.{Fault}
+use Rattle.taggedfields.specs.declared.Span.{Span}
 
--- a fault's number and place, 0 and 0 where there is none
-abbrev pub told : Option (ℕ × ℕ) → Fault
-told none = record { refusal = 0; place = 0 }
-told (some f) = record { refusal = f.0; place = f.1 }
+-- the fault, if there is one
+abbrev pub told : Option Fault → Result (Unit {0}) Fault
+told none = Ok tt
+told (some x) = Err x
 
-abbrev pub fault_of : List ℕ → Fault
+abbrev pub fault_of : List ℕ → Result (Unit {0}) Fault
 fault_of file = told (reading file).fault
 
 -- the place of a field and one more, 0 where there is no field
@@ -19,13 +19,24 @@ abbrev pub placed : Option Field → ℕ
 placed none = 0
 placed (some f) = f.place + 1
 
--- the fault, or whether the tag is there and where its contents stand
-abbrev pub looked_as : Option (ℕ × ℕ) → Option Field → Looked
-looked_as (some f) x = record { refusal = f.0; place = f.1; found = 0; start = 0; size = 0 }
-looked_as none none = record { refusal = 0; place = 0; found = 0; start = 0; size = 0 }
-looked_as none (some f) = record { refusal = 0; place = 0; found = 1; start = start_of f; size = length f.contents }
+-- where a field's contents stand
+abbrev pub span_of : Field → Span
+span_of f = record { start = start_of f; size = length f.contents }
 
-unfoldable pub looked : List ℕ → ℕ → Looked
+-- the bytes that a span names in a file
+abbrev pub part_of : List ℕ → Span → List ℕ
+part_of file s = take s.size (drop s.start file)
+
+abbrev pub spanned : Option Field → rust.Option Span
+spanned none = rust.None
+spanned (some f) = rust.Some (span_of f)
+
+-- the fault, or where the contents of the tag stand, if it is there
+abbrev pub looked_as : Option Fault → Option Field → Result (rust.Option Span) Fault
+looked_as (some x) f = Err x
+looked_as none f = Ok (spanned f)
+
+unfoldable pub looked : List ℕ → ℕ → Result (rust.Option Span) Fault
 looked file t = looked_as (reading file).fault (field_in file t)
 
 -- the length that the header at a place says, the field there, and its bytes as they stand

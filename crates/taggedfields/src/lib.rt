@@ -5,29 +5,27 @@
 ghost use Rattle.std.specs.Prelude.{◌≡◌, ℕ, ◌+◌, ◌*◌, ◌≤◌, ◌<◌, length, get_or};
 ghost use Rattle.clearing.specs.Lent.{zeros};
 ghost use Rattle.taggedfields.specs.Fields.{field_in};
-ghost use Rattle.taggedfields.specs.Looking.{fault_of, placed, size_in, looked};
+ghost use Rattle.taggedfields.specs.Looking.{fault_of, placed, size_in, looked, part_of};
+ghost use Rattle.taggedfields.specs.Fitting.{fitting};
 
-// The first fault of a file, as a refusal's number and place; 0 and 0 where it has none.
-#[derive(Clone, Copy)]
-pub struct Fault {
-    pub refusal: u32,
-    pub place: u32,
-}
+use refusals::{Fault, Refusal};
 
-// The first fault of a file; or whether a tag is in it (0 or 1), and where its contents start and how many bytes they are.
-#[derive(Clone, Copy)]
-pub struct Looked {
-    pub refusal: u32,
-    pub place: u32,
-    pub found: u32,
+// Where a part of a file stands.
+#[derive(Clone, Copy, Debug, PartialEq, Eq)]
+pub struct Span {
     pub start: u32,
     pub size: u32,
 }
 
-fn wide(byte: u8) -> usize
-    ensures { (result ≡ byte) × (result < 256) }
-{
-    byte as usize
+impl Span {
+    // The part itself.
+    pub fn of<'a>(self, file: &'a [u8]) -> &'a [u8]
+        requires { self.start + self.size ≤ length file.now }
+        ensures { result.now ≡ part_of file.now self }
+    {
+        let start = self.start as usize;
+        &file[start..start + self.size as usize]
+    }
 }
 
 // The length of the contents of the field at a place, whose header is whole.
@@ -35,12 +33,13 @@ pub fn size_at(file: &[u8], at: usize) -> usize
     requires { at + 3 ≤ length file.now }
     ensures { (result ≡ size_in file.now at) × (result < 65536) }
 {
-    wide(file[at + 1]) + 256 * wide(file[at + 2])
+    usize::from(u16::from_le_bytes([file[at + 1], file[at + 2]]))
 }
 
 // Reads the fields up to the first fault. For each tag there is then the place of its field and one more, or 0. No place is above 16,777,728,
 // since no two fields have one tag.
-pub fn index_fields(file: &[u8], places: &mut [u32; 256]) -> Fault
+// The table holds numbers, not Options: the contract lends it as zeros and speaks of each place as a number.
+pub fn index_fields(file: &[u8], places: &mut [u32; 256]) -> Result<(), Fault>
     requires { places.old ≡ zeros 256 }
     ensures { (result ≡ fault_of file.now)
         × ((t : ℕ) → t < 256 → get_or places.new t 0 ≡ placed (field_in file.now t))
@@ -49,77 +48,50 @@ pub fn index_fields(file: &[u8], places: &mut [u32; 256]) -> Fault
 {
     let mut at = 0;
     while at < file.len() {
-        let tag = wide(file[at]);
+        let tag = usize::from(file[at]);
         if places[tag] != 0 {
-            return Fault {
-                refusal: refusals::REPEATED_TAG,
-                place: at as u32,
-            };
+            return Err(Refusal::RepeatedTag.at(at as u32));
         }
         if file.len() - at < 3 {
-            return Fault {
-                refusal: refusals::DATA_TOO_SHORT,
-                place: at as u32,
-            };
+            return Err(Refusal::DataTooShort.at(at as u32));
         }
         let size = size_at(file, at);
         if file.len() - at - 3 < size {
-            return Fault {
-                refusal: refusals::DATA_TOO_SHORT,
-                place: at as u32,
-            };
+            return Err(Refusal::DataTooShort.at(at as u32));
         }
         places[tag] = at as u32 + 1;
         at = at + 3 + size;
     }
-    Fault {
-        refusal: 0,
-        place: 0,
-    }
+    Ok(())
 }
 
-// Where the field of a tag stands in a file, or the file's first fault. A tag above 255 is in none.
-pub fn look(file: &[u8], tag: u32) -> Looked
+// Where the contents of a tag stand in a file, if the tag is in it, or the file's first fault. A tag above 255 is in none.
+pub fn look(file: &[u8], tag: u32) -> Result<Option<Span>, Fault>
     ensures { result ≡ looked file.now tag }
 {
     let mut places = [0u32; 256];
-    let fault = index_fields(file, &mut places);
-    if fault.refusal != 0 {
-        return Looked {
-            refusal: fault.refusal,
-            place: fault.place,
-            found: 0,
-            start: 0,
-            size: 0,
-        };
-    }
+    index_fields(file, &mut places)?;
     if 255 < tag {
-        return nothing();
+        return Ok(None);
     }
     let place = places[tag as usize];
     if place == 0 {
-        return nothing();
+        return Ok(None);
     }
-    let at = (place - 1) as usize;
-    let size = size_at(file, at);
-    Looked {
-        refusal: 0,
-        place: 0,
-        found: 1,
+    let size = size_at(file, (place - 1) as usize) as u32;
+    Ok(Some(Span {
         start: place + 2,
-        size: size as u32,
-    }
+        size,
+    }))
 }
 
-// No fault, and no field.
-fn nothing() -> Looked
-    ensures { result ≡ record { refusal = 0; place = 0; found = 0; start = 0; size = 0 } }
+// How many bytes are to be written, if an output with room for so many holds them. The room counts as at most 4,294,967,295.
+pub fn fitting(room: usize, size: usize) -> Result<u32, Fault>
+    ensures { result ≡ fitting room size }
 {
-    Looked {
-        refusal: 0,
-        place: 0,
-        found: 0,
-        start: 0,
-        size: 0,
+    let room = room.min(refusals::NOTHING as usize);
+    if room < size {
+        return Err(Refusal::NoRoom.at(room as u32));
     }
+    Ok(size as u32)
 }

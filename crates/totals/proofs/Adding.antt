@@ -9,12 +9,14 @@ use borrow.Author.Tests.{lt-ltb, le-ltb, ltb-true, ltb-false, eqb-true, eqb-fals
 use lib.Dec.{ltb, eqb}
 use lib.ListN.{length, get_or, set, length-set, length-replicate}
 use lib.Seq.{get_or-set_same, get_or-set_other}
-use Rattle.refusals.specs.Numbers.{no_room, number_range}
+use Rattle.std.specs.Prelude.{Result, Ok, Err}
+use Rattle.refusals.specs.Faults.{fault, refused}
+use Rattle.refusals.specs.declared.Refusal.TheVariants.{NoRoom, NumberRange}
+use Rattle.refusals.specs.declared.Fault.{Fault}
+use Rattle.clearing.specs.Refused.{unless_refused}
 use Rattle.clearing.specs.Lent.{zeros, padded}
-use Rattle.totals.specs.Totals.{counters, Totals, held_in, count_of, plus, fit_from, cells, stored, totals_of, added_of}
+use Rattle.totals.specs.Totals.{counters, Outcome, Totals, held_in, count_of, plus, fit_from, cells, stored, totals_of, added_of}
 use Rattle.totals.specs.Steps.{Fresh, Tallied}
-use Rattle.totals.specs.declared.Totalled.{Totalled}
-use Rattle.totals.specs.declared.Totalled.TheVariants as totalled
 use Rattle.totals.proofs.Cells.{zero_held, holds-cells, held_cells, held_beyond, length-stored, stored-alike, stored_fit, stored_unfit, unfit_whole}
 
 -- ---- add_to
@@ -47,12 +49,12 @@ module _ {a sum₀ sum : List ℕ} {i : ℕ} (k : AddSoFar a sum₀ sum i) where
   add-place h = omega (arith, k.wide)
 
   -- a sum that passes 64 bits
-  pub add-stop : {more : ℕ} {left : List ℕ} → more ≡ get_or a i 0 → i < counters → 0xFFFF_FFFF_FFFF_FFFF - more < get_or sum i 0 → more < 2 ^ 64
-      → left ≡ zeros (length sum) → (totalled.Refused number_range 0, left) ≡ stored (length sum₀) (plus (held_in a) (held_in sum₀))
-  add-stop {more} {left} m h b f clear =
+  pub add-stop : {more : ℕ} {why : Fault} → more ≡ get_or a i 0 → i < counters → 0xFFFF_FFFF_FFFF_FFFF - more < get_or sum i 0 → more < 2 ^ 64
+      → why ≡ fault NumberRange 0 → (Err why, zeros (length sum)) ≡ stored (length sum₀) (plus (held_in a) (held_in sum₀))
+  add-stop {more} m h b f w =
       let high : 2 ^ 64 ≤ get_or a i 0 + get_or sum₀ i 0 = omega (arith, m, next_held) in
       let un = k.rest ∙ fit_step (plus (held_in a) (held_in sum₀)) i h ∙ ap (λ (t : Bool). t && fit_from (plus (held_in a) (held_in sum₀)) (i + 1) (counters - (i + 1))) (le-ltb (plus (held_in a) (held_in sum₀) i) (2 ^ 64) high) in
-      ap (λ (l : List ℕ). (totalled.Refused number_range 0, l)) (clear ∙ ap zeros k.same) ∙ sym (stored_unfit (length sum₀) (plus (held_in a) (held_in sum₀)) un)
+      rw (w, k.same) (sym (stored_unfit (length sum₀) (plus (held_in a) (held_in sum₀)) un))
 
   pub add_turn : {more : ℕ} → more ≡ get_or a i 0 → i < counters → get_or sum i 0 ≤ 0xFFFF_FFFF_FFFF_FFFF - more → more < 2 ^ 64
       → AddSoFar a sum₀ (set sum i (get_or sum i 0 + more)) (i + 1)
@@ -91,14 +93,14 @@ module _ {a sum₀ sum : List ℕ} {i : ℕ} (k : AddSoFar a sum₀ sum i) where
           ∙ ap (λ (t : Bool). cond t (plus (held_in a) (held_in sum₀) c) (get_or sum₀ c 0)) (sym (other c n (ltb c i) refl))
 
   -- every counter is summed
-  pub add_end : Fresh sum₀ → counters ≤ i → (totalled.Done, sum) ≡ stored (length sum₀) (plus (held_in a) (held_in sum₀))
+  pub add_end : Fresh sum₀ → counters ≤ i → (Ok tt, sum) ≡ stored (length sum₀) (plus (held_in a) (held_in sum₀))
   unfolding fit_from
   add_end f h =
       let all : i ≡ counters = omega (arith, k.within) in
       let fit = k.rest ∙ ap (λ (j : ℕ). fit_from (plus (held_in a) (held_in sum₀)) j (counters - j)) all in
       let own = holds-cells (plus (held_in a) (held_in sum₀)) sum k.wide (λ c l. k.each c ∙ ap (λ (t : Bool). cond t (plus (held_in a) (held_in sum₀) c) (get_or sum₀ c 0)) (lt-ltb c i (omega arith)))
       (λ c l. k.each c ∙ ap (λ (t : Bool). cond t (plus (held_in a) (held_in sum₀) c) (get_or sum₀ c 0)) (le-ltb c i (omega arith)) ∙ f.beyond c l) in
-      ap (λ (l : List ℕ). (totalled.Done, l)) (own ∙ ap (λ (n : ℕ). padded n (cells (plus (held_in a) (held_in sum₀)))) k.same)
+      ap (λ (l : List ℕ). (Ok tt, l)) (own ∙ ap (λ (n : ℕ). padded n (cells (plus (held_in a) (held_in sum₀)))) k.same)
       ∙ sym (stored_fit (length sum₀) (plus (held_in a) (held_in sum₀)) fit)
 
 -- ---- the calls
@@ -110,28 +112,22 @@ pub fresh_cells : (t : Totals) (xs : List ℕ) → xs ≡ padded (length xs) (ce
 fresh_cells t xs e h = record { room = h; beyond = λ c l. ap (λ (ys : List ℕ). get_or ys c 0) e ∙ held_beyond t (length xs) c l }
 
 -- a store that is too short
-pub totals-short : (before answers : List ℕ) (room : ℕ) (xs : List ℕ) → xs ≡ zeros room → length xs < counters
-    → (totalled.Refused no_room (length xs), xs) ≡ totals_of before answers room
+pub totals-short : (before answers : List ℕ) (room : ℕ) (left : List ℕ) {answer : Result (Unit {0}) Fault} {why : Fault} → length left ≡ room
+    → answer ≡ Err why → (room < counters) × (why ≡ fault NoRoom room) → (answer, unless_refused answer left) ≡ totals_of before answers room
 unfolding totals_of
-totals-short before answers room xs e h =
-    let l : length xs ≡ room = ap length e ∙ length-replicate room 0 in
-    rw (lt-ltb room counters (omega (arith, l)), l, e)
+totals-short before answers room left l a h = rw (a, l, lt-ltb room counters h.0, h.1)
 
-pub added-short : (a b : List ℕ) (room : ℕ) (xs : List ℕ) → xs ≡ zeros room → length xs < counters
-    → (totalled.Refused no_room (length xs), xs) ≡ added_of a b room
+pub added-short : (a b : List ℕ) (room : ℕ) (left : List ℕ) {answer : Result (Unit {0}) Fault} {why : Fault} → length left ≡ room
+    → answer ≡ Err why → (room < counters) × (why ≡ fault NoRoom room) → (answer, unless_refused answer left) ≡ added_of a b room
 unfolding added_of
-added-short a b room xs e h =
-    let l : length xs ≡ room = ap length e ∙ length-replicate room 0 in
-    rw (lt-ltb room counters (omega (arith, l)), l, e)
-
-pub cleared_store : {xs : List ℕ} (n : ℕ) → xs ≡ zeros n → xs ≡ zeros (length xs)
-cleared_store {xs} n e = e ∙ ap zeros (sym (ap length e ∙ length-replicate n 0))
+added-short a b room left l f h = rw (f, l, lt-ltb room counters h.0, h.1)
 
 -- an answer that is no refusal's number
-pub totals_unknown : (before answers : List ℕ) (room n : ℕ) {all : Bool} {left last : List ℕ} → counters ≤ room → Tallied answers all left → all ≡ false
-    → last ≡ zeros n → n ≡ room → (totalled.Refused number_range 0, last) ≡ totals_of before answers room
+pub totals_unknown : (before answers : List ℕ) (room : ℕ) {left : List ℕ} {answer : Result (Unit {0}) Fault} {why : Fault} → counters ≤ room
+    → length left ≡ room → Tallied answers false left → answer ≡ Err why → why ≡ fault NumberRange 0
+    → (answer, unless_refused answer left) ≡ totals_of before answers room
 unfolding totals_of
-totals_unknown before answers room n h t e clear l = rw (le-ltb room counters h, sym t.told ∙ e, clear, l)
+totals_unknown before answers room h l t a w = rw (a, l, le-ltb room counters h, sym t.told, w)
 
 -- all counted, then added to what was before
 pub totals_summed : (before answers : List ℕ) (room : ℕ) {all : Bool} {left : List ℕ} → counters ≤ room → length left ≡ room → Tallied answers all left → all ≡ true
@@ -148,19 +144,19 @@ pub fresh_tallied : {answers : List ℕ} {all : Bool} {left : List ℕ} → coun
 fresh_tallied {answers} {all} {left} h t e = fresh_cells (λ counter. count_of counter answers) left (t.holds (sym t.told ∙ e)) h
 
 -- an answer tells whether the totals fit
-abbrev done_or : Totalled → ℕ
-done_or totalled.Done = 1
-done_or (totalled.Refused number place) = 0
+abbrev done_or : Result (Unit {0}) Fault → ℕ
+done_or (Ok done) = 1
+done_or (Err why) = 0
 
-fit_by_answer : (room : ℕ) (t : Totals) {r : Totalled} {s : List ℕ} → (r, s) ≡ stored room t → fit_from t 0 counters ≡ ltb 0 (done_or r)
+fit_by_answer : (room : ℕ) (t : Totals) {r : Result (Unit {0}) Fault} {s : List ℕ} → (r, s) ≡ stored room t → fit_from t 0 counters ≡ ltb 0 (done_or r)
 unfolding stored
-fit_by_answer room t {r} {s} e = go (fit_from t 0 counters) (ap (λ (p : Totalled × List ℕ). done_or p.0) e)
+fit_by_answer room t {r} {s} e = go (fit_from t 0 counters) (ap (λ (p : Outcome). done_or p.0) e)
   where
-    go : (b : Bool) → done_or r ≡ done_or (cond {A = Totalled × List ℕ} b (totalled.Done, padded room (cells t)) (totalled.Refused number_range 0, zeros room)).0 → b ≡ ltb 0 (done_or r)
+    go : (b : Bool) → done_or r ≡ done_or (cond {A = Outcome} b (Ok tt, padded room (cells t)) (refused NumberRange 0, zeros room)).0 → b ≡ ltb 0 (done_or r)
     go true d = sym (lt-ltb 0 (done_or r) (omega (arith, d)))
     go false d = sym (le-ltb 0 (done_or r) (omega (arith, d)))
 
-module _ (a b : List ℕ) (n : ℕ) {first one : List ℕ} {r : Totalled} (clear : first ≡ zeros n) (room : counters ≤ length first)
+module _ (a b : List ℕ) (n : ℕ) {first one : List ℕ} {r : Result (Unit {0}) Fault} (clear : first ≡ zeros n) (room : counters ≤ length first)
     (e : (r, one) ≡ stored (length first) (plus (held_in b) (held_in first))) where
   size : length first ≡ n
   size = ap length clear ∙ length-replicate n 0
@@ -174,18 +170,18 @@ module _ (a b : List ℕ) (n : ℕ) {first one : List ℕ} {r : Totalled} (clear
       same : (c : ℕ) → get_or b c 0 + get_or first c 0 ≡ get_or b c 0
       same c = omega (arith, ap (λ (ys : List ℕ). get_or ys c 0) clear ∙ zero_held n c)
 
-  held_alone : r ≡ totalled.Done → one ≡ padded n (cells (held_in b))
+  held_alone : r ≡ Ok tt → one ≡ padded n (cells (held_in b))
   held_alone d =
-      let fit = fit_by_answer n (held_in b) alone ∙ ap (λ (x : Totalled). ltb 0 (done_or x)) d in
-      ap (λ (p : Totalled × List ℕ). p.1) (alone ∙ stored_fit n (held_in b) fit)
+      let fit = fit_by_answer n (held_in b) alone ∙ ap (λ (x : Result (Unit {0}) Fault). ltb 0 (done_or x)) d in
+      ap (λ (p : Outcome). p.1) (alone ∙ stored_fit n (held_in b) fit)
 
-  pub fresh-alone : r ≡ totalled.Done → Fresh one
+  pub fresh-alone : r ≡ Ok tt → Fresh one
   fresh-alone d =
       let l = ap length (held_alone d) ∙ length-stored (held_in b) n (omega (arith, size)) in
       fresh_cells (held_in b) one (held_alone d ∙ ap (λ (m : ℕ). padded m (cells (held_in b))) (sym l)) (omega (arith, size, l))
 
   -- then the first are added to them
-  pub added-both : r ≡ totalled.Done → stored (length one) (plus (held_in a) (held_in one)) ≡ added_of a b n
+  pub added-both : r ≡ Ok tt → stored (length one) (plus (held_in a) (held_in one)) ≡ added_of a b n
   unfolding added_of
   added-both d =
       let l = ap length (held_alone d) ∙ length-stored (held_in b) n (omega (arith, size)) in
@@ -194,10 +190,10 @@ module _ (a b : List ℕ) (n : ℕ) {first one : List ℕ} {r : Totalled} (clear
       ∙ stored-alike n (plus (held_in a) (held_in one)) (plus (held_in a) (held_in b)) (λ c f. ap (λ (x : ℕ). held_in a c + x) (ap (λ (ys : List ℕ). held_in ys c) (held_alone d) ∙ held_cells (held_in b) n c f)))
 
   -- what one of them passes, both do
-  pub added-refused : {number place : ℕ} → r ≡ totalled.Refused number place → (totalled.Refused number place, one) ≡ added_of a b n
+  pub added-refused : {why : Fault} → r ≡ Err why → (Err why, one) ≡ added_of a b n
   unfolding added_of
-  added-refused {number} {place} d =
-      let un = fit_by_answer n (held_in b) alone ∙ ap (λ (x : Totalled). ltb 0 (done_or x)) d in
+  added-refused {why} d =
+      let un = fit_by_answer n (held_in b) alone ∙ ap (λ (x : Result (Unit {0}) Fault). ltb 0 (done_or x)) d in
       let all = unfit_whole (plus (held_in a) (held_in b)) (held_in b) (λ c. omega arith) un in
       rw (le-ltb n counters (omega (arith, size)))
-      (ap (λ (x : Totalled). (x, one)) (sym d) ∙ alone ∙ stored_unfit n (held_in b) un ∙ sym (stored_unfit n (plus (held_in a) (held_in b)) all))
+      (ap (λ (x : Result (Unit {0}) Fault). (x, one)) (sym d) ∙ alone ∙ stored_unfit n (held_in b) un ∙ sym (stored_unfit n (plus (held_in a) (held_in b)) all))

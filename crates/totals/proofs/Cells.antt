@@ -8,10 +8,11 @@ use native.Mathlib.Nat.{zero-add, not-suc-le-zero}
 use borrow.Author.Tests.{lt-ltb, ltb-true}
 use lib.Dec.{ltb}
 use lib.ListN.{length, get_or, length-append, length-replicate}
-use Rattle.refusals.specs.Numbers.{number_range}
+use Rattle.std.specs.Prelude.{Ok}
+use Rattle.refusals.specs.Faults.{refused}
+use Rattle.refusals.specs.declared.Refusal.TheVariants.{NumberRange}
 use Rattle.clearing.specs.Lent.{zeros, padded}
 use Rattle.totals.specs.Totals.{counters, Totals, held_in, cells_from, fit_from, cells, stored}
-use Rattle.totals.specs.declared.Totalled.TheVariants as totalled
 
 -- ---- what a store holds
 
@@ -102,7 +103,7 @@ pub stored-alike : (room : ℕ) (t u : Totals) → ((c : ℕ) → c < counters �
 unfolding stored
 stored-alike room t u h =
     let both = cells-alike t u 0 counters (λ c k. ap t (zero-add c) ∙ h c k ∙ ap u (sym (zero-add c))) in
-    λ i. cond (both.1 i) (totalled.Done, padded room (both.0 i)) (totalled.Refused number_range 0, zeros room)
+    λ i. cond (both.1 i) (Ok tt, padded room (both.0 i)) (refused NumberRange 0, zeros room)
 
 -- ---- what fits
 
@@ -125,11 +126,11 @@ fit_part t u at (suc n) h e = go (ltb (t at) (2 ^ 64)) refl e (fit_part t u (suc
             omega arith
 
 -- totals that fit, and those that do not
-pub stored_fit : (room : ℕ) (t : Totals) → fit_from t 0 counters ≡ true → stored room t ≡ (totalled.Done, padded room (cells t))
+pub stored_fit : (room : ℕ) (t : Totals) → fit_from t 0 counters ≡ true → stored room t ≡ (Ok tt, padded room (cells t))
 unfolding stored
 stored_fit room t e = rw e
 
-pub stored_unfit : (room : ℕ) (t : Totals) → fit_from t 0 counters ≡ false → stored room t ≡ (totalled.Refused number_range 0, zeros room)
+pub stored_unfit : (room : ℕ) (t : Totals) → fit_from t 0 counters ≡ false → stored room t ≡ (refused NumberRange 0, zeros room)
 unfolding stored
 stored_unfit room t e = rw e
 

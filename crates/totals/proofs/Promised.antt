@@ -6,12 +6,11 @@ use Prim.Native.Nat.{ℕ, ◌+◌, ◌≤◌, ◌<◌}
 use native.Mathlib.Omega.{arith}
 use borrow.Author.Tests.{lt-ltb, le-ltb, ltb-true, ltb-false}
 use lib.Dec.{ltb}
-use Rattle.refusals.specs.Numbers.{no_room, number_range}
+use Rattle.std.specs.Prelude.{Ok, Err}
+use Rattle.refusals.specs.declared.Refusal.TheVariants.{NoRoom, NumberRange}
 use Rattle.clearing.specs.Lent.{padded}
-use Rattle.totals.specs.Totals.{counters, Totals, held_in, count_of, known, plus, fit_from, cells, refused_at, stored, totals_of, added_of}
+use Rattle.totals.specs.Totals.{counters, Outcome, Totals, held_in, count_of, known, plus, fit_from, cells, refused_at, stored, totals_of, added_of}
 use Rattle.totals.specs.Promised.{Grouping, part, both, answers_of, both_added, totals_of_parts, Promised}
-use Rattle.totals.specs.declared.Totalled.{Totalled}
-use Rattle.totals.specs.declared.Totalled.TheVariants as totalled
 use Rattle.totals.proofs.Cells.{held_cells, stored-alike, fit_part}
 use Rattle.totals.proofs.Counting.{count-append, known-append, count-both, both_true}
 
@@ -29,34 +28,34 @@ total before answers = plus (held_in before) (λ counter. count_of counter answe
 ok : List ℕ → List ℕ → Bool
 ok before answers = known answers && fit_from (total before answers) 0 counters
 
-abbrev outcome : ℕ → List ℕ → List ℕ → Bool → Totalled × List ℕ
-outcome room before answers all = cond all (totalled.Done, padded room (cells (total before answers))) (refused_at room number_range 0)
+abbrev outcome : ℕ → List ℕ → List ℕ → Bool → Outcome
+outcome room before answers all = cond all (Ok tt, padded room (cells (total before answers))) (refused_at room NumberRange 0)
 
 outcome_of_lem : (before answers : List ℕ) (room : ℕ) → counters ≤ room → totals_of before answers room ≡ outcome room before answers (ok before answers)
 unfolding totals_of stored total ok
 outcome_of_lem before answers room h = rw (le-ltb room counters h) (go (known answers))
   where
     go : (k : Bool)
-        → cond k (cond (fit_from (total before answers) 0 counters) (totalled.Done, padded room (cells (total before answers))) (refused_at room number_range 0)) (refused_at room number_range 0)
-        ≡ cond (k && fit_from (total before answers) 0 counters) (totalled.Done, padded room (cells (total before answers))) (refused_at room number_range 0)
+        → cond k (cond (fit_from (total before answers) 0 counters) (Ok tt, padded room (cells (total before answers))) (refused_at room NumberRange 0)) (refused_at room NumberRange 0)
+        ≡ cond (k && fit_from (total before answers) 0 counters) (Ok tt, padded room (cells (total before answers))) (refused_at room NumberRange 0)
     go true = refl
     go false = refl
 
-short_of_lem : (before answers : List ℕ) (room : ℕ) → room < counters → totals_of before answers room ≡ refused_at room no_room room
+short_of_lem : (before answers : List ℕ) (room : ℕ) → room < counters → totals_of before answers room ≡ refused_at room NoRoom room
 unfolding totals_of
 short_of_lem before answers room h = rw (lt-ltb room counters h)
 
-abbrev done_or : Totalled × List ℕ → ℕ
-done_or (totalled.Done, xs) = 1
-done_or (totalled.Refused number place, xs) = 0
+abbrev done_or : Outcome → ℕ
+done_or (Ok done, xs) = 1
+done_or (Err why, xs) = 0
 
-grown_by : (before answers : List ℕ) (room : ℕ) (left : List ℕ) → totals_of before answers room ≡ (totalled.Done, left)
+grown_by : (before answers : List ℕ) (room : ℕ) (left : List ℕ) → totals_of before answers room ≡ (Ok tt, left)
     → (counter : ℕ) → counter < counters → held_in left counter ≡ held_in before counter + count_of counter answers
 unfolding total
 grown_by before answers room left e c f = go (ltb room counters) refl
   where
-    fits : (all : Bool) → outcome room before answers all ≡ (totalled.Done, left) → held_in left c ≡ held_in before c + count_of c answers
-    fits true s = ap (λ (p : Totalled × List ℕ). held_in p.1 c) (sym s) ∙ held_cells (total before answers) room c f
+    fits : (all : Bool) → outcome room before answers all ≡ (Ok tt, left) → held_in left c ≡ held_in before c + count_of c answers
+    fits true s = ap (λ (p : Outcome). held_in p.1 c) (sym s) ∙ held_cells (total before answers) room c f
     fits false s = absurd (omega (arith, ap done_or s))
 
     go : (short : Bool) → ltb room counters ≡ short → held_in left c ≡ held_in before c + count_of c answers
@@ -117,7 +116,7 @@ added_up room xs ys = go (ltb room counters) refl
     go : (short : Bool) → ltb room counters ≡ short → both_added room (totals_of [] xs room) (totals_of [] ys room) ≡ totals_of [] (xs ++ ys) room
     go true s =
         let h = ltb-true room counters s in
-        ap (λ (o : Totalled × List ℕ). both_added room o (totals_of [] ys room)) (short_of_lem [] xs room h) ∙ sym (short_of_lem [] (xs ++ ys) room h)
+        ap (λ (o : Outcome). both_added room o (totals_of [] ys room)) (short_of_lem [] xs room h) ∙ sym (short_of_lem [] (xs ++ ys) room h)
     go false s =
         let h = ltb-false room counters s in
         (λ i. both_added room (outcome_of_lem [] xs room h i) (outcome_of_lem [] ys room h i)) ∙ parts h (ok [] xs) (ok [] ys) refl refl

@@ -1,10 +1,12 @@
 -- Nightly totals: 02, K14, "Over many inputs print exact counts in this form and order .. `inputs 3`, `accepted 2`, `refused 1`, then
 -- `refusal N COUNT` for N from 1 to 26." Counter 0 is `inputs`, 1 `accepted`, 2 `refused`, 2 + N that of refusal N.
-use Rattle.std.specs.Prelude.{ℕ, zero, suc, ◌+◌, ◌^◌, Bool, true, cond, ◌&&◌, not, List, [], ◌∷◌, ltb, leb, eqb, get_or}
-use Rattle.refusals.specs.Numbers.{accepted, no_room, number_range, last_number}
+use Rattle.std.specs.Prelude.{ℕ, zero, suc, ◌+◌, ◌^◌, Bool, true, cond, ◌&&◌, not, List, [], ◌∷◌, ltb, leb, eqb, get_or, Result, Ok}
+use Rattle.refusals.specs.Numbers.{accepted, last_number}
+use Rattle.refusals.specs.Faults.{refused}
+use Rattle.refusals.specs.declared.Refusal.{Refusal}
+use Rattle.refusals.specs.declared.Refusal.TheVariants.{NoRoom, NumberRange}
+use Rattle.refusals.specs.declared.Fault.{Fault}
 use Rattle.clearing.specs.Lent.{zeros, padded}
-use Rattle.totals.specs.declared.Totalled.{Totalled}
-use Rattle.totals.specs.declared.Totalled.TheVariants as totalled
 
 -- how many counters there are
 abbrev pub counters : ℕ
@@ -51,26 +53,30 @@ fit_from t counter (suc more) = ltb (t counter) (2 ^ 64) && fit_from t (suc coun
 abbrev pub cells : Totals → List ℕ
 cells t = cells_from t 0 counters
 
+-- the answer of a call, and what it leaves in the store
+abbrev pub Outcome : Type 0
+Outcome = Result (Unit {0}) Fault × List ℕ
+
 -- A refusal leaves the store zero.
-abbrev pub refused_at : ℕ → ℕ → ℕ → Totalled × List ℕ
-refused_at room number place = (totalled.Refused number place, zeros room)
+abbrev pub refused_at : ℕ → Refusal → ℕ → Outcome
+refused_at room why place = (refused why place, zeros room)
 
 -- "a total that would pass 64 bits is 18"
-unfoldable pub stored : ℕ → Totals → Totalled × List ℕ
+unfoldable pub stored : ℕ → Totals → Outcome
 unfolding cells_from fit_from padded
-stored room t = cond (fit_from t 0 counters) (totalled.Done, padded room (cells t)) (refused_at room number_range 0)
+stored room t = cond (fit_from t 0 counters) (Ok tt, padded room (cells t)) (refused_at room NumberRange 0)
 
 -- a store too short for the counters is refused first
-abbrev pub in_room : ℕ → Totalled × List ℕ → Totalled × List ℕ
-in_room room outcome = cond (ltb room counters) (refused_at room no_room room) outcome
+abbrev pub in_room : ℕ → Outcome → Outcome
+in_room room outcome = cond (ltb room counters) (refused_at room NoRoom room) outcome
 
 -- `before`, and every answer counted
-unfoldable pub totals_of : List ℕ → List ℕ → ℕ → Totalled × List ℕ
+unfoldable pub totals_of : List ℕ → List ℕ → ℕ → Outcome
 unfolding known count_of stored
 totals_of before answers room =
-    in_room room (cond (known answers) (stored room (plus (held_in before) (λ counter. count_of counter answers))) (refused_at room number_range 0))
+    in_room room (cond (known answers) (stored room (plus (held_in before) (λ counter. count_of counter answers))) (refused_at room NumberRange 0))
 
 -- two totals, counter by counter
-unfoldable pub added_of : List ℕ → List ℕ → ℕ → Totalled × List ℕ
+unfoldable pub added_of : List ℕ → List ℕ → ℕ → Outcome
 unfolding stored
 added_of a b room = in_room room (stored room (plus (held_in a) (held_in b)))

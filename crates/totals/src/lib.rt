@@ -2,106 +2,111 @@
 // lent. Each answer is one more in the cell of its own number; the first three counters follow from those.
 #![tactic(auto)]
 
-ghost use Rattle.std.specs.Prelude.{◌≡◌, ◌≤◌, length, get_or};
+ghost use Rattle.std.specs.Prelude.{◌≡◌, ◌≤◌, ◌<◌, length, get_or, is_ok, IfErr, MatchResult};
+ghost use Rattle.refusals.specs.Faults.{fault};
+ghost use Rattle.refusals.specs.declared.Refusal.TheVariants.{NoRoom, NumberRange};
 ghost use Rattle.clearing.specs.Lent.{zeros};
+ghost use Rattle.clearing.specs.Refused.{unless_refused};
 ghost use Rattle.totals.specs.Totals.{counters, held_in, plus, stored, totals_of, added_of};
 ghost use Rattle.totals.specs.Steps.{Fresh, Tallied};
 
-// An answer: all is counted, or a refusal's number and place.
-#[derive(Clone, Copy)]
-pub enum Totalled {
-    Done,
-    Refused(u32, u32),
-}
+use refusals::{Fault, Refusal};
 
 // How many counters there are.
 pub const COUNTERS: usize = 29;
 
 // The totals of `before` with every answer counted.
-pub fn count_answers(before: &[u64], answers: &[u32], after: &mut [u64]) -> Totalled
+// `add_totals` is alike but for what it adds: a closure for that would be longer than both.
+pub fn count_answers(before: &[u64], answers: &[u32], after: &mut [u64]) -> Result<(), Fault>
     ensures { (result, after.new) ≡ totals_of before.now answers.now (length after.old) }
 {
-    clear_counters(after);
-    if after.len() < COUNTERS {
-        return Totalled::Refused(refusals::NO_ROOM, after.len() as u32);
+    after.fill(0);
+    let counted = count_over(before, answers, after);
+    if counted.is_err() {
+        after.fill(0);
     }
-    if tally(after, answers) {
-        return add_to(after, before);
-    }
-    clear_counters(after);
-    Totalled::Refused(refusals::NUMBER_RANGE, 0)
+    counted
 }
 
 // Two totals, counter by counter.
-pub fn add_totals(a: &[u64], b: &[u64], sum: &mut [u64]) -> Totalled
+pub fn add_totals(a: &[u64], b: &[u64], sum: &mut [u64]) -> Result<(), Fault>
     ensures { (result, sum.new) ≡ added_of a.now b.now (length sum.old) }
 {
-    clear_counters(sum);
-    if sum.len() < COUNTERS {
-        return Totalled::Refused(refusals::NO_ROOM, sum.len() as u32);
+    sum.fill(0);
+    let added = add_over(a, b, sum);
+    if added.is_err() {
+        sum.fill(0);
     }
-    match add_to(sum, b) {
-        Totalled::Done => add_to(sum, a),
-        Totalled::Refused(number, place) => Totalled::Refused(number, place),
-    }
+    added
 }
 
 // A counter of a lent store; one that it is too short for is 0.
 pub fn counter(store: &[u64], i: usize) -> u64
     ensures { result ≡ get_or store.now i 0 }
 {
-    if i < store.len() {
-        return store[i];
-    }
-    0
+    store.get(i).copied().unwrap_or(0)
 }
 
-// Every counter of the store is zero, and what is behind them.
-fn clear_counters(store: &mut [u64])
-    ensures { store.new ≡ zeros (length store.old) }
+// The same over zeros, which a refusal leaves as far as it came.
+fn count_over(before: &[u64], answers: &[u32], after: &mut [u64]) -> Result<(), Fault>
+    requires { after.old ≡ zeros (length after.old) }
+    ensures { (result, unless_refused result after.new) ≡ totals_of before.now answers.now (length after.old) }
 {
-    let mut i = 0;
-    while i < store.len() {
-        store[i] = 0;
-        i += 1;
-    }
+    hold_counters(after)?;
+    tally(after, answers)?;
+    add_to(after, before)
 }
 
-// The answers' counts, over zeros; false where one of the answers is no refusal's number.
-fn tally(after: &mut [u64], answers: &[u32]) -> bool
+fn add_over(a: &[u64], b: &[u64], sum: &mut [u64]) -> Result<(), Fault>
+    requires { sum.old ≡ zeros (length sum.old) }
+    ensures { (result, unless_refused result sum.new) ≡ added_of a.now b.now (length sum.old) }
+{
+    hold_counters(sum)?;
+    add_to(sum, b)?;
+    add_to(sum, a)
+}
+
+// A store too short for the counters is refused.
+fn hold_counters(store: &[u64]) -> Result<(), Fault>
+    ensures { MatchResult result (λ _. counters ≤ length store.now) (λ why. (length store.now < counters) × (why ≡ fault NoRoom (length store.now))) }
+{
+    if store.len() < COUNTERS {
+        return Err(Refusal::NoRoom.at(store.len() as u32));
+    }
+    Ok(())
+}
+
+// The answers' counts, over zeros, if each of the answers is 0 or a refusal's number.
+fn tally(after: &mut [u64], answers: &[u32]) -> Result<(), Fault>
     requires { (counters ≤ length after.old) × (after.old ≡ zeros (length after.old)) }
-    ensures { Tallied answers.now result after.new }
+    ensures counted { Tallied answers.now (is_ok result) after.new }
+    ensures refused { IfErr result (λ why. why ≡ fault NumberRange 0) }
 {
-    let mut i = 0;
-    while i < answers.len() {
-        if refusals::LAST_NUMBER < answers[i] {
-            return false;
+    for &answer in answers {
+        if refusals::LAST_NUMBER < answer {
+            return Err(Refusal::NumberRange.at(0));
         }
-        after[2 + answers[i] as usize] += 1;
-        i += 1;
+        after[2 + answer as usize] += 1;
     }
     let inputs = answers.len() as u64;
     let accepted = after[2];
     after[0] = inputs;
     after[1] = accepted;
     after[2] = inputs - accepted;
-    true
+    Ok(())
 }
 
 // The counters of `a` added to those of a store; a sum that passes 64 bits is refused.
-fn add_to(sum: &mut [u64], a: &[u64]) -> Totalled
+fn add_to(sum: &mut [u64], a: &[u64]) -> Result<(), Fault>
     requires { Fresh sum.old }
-    ensures { (result, sum.new) ≡ stored (length sum.old) (plus (held_in a.now) (held_in sum.old)) }
+    ensures { (result, unless_refused result sum.new) ≡ stored (length sum.old) (plus (held_in a.now) (held_in sum.old)) }
 {
-    let mut i = 0;
-    while i < COUNTERS {
+    for i in 0..COUNTERS {
         let more = counter(a, i);
-        if 0xFFFF_FFFF_FFFF_FFFF - more < sum[i] {
-            clear_counters(sum);
-            return Totalled::Refused(refusals::NUMBER_RANGE, 0);
+        if u64::MAX - more < sum[i] {
+            return Err(Refusal::NumberRange.at(0));
         }
         sum[i] += more;
-        i += 1;
     }
-    Totalled::Done
+    Ok(())
 }

@@ -2,18 +2,21 @@
 // adding. The stores are lent full of ones, so that two of the counters also show that a refusal clears them.
 #![tactic(auto)]
 
-use printedtotals::Printed;
 use printing::{say, say_number, say_refused};
+use refusals::Fault;
 use std::io::{self, BufWriter, Write};
-use totals::Totalled;
 
-fn say_counted(writer: &mut impl Write, answer: Totalled, after: &[u64]) -> io::Result<()> {
+fn say_counted(
+    writer: &mut impl Write,
+    answer: Result<(), Fault>,
+    after: &[u64],
+) -> io::Result<()> {
     match answer {
-        Totalled::Done => {
+        Ok(_) => {
             say(writer, b"counted")?;
         }
-        Totalled::Refused(number, place) => {
-            say_refused(writer, number, place)?;
+        Err(fault) => {
+            say_refused(writer, fault.refusal.number(), fault.place)?;
         }
     }
     say(writer, b", inputs ")?;
@@ -23,15 +26,15 @@ fn say_counted(writer: &mut impl Write, answer: Totalled, after: &[u64]) -> io::
     say(writer, b"\n")
 }
 
-fn say_printed(writer: &mut impl Write, answer: Printed, out: &[u8]) -> io::Result<()> {
+fn say_printed(writer: &mut impl Write, answer: Result<u32, Fault>, out: &[u8]) -> io::Result<()> {
     match answer {
-        Printed::Done(count) => {
+        Ok(count) => {
             say_number(writer, count as u64)?;
             say(writer, b" bytes\n")?;
             say(writer, out)?;
         }
-        Printed::Refused(number, place) => {
-            say_refused(writer, number, place)?;
+        Err(fault) => {
+            say_refused(writer, fault.refusal.number(), fault.place)?;
             say(writer, b"\n")?;
         }
     }

@@ -7,21 +7,23 @@ use native.Mathlib.Omega.{arith}
 use mathlib.Core.List.{List, ◌∷◌}
 use lib.ListN.{length, take, drop}
 use lib.Seq.{drop-drop}
-use Rattle.grammar.specs.Reading.{stops}
 use Rattle.grammar.specs.State.{entry_at}
 use Rattle.grammar.specs.Record.{Tables, chain}
 use Rattle.writing.specs.Writing.{Writing, ended, refused, then, each, into}
 use Rattle.writing.specs.Answer.{most_output}
 use Rattle.writing.proofs.Into.{then-ended, into-then, into-stops}
-use Rattle.output.specs.declared.Wrote.{Wrote}
-use Rattle.output.specs.declared.Wrote.TheVariants as wrote
-use Rattle.output.specs.Puts.{Open, Agrees, Puts}
+use Rattle.grammar.specs.Numbered.{numbered}
+use Rattle.output.specs.Puts.{Wrote, Open, Agrees, Puts}
 use Rattle.stores.specs.Written.{EntryIn}
 use Rattle.chains.specs.Chained.{is_some}
 use Rattle.cellnames.proofs.Groups.{some_of}
 use Rattle.chains.proofs.Chains.{onto, headed, entry_in, chain_none}
 use Rattle.underway.specs.Onward.{Onward}
 use Rattle.underway.specs.Rows.{kids_from}
+use Rattle.std.specs.Prelude.{Ok, Err}
+use Rattle.refusals.specs.declared.Fault.{Fault}
+use Rattle.refusals.specs.Faults.{number_of, fault}
+use Rattle.refusals.specs.declared.Refusal.{Refusal}
 
 -- what is untouched from a place on is so from a later one
 pub later : (o o₀ : List ℕ) (p a : ℕ) → drop p o ≡ drop p o₀ → p ≤ a → drop a o ≡ drop a o₀
@@ -42,27 +44,27 @@ module _ {o₀ : List ℕ} {at : ℕ} {w₀ : Writing} {o : List ℕ} {p : ℕ} 
   pub opens : {w : Writing} → Onward o₀ at w₀ o p w → length o₀ ≤ most_output → Open p o
   opens k h = record { inside = omega (arith, k.inside, k.same); counts = omega (arith, k.same) }
 
-  pub done : Onward o₀ at w₀ o p ended → Puts w₀ at o₀ (wrote.Done p) o
+  pub done : Onward o₀ at w₀ o p ended → Puts w₀ at o₀ (Ok p) o
   unfolding into
   done k = record { same = k.same; exact = (sym k.comes, k.ahead, k.inside, k.kept) }
 
-  pub stopped : {number place : ℕ} → Onward o₀ at w₀ o p (refused number place) → Puts w₀ at o₀ (wrote.Refused number place) o
+  pub stopped : {why : Refusal} {place : ℕ} {stop : Fault} → Onward o₀ at w₀ o p (refused (number_of why) place) → stop ≡ fault why place → Puts w₀ at o₀ (Err stop) o
   unfolding into
-  stopped k = record { same = k.same; exact = sym k.comes }
+  stopped k is = rw is (record { same = k.same; exact = sym k.comes })
 
   module _ {o' : List ℕ} where
-    pub refused_in : {u : Writing} (v : Writing) {r : Wrote} {number place : ℕ} → Onward o₀ at w₀ o p (then u v) → Puts u p o r o' → r ≡ wrote.Refused number place
-        → Puts w₀ at o₀ (wrote.Refused number place) o'
-    refused_in {u} v {r} {number} {place} k put is =
-        let e : into (length o) (take p o) u ≡ stops number place = rw is at put.exact in
+    pub refused_in : {u : Writing} (v : Writing) {r : Wrote} {stop : Fault} → Onward o₀ at w₀ o p (then u v) → Puts u p o r o' → r ≡ Err stop
+        → Puts w₀ at o₀ (Err stop) o'
+    refused_in {u} v {r} {stop} k put is =
+        let e : into (length o) (take p o) u ≡ numbered (Err stop) = rw is at put.exact in
         record {
           same = put.same ∙ k.same;
-          exact = sym k.comes ∙ into-stops (length o₀) (take p o) u v number place (ap (λ n. into n (take p o) u) (sym k.same) ∙ e);
+          exact = sym k.comes ∙ into-stops (length o₀) (take p o) u v (number_of stop.refusal) stop.place (ap (λ n. into n (take p o) u) (sym k.same) ∙ e);
         }
 
-    pub written_in : {u v : Writing} {r : Wrote} {a : ℕ} → Onward o₀ at w₀ o p (then u v) → Puts u p o r o' → r ≡ wrote.Done a → Onward o₀ at w₀ o' a v
+    pub written_in : {u v : Writing} {r : Wrote} {a : ℕ} → Onward o₀ at w₀ o p (then u v) → Puts u p o r o' → r ≡ Ok a → Onward o₀ at w₀ o' a v
     written_in {u} {v} {r} {a} k put is =
-        let e : Agrees (wrote.Done a) p o o' (into (length o) (take p o) u) = rw is at put.exact in
+        let e : Agrees (Ok a) p o o' (into (length o) (take p o) u) = rw is at put.exact in
         record {
           same = put.same ∙ k.same;
           ahead = omega (arith, k.ahead, e.1);
@@ -79,7 +81,7 @@ pub puts-told : {w : Writing} {at : ℕ} {o o' : List ℕ} {r r' : Wrote} → Pu
 puts-told {w} {at} {o} {o'} k e = subst (λ x. Puts w at o x o') e k
 
 -- behind a put that is done the output can be written on
-pub puts_open : {w : Writing} {at a : ℕ} {o o' : List ℕ} {r : Wrote} → Open at o → Puts w at o r o' → r ≡ wrote.Done a → Open a o'
+pub puts_open : {w : Writing} {at a : ℕ} {o o' : List ℕ} {r : Wrote} → Open at o → Puts w at o r o' → r ≡ Ok a → Open a o'
 puts_open {w} h put is = opens (written_in (left_as (start h.inside) (sym (then-ended w))) put is) h.counts
 
 -- the last put answers for all
@@ -87,8 +89,8 @@ pub last : {o₀ : List ℕ} {at : ℕ} {w₀ : Writing} {o : List ℕ} {p : ℕ
 last {o₀} {at} {w₀} {o} {p} {o'} {u} {r} k put = go r refl
   where
     go : (r' : Wrote) → r ≡ r' → Puts w₀ at o₀ r o'
-    go (wrote.Done a) e = rw e (done (written_in (left_as k (sym (then-ended u))) put e))
-    go (wrote.Refused number place) e = rw e (refused_in ended (left_as k (sym (then-ended u))) put e)
+    go (Ok a) e = rw e (done (written_in (left_as k (sym (then-ended u))) put e))
+    go (Err stop) e = rw e (refused_in ended (left_as k (sym (then-ended u))) put e)
 
 -- A row of children, each written by f: those that are left are still to come.
 pub record Rowing (t : Tables) (f : ℕ → Writing) (Fine : List ℕ → Type 0) (count : ℕ) (o₀ : List ℕ) (at : ℕ) (w₀ : Writing) (o : List ℕ) (i e p : ℕ) : Type 0 where
@@ -134,7 +136,7 @@ module _ {t : Tables} {f : ℕ → Writing} {Fine : List ℕ → Type 0} {count 
       entry_in t (count - (i + 1)) e w.rest (sym (ap (λ c. chain t c e) n) ∙ w.chained)
 
   pub row_more : {o o' : List ℕ} {i e e' p v a : ℕ} {r : Wrote} → Turn t f Fine count o₀ at w₀ o i e p v → ((vs : List ℕ) → Fine (v ∷ vs) → Fine vs) → i < count
-      → e' ≡ (entry_at t.entries e).next → Puts (f v) p o r o' → r ≡ wrote.Done a → Rowing t f Fine count o₀ at w₀ o' (i + 1) e' a
+      → e' ≡ (entry_at t.entries e).next → Puts (f v) p o r o' → r ≡ Ok a → Rowing t f Fine count o₀ at w₀ o' (i + 1) e' a
   row_more {i = i} k less l on put is =
       record {
         within = omega arith;
@@ -144,11 +146,11 @@ module _ {t : Tables} {f : ℕ → Writing} {Fine : List ℕ → Type 0} {count 
         way = written_in k.way put is;
       }
 
-  pub row-refused : {o o' : List ℕ} {i e p v number place : ℕ} {r : Wrote} → Turn t f Fine count o₀ at w₀ o i e p v → Puts (f v) p o r o' → r ≡ wrote.Refused number place
-      → Puts w₀ at o₀ (wrote.Refused number place) o'
+  pub row-refused : {o o' : List ℕ} {i e p v : ℕ} {stop : Fault} {r : Wrote} → Turn t f Fine count o₀ at w₀ o i e p v → Puts (f v) p o r o' → r ≡ Err stop
+      → Puts w₀ at o₀ (Err stop) o'
   row-refused k put is = refused_in (each f k.rest) k.way put is
 
-  pub row_end_lem : {o : List ℕ} {i e p : ℕ} → Rowing t f Fine count o₀ at w₀ o i e p → count ≤ i → Puts w₀ at o₀ (wrote.Done p) o
+  pub row_end_lem : {o : List ℕ} {i e p : ℕ} → Rowing t f Fine count o₀ at w₀ o i e p → count ≤ i → Puts w₀ at o₀ (Ok p) o
   unfolding each
   row_end_lem {o} {i} {e} {p} w h =
       let z : count - i ≡ 0 = omega arith in

@@ -3,16 +3,15 @@
 use Rattle.std.proofs.Common.{◌≡◌, ℕ, ◌+◌, ◌-◌, ◌*◌, ◌^◌, ◌<◌, Bool, true, false, ltb, List, [], ◌++◌, sym, refl, ap, ◌∙◌, arith}
 use Rattle.lineentry.specs.Varint.{digits, number}
 use Rattle.varint.specs.Writing.{little_endian, big_endian, big_endian_with_start, signed_code}
-use Rattle.varintread.specs.Reading.{read_varint, read_varint_with_start}
-use Rattle.varintread.specs.declared.Found.{Found}
-use Rattle.varintread.specs.declared.Found.TheVariants.{Number, Nothing, Refused}
+use Rattle.varintread.specs.Reading.{Reading, read_varint, read_varint_with_start}
+use Rattle.std.specs.Prelude.{Ok, Err, Some, None}
 use Rattle.varint.proofs.ReadsBack.{little_endian-stands, big_endian-reads_back, with_start_reads_back}
 
 -- the number of an answer
-value : Found → ℕ
-value (Number n next) = n
-value Nothing = 0
-value (Refused number place) = 0
+value : Reading → ℕ
+value (Ok (Some f)) = f.value
+value (Ok None) = 0
+value (Err f) = 0
 
 pub little_endian-apart : (m n : ℕ) (s t : List ℕ) → little_endian m ++ s ≡ little_endian n ++ t → m ≡ n
 little_endian-apart m n s t h =

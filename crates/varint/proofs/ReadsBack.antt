@@ -3,12 +3,10 @@
 use Rattle.std.proofs.Common.{◌≡◌, ℕ, zero, suc, ◌+◌, ◌-◌, ◌*◌, ◌/◌, ◌%◌, ◌^◌, ◌<◌, ◌≤◌, Bool, true, false, ltb, leb, List, [], ◌∷◌, ◌++◌, length, sym, refl, ap, ◌∙◌, append_assoc, arith, length-append, ltb-false, ltb-true, lt-ltb, eq-eqb, ne_eqb, le-leb}
 use lib.Seq.{drop-append_seam, get_or-append_seam}
 use borrow.Author.Tests.{lt-leb}
-use Rattle.lineentry.specs.declared.Varint.TheVariants.{Value}
 use Rattle.lineentry.specs.Line.{as_signed}
-use Rattle.lineentry.specs.Varint.{digits, number, cut, varint_within, varint_at, signed_of, signed_at}
+use Rattle.lineentry.specs.Varint.{read_as, digits, number, cut, varint_within, varint_at, signed_of, signed_at}
 use Rattle.varint.specs.Writing.{little_endian, big_endian, started, big_endian_with_start, signed_code}
-use Rattle.varintread.specs.Reading.{more, read_groups, read_varint, read_varint_with_start}
-use Rattle.varintread.specs.declared.Found.TheVariants.{Number}
+use Rattle.varintread.specs.Reading.{found, more, read_groups, read_varint, read_varint_with_start}
 use Rattle.varint.proofs.Groups.{size_six}
 use Rattle.varint.proofs.Bytes.{little_last, little_more, ahead, ahead_none, ahead_more, big_last, length_little, length-started}
 
@@ -70,7 +68,7 @@ group_reads at val next g rest h =
     rw (more_yes g h, e)
 
 last_reads : (at val next g : ℕ) (rest : List ℕ) → g < 64 → val * 64 + g < 2 ^ 32
-    → read_groups at val next (g ∷ rest) ≡ Number (val * 64 + g) (next + 1)
+    → read_groups at val next (g ∷ rest) ≡ found (val * 64 + g) (next + 1)
 unfolding read_groups
 last_reads at val next g rest h k =
     let e : g % 64 ≡ g = omega arith in
@@ -108,7 +106,7 @@ ahead-reads (suc f) at n next rest h =
 module _ (before : List ℕ) (n : ℕ) (after : List ℕ) where
   -- little-endian, as a line table's numbers are read
   pub little_endian-reads_back : n < 2 ^ 32
-      → varint_at (before ++ (little_endian n ++ after)) (length before) ≡ Value n (length before + length (little_endian n)) false
+      → varint_at (before ++ (little_endian n ++ after)) (length before) ≡ read_as n (length before + length (little_endian n)) false
   unfolding varint_within
   little_endian-reads_back h =
       let i = little_endian-stands n after in
@@ -124,7 +122,7 @@ module _ (before : List ℕ) (n : ℕ) (after : List ℕ) where
       rw (lt-ltb _ _ e, drop-append_seam before (bytes ++ after))
 
   pub big_endian-reads_back : n < 2 ^ 32
-      → read_varint (before ++ (big_endian n ++ after)) (length before) ≡ Number n (length before + length (big_endian n))
+      → read_varint (before ++ (big_endian n ++ after)) (length before) ≡ found n (length before + length (big_endian n))
   big_endian-reads_back h =
       let at = length before in
       let m = big_last n in
@@ -136,8 +134,8 @@ module _ (before : List ℕ) (n : ℕ) (after : List ℕ) where
       ∙ ap (read_groups at 0 at) (append_assoc (ahead (n / 64)) (n % 64 ∷ []) after)
       ∙ ahead-reads (n / 64) at (n / 64) at (n % 64 ∷ after) (omega arith)
       ∙ last_reads at (n / 64) (at + length (ahead (n / 64))) (n % 64) after (omega arith) (omega arith)
-      ∙ ap (λ (v : ℕ). Number v (at + length (ahead (n / 64)) + 1)) v
-      ∙ ap (λ (p : ℕ). Number n p) p
+      ∙ ap (λ (v : ℕ). found v (at + length (ahead (n / 64)) + 1)) v
+      ∙ ap (λ (p : ℕ). found n p) p
 
   -- 0x80 is not looked at where no marker is asked
   start_unread : (bytes : List ℕ) → 1 ≤ length bytes
@@ -162,7 +160,7 @@ module _ (before : List ℕ) (n : ℕ) (after : List ℕ) where
 
   pub with_start_reads_back : n < 2 ^ 32
       → read_varint_with_start (before ++ (big_endian_with_start n ++ after)) (length before)
-      ≡ Number n (length before + length (big_endian_with_start n))
+      ≡ found n (length before + length (big_endian_with_start n))
   unfolding big_endian_with_start
   with_start_reads_back h =
       rw length-started
@@ -183,7 +181,7 @@ code_back bits h other = go (ltb bits (2 ^ 31)) refl
 
 pub signed-reads_back : (before : List ℕ) (bits : ℕ) (after : List ℕ) → bits < 2 ^ 32 → (bits ≡ 2 ^ 31 → ⊥)
     → signed_at (before ++ (little_endian (signed_code bits) ++ after)) (length before)
-    ≡ Value (as_signed bits) (length before + length (little_endian (signed_code bits))) false
+    ≡ read_as (as_signed bits) (length before + length (little_endian (signed_code bits))) false
 unfolding signed_at
 signed-reads_back before bits after h other =
     let c = code_back bits h other in

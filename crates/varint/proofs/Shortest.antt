@@ -1,17 +1,17 @@
 -- The written form is the shortest: bytes that read as a number are no fewer than those that it is written as.
 -- What a reading passes bounds the size of the number, group by group, and a smaller number takes no more bytes.
 -- Assumes nothing.
+use Rattle.std.specs.Prelude.{Option, Some, None}
 use Rattle.std.proofs.Common.{◌≡◌, ℕ, suc, ◌+◌, ◌-◌, ◌*◌, ◌/◌, ◌%◌, ◌^◌, ◌<◌, ◌≤◌, Bool, true, false, cond, eqb, ltb, leb, List, [], ◌∷◌, length, get_or, drop, sym, refl, ap, ◌∙◌, arith, drop-cons, ltb-false, ltb-true}
 use borrow.Author.Tests.{eqb-false}
-use Rattle.refusals.specs.Numbers.{number_range}
+use Rattle.refusals.specs.declared.Refusal.TheVariants.{NumberRange}
 use Rattle.lineentry.specs.declared.Varint.{Varint}
-use Rattle.lineentry.specs.declared.Varint.TheVariants.{Value, TooLong}
 use Rattle.lineentry.specs.Line.{as_signed}
-use Rattle.lineentry.specs.Varint.{digits, number, cut, varint_within, varint_at, signed_of, signed, signed_at}
+use Rattle.lineentry.specs.Varint.{read_as, digits, number, cut, varint_within, varint_at, signed_of, signed, signed_at}
+use Rattle.lineentry.proofs.Varints.{same-parts}
 use Rattle.varint.specs.Writing.{little_endian, big_endian, big_endian_with_start, signed_code}
-use Rattle.varintread.specs.Reading.{more, whole_at, read_groups, read_varint, read_varint_with_start}
-use Rattle.varintread.specs.declared.Found.{Found}
-use Rattle.varintread.specs.declared.Found.TheVariants.{Number, Nothing, Refused}
+use Rattle.varintread.specs.Reading.{Reading, found, nothing, unread, more, whole_at, read_groups, read_varint, read_varint_with_start}
+use Rattle.std.specs.Prelude.{Ok, Err, Some, None}
 use Rattle.varint.proofs.Groups.{size, size-last, size_mono, size_below}
 use Rattle.varint.proofs.Bytes.{length_little, length_big, length_big_with_start}
 
@@ -21,19 +21,19 @@ either P true x y h k = h
 either P false x y h k = k
 
 -- An answer whose number, written after a place, would end where the reading did or before, but for so many bytes.
-abbrev Within : ℕ → ℕ → Found → Type 0
-Within at over (Number n next) = at + size n ≤ next + over
-Within at over Nothing = Unit {0}
-Within at over (Refused number place) = Unit {0}
+abbrev Within : ℕ → ℕ → Reading → Type 0
+Within at over (Ok (Some f)) = at + size f.value ≤ f.next + over
+Within at over (Ok None) = Unit {0}
+Within at over (Err f) = Unit {0}
 
-within_less : (at over at' over' : ℕ) (r : Found) → at + over' ≤ at' + over → Within at' over' r → Within at over r
-within_less at over at' over' (Number n next) h k = omega arith
-within_less at over at' over' Nothing h k = tt
-within_less at over at' over' (Refused number place) h k = tt
+within_less : (at over at' over' : ℕ) (r : Reading) → at + over' ≤ at' + over → Within at' over' r → Within at over r
+within_less at over at' over' (Ok (Some f)) h k = omega arith
+within_less at over at' over' (Ok None) h k = tt
+within_less at over at' over' (Err f) h k = tt
 
 whole-within : (at over start val next : ℕ) → at + size val ≤ next + over → Within at over (whole_at start val next)
 whole-within at over start val next h =
-    either (Within at over) (ltb val (2 ^ 32)) (Number val next) (Refused number_range start) h tt
+    either (Within at over) (ltb val (2 ^ 32)) (found val next) (unread NumberRange start) h tt
 
 -- each byte read makes room for one group more
 groups-within : (bytes : List ℕ) (at val next : ℕ) → Within next (size val) (read_groups at val next bytes)
@@ -62,18 +62,18 @@ varint_within_lem bytes at = go (ltb at (length bytes)) refl
         (whole-within at 0 at first (at + 1) (omega arith)))
     go false e = rw e tt
 
-pub big_endian-shortest : (bytes : List ℕ) (at n next : ℕ) → read_varint bytes at ≡ Number n next → at + length (big_endian n) ≤ next
+pub big_endian-shortest : (bytes : List ℕ) (at n next : ℕ) → read_varint bytes at ≡ found n next → at + length (big_endian n) ≤ next
 big_endian-shortest bytes at n next h =
-    let w : Within at 0 (Number n next) = rw h at (varint_within_lem bytes at) in
+    let w : Within at 0 (found n next) = rw h at (varint_within_lem bytes at) in
     omega (arith, length_big n)
 
 pub with_start_shortest : (bytes : List ℕ) (at n next : ℕ)
-    → read_varint_with_start bytes at ≡ Number n next → at + length (big_endian_with_start n) ≤ next
+    → read_varint_with_start bytes at ≡ found n next → at + length (big_endian_with_start n) ≤ next
 unfolding read_varint_with_start
 with_start_shortest bytes at n next h =
-    let w : Within at 0 (Number n next) =
+    let w : Within at 0 (found n next) =
     rw h at
-    (either (Within at 0) (leb 0x80 (get_or bytes at 0)) (read_varint bytes at) Nothing (varint_within_lem bytes at) tt)
+    (either (Within at 0) (leb 0x80 (get_or bytes at 0)) (read_varint bytes at) nothing (varint_within_lem bytes at) tt)
     in
     omega (arith, length_big_with_start n)
 
@@ -99,20 +99,18 @@ record Whole (s : List ℕ) (at n next : ℕ) : Type 0 where
   pub after : next ≡ at + length (digits (drop at s))
   pub not_cut : cut (drop at s) ≡ false
 
-read_whole : (s : List ℕ) (at n next : ℕ) → varint_at s at ≡ Value n next false → Whole s at n next
+read_whole : (s : List ℕ) (at n next : ℕ) → varint_at s at ≡ read_as n next false → Whole s at n next
 unfolding varint_within
 read_whole s at n next h = go (leb (length (digits (drop at s))) 6) (ltb (number (digits (drop at s))) (2 ^ 32)) refl refl h
   where
-    none : TooLong ≡ Value n next false → Whole s at n next
+    none : None ≡ read_as n next false → Whole s at n next
     none q = let z : ◌≡◌ {A = ℕ} 0 1 = cc in absurd (omega (arith, z))
 
-    go : (t u : Bool) → leb (length (digits (drop at s))) 6 ≡ t → ltb (number (digits (drop at s))) (2 ^ 32) ≡ u → varint_at s at ≡ Value n next false → Whole s at n next
+    go : (t u : Bool) → leb (length (digits (drop at s))) 6 ≡ t → ltb (number (digits (drop at s))) (2 ^ 32) ≡ u → varint_at s at ≡ read_as n next false → Whole s at n next
     go true true e d k =
-        let q : Value (number (digits (drop at s))) (at + length (digits (drop at s))) (cut (drop at s)) ≡ Value n next false = rw (e, d) at k in
-        let v : number (digits (drop at s)) ≡ n = cc in
-        let p : at + length (digits (drop at s)) ≡ next = cc in
-        let c : cut (drop at s) ≡ false = cc in
-        record { sum = v; in-32 = omega (arith, v, ltb-true (number (digits (drop at s))) (2 ^ 32) d); after = sym p; not_cut = c }
+        let q : read_as (number (digits (drop at s))) (at + length (digits (drop at s))) (cut (drop at s)) ≡ read_as n next false = rw (e, d) at k in
+        let r = same-parts q in
+        record { sum = r.0; in-32 = omega (arith, r.0, ltb-true (number (digits (drop at s))) (2 ^ 32) d); after = sym r.1; not_cut = r.2 }
     go true false e d k = none (rw (e, d) at k)
     go false u e d k = none (rw e at k)
 
@@ -120,7 +118,7 @@ whole-shortest : (s : List ℕ) (at n next m : ℕ) → Whole s at n next → m 
 whole-shortest s at n next m w h =
     omega (arith, w.after, length_little m, digits_hold (drop at s) w.not_cut, size_mono m (number (digits (drop at s))) (omega (arith, w.sum)))
 
-pub little_endian-shortest : (s : List ℕ) (at n next : ℕ) → varint_at s at ≡ Value n next false → at + length (little_endian n) ≤ next
+pub little_endian-shortest : (s : List ℕ) (at n next : ℕ) → varint_at s at ≡ read_as n next false → at + length (little_endian n) ≤ next
 little_endian-shortest s at n next h = whole-shortest s at n next n (read_whole s at n next h) (omega arith)
 
 -- the code of a signed number is the least that stands for it
@@ -137,16 +135,14 @@ code-least code bits fc fb h = go (eqb (code % 2) 0) (ltb bits (2 ^ 31)) refl re
         rw e (omega (arith, ltb-false bits (2 ^ 31) e, eqb-false (code % 2) 0 d))
 
 -- the number of a signed answer, before its lowest bit was taken for the sign
-pub signed-shortest : (s : List ℕ) (at bits next : ℕ) → bits < 2 ^ 32 → signed_at s at ≡ Value (as_signed bits) next false
+pub signed-shortest : (s : List ℕ) (at bits next : ℕ) → bits < 2 ^ 32 → signed_at s at ≡ read_as (as_signed bits) next false
     → at + length (little_endian (signed_code bits)) ≤ next
 unfolding signed_at
 signed-shortest s at bits next f h = go (varint_at s at) refl h
   where
-    go : (v : Varint) → varint_at s at ≡ v → signed v ≡ Value (as_signed bits) next false → at + length (little_endian (signed_code bits)) ≤ next
-    go (Value code p m) e k =
-        let c : signed_of code ≡ as_signed bits = cc in
-        let q : p ≡ next = cc in
-        let o : m ≡ false = cc in
-        let w = read_whole s at code next (e ∙ rw (q, o)) in
-        whole-shortest s at code next (signed_code bits) w (code-least code bits w.in-32 f c)
-    go TooLong e k = let z : ◌≡◌ {A = ℕ} 0 1 = cc in absurd (omega (arith, z))
+    go : (v : Option Varint) → varint_at s at ≡ v → signed v ≡ read_as (as_signed bits) next false → at + length (little_endian (signed_code bits)) ≤ next
+    go (Some v) e k =
+        let r = same-parts k in
+        let w = read_whole s at v.value next (e ∙ rw (r.1, r.2)) in
+        whole-shortest s at v.value next (signed_code bits) w (code-least v.value bits w.in-32 f r.0)
+    go None e k = let z : ◌≡◌ {A = ℕ} 0 1 = cc in absurd (omega (arith, z))

@@ -2,14 +2,15 @@
 -- are left of the count. Assumes nothing.
 use Rattle.std.proofs.Common.{◌≡◌, ℕ, suc, ◌+◌, ◌-◌, ◌/◌, ◌%◌, ◌<◌, ◌≤◌, Bool, true, false, ltb, List, [], ◌∷◌, ◌++◌, length, get_or, set, sym, refl, ap, ◌∙◌, add-zero, add-one, arith, length-append, length-set, get_or-set_other, get_or-set_same, set-set, ltb-false, ltb-true, le-leb}
 use borrow.Author.Tests.{lt-leb}
-use lib.ListN.{length-replicate}
 use lib.Seq.{sets, set_comm}
-use Rattle.refusals.specs.Numbers.{no_room}
+use Rattle.refusals.specs.Faults.{fault}
+use Rattle.refusals.specs.declared.Fault.{Fault}
+use Rattle.refusals.specs.declared.Refusal.TheVariants.{NoRoom}
+use Rattle.std.specs.Prelude.{Result, Ok, Err}
 use Rattle.clearing.specs.Lent.{zeros}
 use Rattle.clearing.proofs.Laws.{sets-padded}
 use Rattle.varint.specs.Writing.{little_endian, big_endian, started, big_endian_with_start}
 use Rattle.varint.specs.Answers.{stored}
-use Rattle.varint.specs.declared.Written.TheVariants.{Done, Refused}
 use Rattle.varint.proofs.Groups.{size, size-last, size_more, size-some}
 use Rattle.varint.proofs.Bytes.{little_last, little_more, ahead, ahead_none, ahead_more, big_last, first_big, length_big}
 
@@ -67,8 +68,10 @@ module _ {out₀ out : List ℕ} {val count i left : ℕ} (k : LittleSoFar out�
   pub little_last_group : count - 1 ≤ i → left < 64
   little_last_group h = one_left left (omega arith)
 
-  pub little_end : count - 1 ≤ i → set out i left ≡ sets out₀ 0 (little_endian val)
-  little_end h = rw (little_last left (little_last_group h)) at k.comes
+  pub little_end : count - 1 ≤ i → set out (count - 1) left ≡ sets out₀ 0 (little_endian val)
+  little_end h =
+      let e : i ≡ count - 1 = omega (arith, size-some left) in
+      rw (little_last left (little_last_group h), e) at k.comes
 
 -- ---- put_varint_be
 
@@ -183,16 +186,14 @@ module _ (out : List ℕ) (at val : ℕ) {left : List ℕ} (put : left ≡ sets 
 
 -- ---- the writers, over a store that is cleared
 
-pub stored_none : (room : ℕ) (bytes out : List ℕ) → out ≡ zeros room → length out < length bytes
-    → (Refused no_room (length out), out) ≡ stored room bytes
+pub stored_none : (room val : ℕ) (bytes : List ℕ) {out : List ℕ} {answer : Result ℕ Fault} {why : Fault} → out ≡ zeros room → answer ≡ Err why
+    → (room < size val) × (why ≡ fault NoRoom room) → length bytes ≡ size val → (answer, out) ≡ stored room bytes
 unfolding stored
-stored_none room bytes out clear h =
-    let e : length out ≡ room = rw clear (length-replicate room 0) in
-    rw (lt-leb (length bytes) room (omega arith), e, clear)
+stored_none room val bytes clear e h l = rw (lt-leb (length bytes) room (omega (arith, l, h.0)), e, h.1, clear)
 
-pub stored_all : (room count : ℕ) (bytes : List ℕ) {out left : List ℕ} → out ≡ zeros room → length bytes ≤ length out
-    → count ≡ length bytes → left ≡ sets out 0 bytes → (Done count, left) ≡ stored room bytes
+pub stored_all : (room val count : ℕ) (bytes : List ℕ) {out left : List ℕ} → out ≡ zeros room → size val ≤ room
+    → count ≡ size val → left ≡ sets out 0 bytes → length bytes ≡ size val → (Ok count, left) ≡ stored room bytes
 unfolding stored
-stored_all room count bytes {out} {left} clear h e put =
-    let l : length out ≡ room = rw clear (length-replicate room 0) in
-    rw (le-leb (length bytes) room (omega arith), put, clear, e, sets-padded room bytes (omega arith))
+stored_all room val count bytes clear h n put l =
+    let e : count ≡ length bytes = n ∙ sym l in
+    rw (le-leb (length bytes) room (omega (arith, l)), put, clear, e, sets-padded room bytes (omega (arith, l)))

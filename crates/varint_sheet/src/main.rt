@@ -3,18 +3,18 @@
 #![tactic(auto)]
 
 use printing::{say, say_bytes, say_number, say_refused};
+use refusals::Fault;
 use std::io::{self, BufWriter, Write};
-use varint::Written;
-use varintread::Found;
+use varintread::{Found, Unread};
 
-fn say_written(writer: &mut impl Write, answer: Written, out: &[u8]) -> io::Result<()> {
+fn say_written(writer: &mut impl Write, answer: Result<u32, Fault>, out: &[u8]) -> io::Result<()> {
     match answer {
-        Written::Done(count) => {
+        Ok(count) => {
             say(writer, b"written ")?;
             say_number(writer, count as u64)?;
         }
-        Written::Refused(number, place) => {
-            say_refused(writer, number, place)?;
+        Err(fault) => {
+            say_refused(writer, fault.refusal.number(), fault.place)?;
         }
     }
     say(writer, b", store")?;
@@ -22,23 +22,23 @@ fn say_written(writer: &mut impl Write, answer: Written, out: &[u8]) -> io::Resu
     say(writer, b"\n")
 }
 
-fn say_found(writer: &mut impl Write, answer: Found) -> io::Result<()> {
+fn say_found(writer: &mut impl Write, answer: Result<Option<Found>, Unread>) -> io::Result<()> {
     match answer {
-        Found::Number { value, next } => {
+        Ok(Some(Found { value, next })) => {
             say(writer, b"value ")?;
             say_number(writer, value as u64)?;
             say(writer, b", next ")?;
             say_number(writer, next as u64)?;
             say(writer, b"\n")?;
         }
-        Found::Nothing => {
+        Ok(None) => {
             say(writer, b"none\n")?;
         }
-        Found::Refused { number, place } => {
+        Err(unread) => {
             say(writer, b"refused ")?;
-            say_number(writer, number as u64)?;
+            say_number(writer, unread.refusal.number() as u64)?;
             say(writer, b" at ")?;
-            say_number(writer, place as u64)?;
+            say_number(writer, unread.place as u64)?;
             say(writer, b"\n")?;
         }
     }

@@ -10,9 +10,8 @@ use borrow.Author.Tests.{eq-eqb, ne_eqb, lt-ltb, le-ltb, ltb-true, ltb-false}
 use lib.Dec.{ltb}
 use lib.ListN.{length, drop, get_or, drop_of_length-le}
 use lib.Seq.{drop-cons}
-use Rattle.refusals.specs.Numbers.{data_too_short}
-use Rattle.varintread.specs.Reading.{whole_at, read_groups, read_varint}
-use Rattle.varintread.specs.declared.Found.TheVariants.{Refused}
+use Rattle.refusals.specs.declared.Refusal.TheVariants.{DataTooShort}
+use Rattle.varintread.specs.Reading.{unread, whole_at, read_groups, read_varint}
 
 -- a number that is too large stays so, and how large it is does not show
 too_large : (bytes : List ℕ) (at a b next : ℕ) → 2 ^ 32 ≤ a → 2 ^ 32 ≤ b → read_groups at a next bytes ≡ read_groups at b next bytes
@@ -89,6 +88,6 @@ module _ {bytes : List ℕ} {at val next : ℕ} (k : ReadSoFar bytes at val next
       (rw (drop-cons bytes next 0 h, ne_eqb (b / 0x40 % 2) 1 (λ z. omega arith)) at k.comes)
 
   -- nothing left: the number is cut
-  pub read-cut : length bytes ≤ next → Refused data_too_short at ≡ read_varint bytes at
+  pub read-cut : length bytes ≤ next → unread DataTooShort at ≡ read_varint bytes at
   unfolding read_groups
   read-cut h = rw (drop_of_length-le bytes {i = next} h) at k.comes

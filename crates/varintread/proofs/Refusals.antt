@@ -9,22 +9,22 @@ use native.Mathlib.Omega.{arith}
 use borrow.Author.Tests.{ltb-true, lt-ltb}
 use lib.Dec.{ltb, leb}
 use lib.ListN.{length, get_or, drop, length-drop}
-use Rattle.refusals.specs.Numbers.{accepted, data_too_short, number_range}
-use Rattle.varintread.specs.Reading.{more, whole_at, read_groups, read_varint, read_varint_with_start}
+use Rattle.refusals.specs.Numbers.{accepted}
+use Rattle.refusals.specs.declared.Refusal.TheVariants.{DataTooShort, NumberRange}
+use Rattle.varintread.specs.Reading.{Reading, unread, nothing, more, whole_at, read_groups, read_varint, read_varint_with_start}
 use Rattle.varintread.specs.Reading.{FoundNumbers, found_numbers}
-use Rattle.varintread.specs.declared.Found.{Found}
-use Rattle.varintread.specs.declared.Found.TheVariants.{Number, Nothing, Refused}
+use Rattle.std.specs.Prelude.{Ok, Err, Some, None}
 
 -- A number of 32 bits that ends behind a place, within so many bytes; nothing; or one of two refusals, at the number's start.
-abbrev pub Told : ℕ → ℕ → ℕ → Found → Type 0
-Told count at from (Number value next) = (value < 2 ^ 32) × (from < next) × (next ≤ count)
-Told count at from Nothing = Unit {0}
-Told count at from (Refused number place) = (place ≡ at) × ((number ≡ data_too_short) ⊎ (number ≡ number_range))
+abbrev pub Told : ℕ → ℕ → ℕ → Reading → Type 0
+Told count at from (Ok (Some f)) = (f.value < 2 ^ 32) × (from < f.next) × (f.next ≤ count)
+Told count at from (Ok None) = Unit {0}
+Told count at from (Err f) = (f.place ≡ at) × ((f.refusal ≡ DataTooShort) ⊎ (f.refusal ≡ NumberRange))
 
-told_later : (count at from : ℕ) (r : Found) → Told count at (from + 1) r → Told count at from r
-told_later count at from (Number value next) h = (h.0, omega arith, h.2)
-told_later count at from Nothing h = tt
-told_later count at from (Refused number place) h = h
+told_later : (count at from : ℕ) (r : Reading) → Told count at (from + 1) r → Told count at from r
+told_later count at from (Ok (Some f)) h = (h.0, omega arith, h.2)
+told_later count at from (Ok None) h = tt
+told_later count at from (Err f) h = h
 
 either : {A : Type 0} (P : A → Type 0) (t : Bool) (x y : A) → P x → P y → P (cond t x y)
 either P true x y h k = h
@@ -59,7 +59,7 @@ varint_told bytes at = go (ltb at (length bytes)) refl
 pub with_start_told : (bytes : List ℕ) (at : ℕ) → Told (length bytes) at at (read_varint_with_start bytes at)
 unfolding read_varint_with_start
 with_start_told bytes at =
-    either (Told (length bytes) at at) (leb 0x80 (get_or bytes at 0)) (read_varint bytes at) Nothing (varint_told bytes at) tt
+    either (Told (length bytes) at at) (leb 0x80 (get_or bytes at 0)) (read_varint bytes at) nothing (varint_told bytes at) tt
 
 -- An answer's numbers say one of three things, and no two of them: none and found differ in `found`, a refusal from both in `refusal`.
 abbrev pub Says : ℕ → FoundNumbers → Type 0
@@ -68,10 +68,10 @@ Says at x =
     ⊎ (((x.refusal ≡ accepted) × (x.found ≡ 1) × (at < x.next))
     ⊎ ((accepted < x.refusal) × (x.found ≡ 0) × (x.place ≡ at) × (x.next ≡ at)))
 
-says : (count at : ℕ) (r : Found) → Told count at at r → Says at (found_numbers at r)
-says count at (Number value next) h = inr (inl (refl, refl, h.1))
-says count at Nothing h = inl (refl, refl, refl)
-says count at (Refused number place) h = inr (inr (⊎_elim (λ e. omega (arith, e)) (λ e. omega (arith, e)) h.1, refl, h.0, refl))
+says : (count at : ℕ) (r : Reading) → Told count at at r → Says at (found_numbers at r)
+says count at (Ok (Some f)) h = inr (inl (refl, refl, h.1))
+says count at (Ok None) h = inl (refl, refl, refl)
+says count at (Err f) h = inr (inr (⊎_elim (λ e. rw e (omega arith)) (λ e. rw e (omega arith)) h.1, refl, h.0, refl))
 
 pub varint_says : (bytes : List ℕ) (at : ℕ) → Says at (found_numbers at (read_varint bytes at))
 varint_says bytes at = says (length bytes) at (read_varint bytes at) (varint_told bytes at)
@@ -84,12 +84,12 @@ abbrev pub EveryMore : List ℕ → Type 0
 EveryMore [] = Unit {0}
 EveryMore (b ∷ bytes) = (more b ≡ true) × EveryMore bytes
 
-groups-cut : (bytes : List ℕ) (at val next : ℕ) → EveryMore bytes → read_groups at val next bytes ≡ Refused data_too_short at
+groups-cut : (bytes : List ℕ) (at val next : ℕ) → EveryMore bytes → read_groups at val next bytes ≡ unread DataTooShort at
 unfolding read_groups
 groups-cut [] at val next h = refl
 groups-cut (b ∷ bytes) at val next h = rw h.0 (groups-cut bytes at (val * 64 + b % 64) (next + 1) h.1)
 
-pub cut-refused : (bytes : List ℕ) (at : ℕ) → at < length bytes → EveryMore (drop at bytes) → read_varint bytes at ≡ Refused data_too_short at
+pub cut-refused : (bytes : List ℕ) (at : ℕ) → at < length bytes → EveryMore (drop at bytes) → read_varint bytes at ≡ unread DataTooShort at
 unfolding read_varint
 cut-refused bytes at h k = rw (lt-ltb at (length bytes) h) (groups-cut (drop at bytes) at 0 at k)
 

@@ -6,12 +6,20 @@ use Rattle.std.proofs.Math.Option.{some}
 use Rattle.grammar.specs.State.{node_at, entry_at}
 use Rattle.grammar.specs.Steps.{Rule, rules, code_parts, as_names}
 use Rattle.grammar.specs.Record.{Tables, tables_of, holds, faulty, look, chain, node_of, whole, suited, bad_part}
-use Rattle.chains.specs.Chained.{is_none}
-use Rattle.writecheck.specs.declared.Used.{Used}
+use Rattle.chains.specs.Chained.{is_none, string_at}
+use Rattle.writecheck.specs.declared.lending.Used.{Used}
+use Rattle.writecheck.specs.declared.lending.Lent.{Lent}
 
 -- the stores that are lent
 abbrev pub lent : (input nodes entries : List ℕ) → Used → Tables
 lent input nodes entries used = tables_of input nodes entries used.nodes used.entries
+
+-- the same of what the code hands on as one, and whether a node of it is a sound string
+abbrev pub lent_of : Lent → Tables
+lent_of l = lent l.input.now l.nodes.now l.entries.now l.used
+
+abbrev pub StringAt : Lent → ℕ → Type 0
+StringAt l v = string_at l.input.now l.nodes.now l.used.nodes v ≡ true
 
 -- a part of a code is what a rule asks
 abbrev pub fits : Tables → Rule → ℕ → Bool

@@ -1,5 +1,5 @@
 -- A row of children of which the leaves are written first: what is left of it is still to come. Assumes nothing.
-use mathlib.Core.Path.{◌≡◌, sym, ap, subst, ◌∙◌}
+use mathlib.Core.Path.{◌≡◌, refl, sym, ap, subst, ◌∙◌}
 use Prim.Native.Nat.{ℕ, ◌-◌, ◌≤◌}
 use native.Mathlib.Omega.{arith}
 use mathlib.Core.Bool.{true}
@@ -8,7 +8,6 @@ use lib.ListN.{length, take}
 use Rattle.grammar.specs.Record.{Tables, chain}
 use Rattle.writing.specs.Writing.{Writing, each, into}
 use Rattle.writing.specs.Steps.{writing}
-use Rattle.output.specs.declared.Wrote.TheVariants as wrote
 use Rattle.output.specs.Puts.{Puts}
 use Rattle.writecheck.specs.declared.Used.{Used}
 use Rattle.chains.specs.Chained.{is_some}
@@ -16,13 +15,12 @@ use Rattle.writecheck.specs.Looking.{lent}
 use Rattle.cellnames.specs.Groups.{or_none}
 use Rattle.cellnames.proofs.Groups.{some_of}
 use Rattle.writeleaves.specs.declared.Rowed.{Rowed}
-use Rattle.writeleaves.specs.declared.Rowed.TheVariants as rowed
 use Rattle.underway.specs.Onward.{Onward}
 use Rattle.underway.specs.Rows.{kids_from}
-use Rattle.writeleaves.specs.declared.Led.{Led}
-use Rattle.writeleaves.specs.declared.Led.TheVariants as led
-use Rattle.writeleaves.specs.Leaves.{LeadAs, Leads, row_from, RowAs, Rows}
+use Rattle.writeleaves.specs.Leaves.{Led, LeadAs, Leads, row_from, RowAs, Rows}
 use Rattle.underway.proofs.Under.{start, left_as, later, last, Rowing}
+use Rattle.std.specs.Prelude.{None, Some, Result, Ok, Err}
+use Rattle.refusals.specs.declared.Fault.{Fault}
 
 -- a writing that goes on from where another stands
 pub onward_on : {o₀ o o' : List ℕ} {at p p' : ℕ} {w₀ w w' : Writing} → Onward o₀ at w₀ o p w → Onward o p w o' p' w' → Onward o₀ at w₀ o' p' w'
@@ -49,34 +47,42 @@ module _ (t : Tables) (a count : ℕ) where
       (left_as k.way (ap (each (writing a t)) (sym (ap or_none k.chained))), ap is_some k.chained)
 
   -- the leaves of what is left, written
-  pub row_led : {o₀ o o' : List ℕ} {at : ℕ} {w₀ : Writing} {i e p : ℕ} {r : Rowed} {e' i' p' : ℕ} → Rowing t (writing a t) (λ vs. Unit) count o₀ at w₀ o i e p
-      → Rows t a count e i p o r o' → r ≡ rowed.On e' i' p' → Rowing t (writing a t) (λ vs. Unit) count o₀ at w₀ o' i' e' p'
-  row_led {o = o} {o' = o'} {i = i} {e = e} {p = p} {e' = e'} {i' = i'} k rows is =
+  pub row_led : {o₀ o o' : List ℕ} {at : ℕ} {w₀ : Writing} {i e p : ℕ} {r : Result Rowed Fault} {row : Rowed} → Rowing t (writing a t) (λ vs. Unit) count o₀ at w₀ o i e p
+      → Rows t a count e i p o r o' → r ≡ Ok row
+      → Rowing t (writing a t) (λ vs. Unit) count o₀ at w₀ o' row.done row.entry row.at
+  row_led {o = o} {o' = o'} {i = i} {e = e} {p = p} {row = row} k rows is =
       let told = subst (λ x. RowAs t a count e i p o x o') is rows.stands in
       record {
         within = told.3;
-        rest = kids_from t (count - i') e';
-        chained = some_of (chain t (count - i') e') told.1;
+        rest = kids_from t (count - row.done) row.entry;
+        chained = some_of (chain t (count - row.done) row.entry) told.1;
         fine = tt;
         way = onward_on (row_left k).0 told.0;
       }
 
-  pub row-ahead : {o o' : List ℕ} {i e p : ℕ} {r : Rowed} {e' i' p' : ℕ} → Rows t a count e i p o r o' → r ≡ rowed.On e' i' p' → i ≤ i'
+  pub row-ahead : {o o' : List ℕ} {i e p : ℕ} {r : Result Rowed Fault} {row : Rowed} → Rows t a count e i p o r o' → r ≡ Ok row → i ≤ row.done
   row-ahead {o = o} {o' = o'} {i = i} {e = e} {p = p} rows is = (subst (λ x. RowAs t a count e i p o x o') is rows.stands).2
 
-  pub row_led_refused : {o₀ o o' : List ℕ} {at : ℕ} {w₀ : Writing} {i e p : ℕ} {r : Rowed} {number place : ℕ} → Rowing t (writing a t) (λ vs. Unit) count o₀ at w₀ o i e p
-      → Rows t a count e i p o r o' → r ≡ rowed.Refused number place → Puts w₀ at o₀ (wrote.Refused number place) o'
+  pub row_led_refused : {o₀ o o' : List ℕ} {at : ℕ} {w₀ : Writing} {i e p : ℕ} {r : Result Rowed Fault} {stop : Fault} → Rowing t (writing a t) (λ vs. Unit) count o₀ at w₀ o i e p
+      → Rows t a count e i p o r o' → r ≡ Err stop → Puts w₀ at o₀ (Err stop) o'
   row_led_refused {o = o} {o' = o'} {i = i} {e = e} {p = p} k rows is = last (row_left k).0 (subst (λ x. RowAs t a count e i p o x o') is rows.stands)
 
   -- what is done of a row, told as its answer
   pub rows_on : {o₀ o o' : List ℕ} {at first done i e p : ℕ} → Rowing t (writing a t) (λ vs. Unit) count o₀ at (row_from t a count first done) o i e p → done ≤ i
-      → o' ≡ o → Rows t a count first done at o₀ (rowed.On e i p) o'
+      → o' ≡ o → Rows t a count first done at o₀ (Ok (record { entry = e; done = i; at = p })) o'
   rows_on {o₀} {at = at} {first = first} {done = done} {i = i} {e = e} {p = p} k h is =
       let left = row_left (subst (λ x. Rowing t (writing a t) (λ vs. Unit) count o₀ at (row_from t a count first done) x i e p) (sym is) k) in
       record { same = left.0.same; stands = (left.0, left.1, h, k.within) }
 
-  pub rows-refused : {o₀ o' : List ℕ} {at first done number place : ℕ} → Puts (row_from t a count first done) at o₀ (wrote.Refused number place) o'
-      → Rows t a count first done at o₀ (rowed.Refused number place) o'
+  -- the same at its end
+  pub rows_all : {o₀ o : List ℕ} {at first done i e p : ℕ} → Rowing t (writing a t) (λ vs. Unit) count o₀ at (row_from t a count first done) o i e p → count ≤ i → done ≤ count
+      → Rows t a count first done at o₀ (Ok (record { entry = e; done = count; at = p })) o
+  rows_all {o₀} {o} {at} {first} {done} {i} {e} {p} k h l =
+      let is : i ≡ count = omega (arith, k.within) in
+      rows_on (subst (λ n. Rowing t (writing a t) (λ vs. Unit) count o₀ at (row_from t a count first done) o n e p) is k) l refl
+
+  pub rows-refused : {o₀ o' : List ℕ} {at first done : ℕ} {stop : Fault} → Puts (row_from t a count first done) at o₀ (Err stop) o'
+      → Rows t a count first done at o₀ (Err stop) o'
   rows-refused put = record { same = put.same; stands = put }
 
 -- a leaf's answer, case by case
@@ -84,11 +90,11 @@ module _ {s nodes : List ℕ} (entries : List ℕ) {used : Used} {a n at : ℕ} 
   told : {r' : Led} → r ≡ r' → LeadAs (lent s nodes entries used) a n at o r' o'
   told e = subst (λ x. LeadAs (lent s nodes entries used) a n at o x o') e (k.tells entries)
 
-  pub led_on : {p : ℕ} → r ≡ led.On p → Puts (writing a (lent s nodes entries used) n) at o (wrote.Done p) o'
+  pub led_on : {p : ℕ} → r ≡ Ok (Some p) → Puts (writing a (lent s nodes entries used) n) at o (Ok p) o'
   led_on e = told e
 
-  pub led_refused : {number place : ℕ} → r ≡ led.Refused number place → Puts (writing a (lent s nodes entries used) n) at o (wrote.Refused number place) o'
+  pub led_refused : {stop : Fault} → r ≡ Err stop → Puts (writing a (lent s nodes entries used) n) at o (Err stop) o'
   led_refused e = told e
 
-  pub led_left : r ≡ led.Left → o' ≡ o
+  pub led_left : r ≡ Ok None → o' ≡ o
   led_left e = told e

@@ -16,15 +16,15 @@ use Rattle.writing.specs.Writing.{Writing, ended, refused, emit, each, into}
 use Rattle.writing.specs.Canonical.{bytes32}
 use Rattle.writing.specs.Names.{contents_of, in_groups}
 use Rattle.writing.specs.Steps.{string_part, names_part, kids_of}
-use Rattle.output.specs.declared.Wrote.{Wrote}
-use Rattle.output.specs.declared.Wrote.TheVariants as wrote
-use Rattle.output.specs.Puts.{Puts}
+use Rattle.grammar.specs.Numbered.{numbered}
+use Rattle.output.specs.Puts.{Wrote, Puts}
 use Rattle.writenames.specs.declared.Grouped.{Grouped}
-use Rattle.writenames.specs.declared.Grouped.TheVariants as grouped
 use Rattle.writenames.specs.Names.{Localed}
 use Rattle.writenames.specs.Groups.{wrote_of, Groups}
 use Rattle.underway.proofs.Under.{later, puts_equal, puts-told}
 use Rattle.writenames.proofs.Naming.{in_locals, locals_part_lem, counted_as}
+use Rattle.std.specs.Prelude.{Result, Ok, Err}
+use Rattle.refusals.specs.declared.Fault.{Fault}
 
 -- What a writing comes to behind so many bytes, without them.
 
@@ -80,19 +80,19 @@ stored xs ys letter old new {at} {o} n e =
     ∙ ap (λ front. front ++ ys) (append_assoc xs (letter ∷ []) (bytes32 new))
 
 -- A head that has no room, whatever number it has.
-pub head_refused : (w : Writing) (letter old new : ℕ) {at number place : ℕ} {o o' : List ℕ} → Puts (emit (letter ∷ bytes32 old) ended) at o (wrote.Refused number place) o'
-    → Puts (emit (letter ∷ bytes32 new) w) at o (wrote.Refused number place) o'
+pub head_refused : (w : Writing) (letter old new : ℕ) {at : ℕ} {stop : Fault} {o o' : List ℕ} → Puts (emit (letter ∷ bytes32 old) ended) at o (Err stop) o'
+    → Puts (emit (letter ∷ bytes32 new) w) at o (Err stop) o'
 unfolding into
-head_refused w letter old new {at} {number} {place} {o} k =
+head_refused w letter old new {at} {stop} {o} k =
     record { same = k.same; exact = go (leb (length (take at o) + 5) (length o)) k.exact }
   where
-    go : (b : Bool) → cond b (gives (take at o ++ (letter ∷ bytes32 old))) (stops no_room (length o)) ≡ stops number place
-        → cond b (into (length o) (take at o ++ (letter ∷ bytes32 new)) w) (stops no_room (length o)) ≡ stops number place
+    go : (b : Bool) → cond b (gives (take at o ++ (letter ∷ bytes32 old))) (stops no_room (length o)) ≡ numbered (Err stop)
+        → cond b (into (length o) (take at o ++ (letter ∷ bytes32 new)) w) (stops no_room (length o)) ≡ numbered (Err stop)
     go true e = let z : ◌≡◌ {A = ℕ} 0 1 = cc in absurd (omega arith)
     go false e = e
 
 -- A head that is put with one number, and what comes behind it: with another number it comes to the same there.
-module _ (w : Writing) (letter old new : ℕ) {at a : ℕ} {o₀ o₁ : List ℕ} (head : Puts (emit (letter ∷ bytes32 old) ended) at o₀ (wrote.Done a) o₁)
+module _ (w : Writing) (letter old new : ℕ) {at a : ℕ} {o₀ o₁ : List ℕ} (head : Puts (emit (letter ∷ bytes32 old) ended) at o₀ (Ok a) o₁)
     (inside : at ≤ length o₀) where
   abbrev front : ℕ → List ℕ
   front x = take at o₀ ++ (letter ∷ bytes32 x)
@@ -124,12 +124,12 @@ module _ (w : Writing) (letter old new : ℕ) {at a : ℕ} {o₀ o₁ : List ℕ
   comes = ap (λ b. cond b (into (length o₀) (front new) w) (stops no_room (length o₀))) fits.0 ∙ front_rest new
 
   module _ {o₂ : List ℕ} where
-    pub behind-refused : {number place : ℕ} → Puts w a o₁ (wrote.Refused number place) o₂ → Puts (emit (letter ∷ bytes32 new) w) at o₀ (wrote.Refused number place) o₂
+    pub behind-refused : {stop : Fault} → Puts w a o₁ (Err stop) o₂ → Puts (emit (letter ∷ bytes32 new) w) at o₀ (Err stop) o₂
     behind-refused k =
         record { same = k.same ∙ head.same; exact = comes ∙ ap (onto (front new)) (onto_stops (front old) rest (sym was ∙ k.exact)) }
 
-    pub behind-done : {b : ℕ} {o₃ : List ℕ} → Puts w a o₁ (wrote.Done b) o₂ → o₃ ≡ sets o₂ (at + 1) (bytes32 new)
-        → Puts (emit (letter ∷ bytes32 new) w) at o₀ (wrote.Done b) o₃
+    pub behind-done : {b : ℕ} {o₃ : List ℕ} → Puts w a o₁ (Ok b) o₂ → o₃ ≡ sets o₂ (at + 1) (bytes32 new)
+        → Puts (emit (letter ∷ bytes32 new) w) at o₀ (Ok b) o₃
     behind-done {b} {o₃} k e =
         let d = onto_gives (front old) rest (sym was ∙ k.exact.0) in
         let more = d.0 in
@@ -169,18 +169,18 @@ module _ (t : Tables) (a kinds v : ℕ) {count first place at : ℕ} {o₀ o₁ 
   tuple_as : {many : ℕ} → many ≡ length names → tuple ≡ emit (0x28 ∷ bytes32 many) each_name
   tuple_as {many} e = locals_part_lem t a kinds v many some local counts firsts places e
 
-  pub locals-refused : {number place : ℕ} → r ≡ wrote.Refused number place → Puts tuple at o₀ (wrote.Refused number place) o₁
+  pub locals-refused : {stop : Fault} → r ≡ Err stop → Puts tuple at o₀ (Err stop) o₁
   locals-refused is = puts_equal (head_refused each_name 0x28 0 (length names) (puts-told head is)) (tuple_as refl)
 
-  module _ {p : ℕ} (is : r ≡ wrote.Done p) (inside : at ≤ length o₀) {o₂ : List ℕ} {r' : Grouped} (groups : Groups (string_part t (a - 1)) names 0 p o₁ r' o₂) where
-    pub locals-stopped : {number place : ℕ} → r' ≡ grouped.Refused number place → Puts tuple at o₀ (wrote.Refused number place) o₂
+  module _ {p : ℕ} (is : r ≡ Ok p) (inside : at ≤ length o₀) {o₂ : List ℕ} {r' : Result Grouped Fault} (groups : Groups (string_part t (a - 1)) names 0 p o₁ r' o₂) where
+    pub locals-stopped : {stop : Fault} → r' ≡ Err stop → Puts tuple at o₀ (Err stop) o₂
     locals-stopped is' =
         puts_equal (behind-refused each_name 0x28 0 (length names) (puts-told head is) inside (puts-told groups.puts (ap wrote_of is'))) (tuple_as refl)
 
-    pub locals-done : {b n : ℕ} {o₃ : List ℕ} → r' ≡ grouped.Done b n → o₃ ≡ sets o₂ (at + 1) (bytes32 n) → Puts tuple at o₀ (wrote.Done b) o₃
-    locals-done {b} {n} is' e =
-        let m : n ≡ length names = omega (arith, counted_as groups.count is') in
-        puts_equal (behind-done each_name 0x28 0 n (puts-told head is) inside (puts-told groups.puts (ap wrote_of is')) e) (tuple_as m)
+    pub locals-done : {end : Grouped} {o₃ : List ℕ} → r' ≡ Ok end → o₃ ≡ sets o₂ (at + 1) (bytes32 end.counted) → Puts tuple at o₀ (Ok end.at) o₃
+    locals-done {end} is' e =
+        let m : end.counted ≡ length names = omega (arith, counted_as groups.count is') in
+        puts_equal (behind-done each_name 0x28 0 end.counted (puts-told head is) inside (puts-told groups.puts (ap wrote_of is')) e) (tuple_as m)
 
     pub locals-room : at + 5 ≤ length o₂
     locals-room = omega (arith, head_room each_name 0x28 0 0 (puts-told head is) inside, groups.puts.same, head.same)

@@ -7,7 +7,8 @@ use mathlib.Core.Option.{Option, none, some}
 use mathlib.Core.List.{List, ◌∷◌, ◌++◌}
 use lib.ListN.{length, get_or, take, drop, length-append}
 use lib.Seq.{slice}
-use Rattle.refusals.specs.Numbers.{too_deep}
+use Rattle.refusals.specs.Faults.{fault}
+use Rattle.refusals.specs.declared.Refusal.TheVariants.{TooDeep}
 use Rattle.localsplus.specs.Kind.{local_bit, cell_bit, free_bit}
 use Rattle.grammar.specs.Reading.{Answer}
 use Rattle.grammar.specs.Letters.{is_tuple}
@@ -22,9 +23,7 @@ use Rattle.writing.specs.Steps.{levelled, string_part, names_part, some_of, kids
 use Rattle.grammar.proofs.Tests.{never, none-some, same_some}
 use Rattle.grammar.proofs.Passed.{whole-some, chain_length, first_string}
 use Rattle.writing.proofs.Into.{each_append}
-use Rattle.output.specs.declared.Wrote.{Wrote}
-use Rattle.output.specs.declared.Wrote.TheVariants as wrote
-use Rattle.output.specs.Puts.{Open, Puts}
+use Rattle.output.specs.Puts.{Wrote, Open, Puts}
 use Rattle.cellnames.specs.declared.Locals.{Locals}
 use Rattle.chains.specs.Chained.{is_some, string_at}
 use Rattle.writecheck.specs.Looking.{Held}
@@ -36,14 +35,16 @@ use Rattle.underway.specs.Rows.{kids_from}
 use Rattle.writenames.specs.Names.{Localed}
 use Rattle.writenames.specs.Groups.{wrote_of, CountedTo, Groups}
 use Rattle.writenames.specs.declared.Grouped.{Grouped}
-use Rattle.writenames.specs.declared.Grouped.TheVariants as grouped
 use Rattle.underway.proofs.Under.{start, left_as, done, refused_in, written_in, puts_equal, puts_open, last}
+use Rattle.std.specs.Int.{from_bool}
+use Rattle.std.specs.Prelude.{Result, Ok, Err}
+use Rattle.refusals.specs.declared.Fault.{Fault}
 
 -- A level.
 
-pub no_level : (a n : ℕ) (w : Writing) {o : List ℕ} {at : ℕ} → a ≡ 0 → Puts (levelled a n w) at o (wrote.Refused too_deep n) o
+pub no_level : (a n : ℕ) (w : Writing) {o : List ℕ} {at : ℕ} → a ≡ 0 → {stop : Fault} → stop ≡ fault TooDeep n → Puts (levelled a n w) at o (Err stop) o
 unfolding into
-no_level a n w {o} {at} e = rw e (record { same = refl; exact = refl })
+no_level a n w {o} {at} e is = rw (e, is) (record { same = refl; exact = refl })
 
 pub level : (a n : ℕ) (w : Writing) → 0 < a → levelled a n w ≡ w
 level zero n w h = absurd (omega arith)
@@ -146,32 +147,32 @@ locals_part_lem t a kinds v many {count} {first} {place} h k ec ef ep em =
 
 -- Names that are written and counted.
 
-pub counted_as : {r : Grouped} {many a n : ℕ} → CountedTo many r → r ≡ grouped.Done a n → n ≡ many
+pub counted_as : {r : Result Grouped Fault} {many : ℕ} {names : Grouped} → CountedTo many r → r ≡ Ok names → names.counted ≡ many
 counted_as k e = rw e at k
 
-module _ (f : ℕ → Writing) (xs : List ℕ) {counted at : ℕ} {o₀ o₁ : List ℕ} {r : Grouped} (k : Groups f xs counted at o₀ r o₁) (h : Open at o₀) where
+module _ (f : ℕ → Writing) (xs : List ℕ) {counted at : ℕ} {o₀ o₁ : List ℕ} {r : Result Grouped Fault} (k : Groups f xs counted at o₀ r o₁) (h : Open at o₀) where
   behind : (ys : List ℕ) → Onward o₀ at (each f (xs ++ ys)) o₀ at (then (each f xs) (each f ys))
   behind ys = left_as (start h.inside) (each_append f xs ys)
 
   -- refused, they are so with others behind them
-  pub groups-refused : (ys : List ℕ) {number place : ℕ} → r ≡ grouped.Refused number place → Groups f (xs ++ ys) counted at o₀ (grouped.Refused number place) o₁
+  pub groups-refused : (ys : List ℕ) {stop : Fault} → r ≡ Err stop → Groups f (xs ++ ys) counted at o₀ (Err stop) o₁
   groups-refused ys is = record { puts = refused_in (each f ys) (behind ys) k.puts (ap wrote_of is); count = tt }
 
-  module _ {a n : ℕ} (is : r ≡ grouped.Done a n) where
+  module _ {names : Grouped} (is : r ≡ Ok names) where
     -- done, the output can be written on, and others can come behind them
-    pub groups_open : Open a o₁
+    pub groups_open : Open names.at o₁
     groups_open = puts_open h k.puts (ap wrote_of is)
 
-    pub groups-count : n ≡ counted + length xs
+    pub groups-count : names.counted ≡ counted + length xs
     groups-count = counted_as k.count is
 
-    pub groups-then : (ys : List ℕ) {r' : Grouped} {o₂ : List ℕ} → Groups f ys n a o₁ r' o₂ → Groups f (xs ++ ys) counted at o₀ r' o₂
+    pub groups-then : (ys : List ℕ) {r' : Result Grouped Fault} {o₂ : List ℕ} → Groups f ys names.counted names.at o₁ r' o₂ → Groups f (xs ++ ys) counted at o₀ r' o₂
     groups-then ys {r'} k' =
-        let e : n + length ys ≡ counted + length (xs ++ ys) = omega (arith, groups-count, length-append xs ys) in
+        let e : names.counted + length ys ≡ counted + length (xs ++ ys) = omega (arith, groups-count, length-append xs ys) in
         record { puts = last (written_in (behind ys) k.puts (ap wrote_of is)) k'.puts; count = subst (λ m. CountedTo m r') e k'.count }
 
 -- the three groups are those of the local names
-pub groups_all : (t : Tables) (l : Locals) (f : ℕ → Writing) {counted at : ℕ} {o o' : List ℕ} {r : Grouped}
+pub groups_all : (t : Tables) (l : Locals) (f : ℕ → Writing) {counted at : ℕ} {o o' : List ℕ} {r : Result Grouped Fault}
     → Groups f (group_in t l local_bit ++ group_in t l cell_bit ++ group_in t l free_bit) counted at o r o' → Groups f (in_locals t l) counted at o r o'
 groups_all t l f {counted} {at} {o} {o'} {r} k = subst (λ ns. Groups f ns counted at o r o') (sym (groups_are t l)) k
 
@@ -236,11 +237,11 @@ module _ (t : Tables) (l : Locals) (bit : ℕ) (f : ℕ → Writing) (counted : 
               ∙ ap (λ z. z.0) x.comes;
         }
 
-    pub member-refused : {o' : List ℕ} {r : Wrote} {number place : ℕ} → Puts (cond b (f v) ended) p o r o' → r ≡ wrote.Refused number place
-        → Groups f (group_in t l bit) counted at o₀ (grouped.Refused number place) o'
+    pub member-refused : {o' : List ℕ} {r : Wrote} {stop : Fault} → Puts (cond b (f v) ended) p o r o' → r ≡ Err stop
+        → Groups f (group_in t l bit) counted at o₀ (Err stop) o'
     member-refused put is = record { puts = refused_in (each f (group later x.rest)) turned put is; count = tt }
 
-    pub member_more : {o' : List ℕ} {r : Wrote} {a e' m : ℕ} → Puts (cond b (f v) ended) p o r o' → r ≡ wrote.Done a → (m ≡ cond b 1 0) × (m ≤ 1) → i < l.count
+    pub member_more : {o' : List ℕ} {r : Wrote} {a e' m : ℕ} → Puts (cond b (f v) ended) p o r o' → r ≡ Ok a → (m ≡ cond b 1 0) × (m ≤ 1) → i < l.count
         → e' ≡ (entry_at t.entries e).next → Grouping o' (i + 1) e' a (n + m)
     unfolding group_from
     member_more {o'} {r} {a} {e'} {m} put is one h on =
@@ -258,7 +259,7 @@ module _ (t : Tables) (l : Locals) (bit : ℕ) (f : ℕ → Writing) (counted : 
           way = along_on t l (comes_to o p n) (comes_to o' a (n + m)) x h on (λ j. (Wrote-so j, counted_so j));
         }
 
-  pub grouping_all : {o : List ℕ} {i e p n : ℕ} → Grouping o i e p n → l.count ≤ i → Groups f (group_in t l bit) counted at o₀ (grouped.Done p n) o
+  pub grouping_all : {o : List ℕ} {i e p n : ℕ} → Grouping o i e p n → l.count ≤ i → Groups f (group_in t l bit) counted at o₀ (Ok (record { at = p; counted = n })) o
   unfolding group_from each
   grouping_all {o} {i} {e} {p} {n} g h =
       let z = along_end t l (comes_to o p n) g.way h in
@@ -268,9 +269,14 @@ module _ (t : Tables) (l : Locals) (bit : ℕ) (f : ℕ → Writing) (counted : 
         count = omega (arith, m);
       }
 
+-- a name counts one if it is
+pub counts_one : {m : ℕ} (b : Bool) → m ≡ from_bool b → (m ≡ cond b 1 0) × (m ≤ 1)
+counts_one true e = (e, omega (arith, e))
+counts_one false e = (e, omega (arith, e))
+
 -- a name that is in its group, or not
 pub member_in : (b : Bool) {w : Writing} {at : ℕ} {o o' : List ℕ} {r : Wrote} → b ≡ true → Puts w at o r o' → Puts (cond b w ended) at o r o'
 member_in b {w} f k = puts_equal k (ap (λ x. cond x w ended) f)
 
-pub member_out : (b : Bool) (w : Writing) {at : ℕ} {o : List ℕ} → b ≡ false → at ≤ length o → Puts (cond b w ended) at o (wrote.Done at) o
+pub member_out : (b : Bool) (w : Writing) {at : ℕ} {o : List ℕ} → b ≡ false → at ≤ length o → Puts (cond b w ended) at o (Ok at) o
 member_out b w f h = puts_equal (done (start h)) (ap (λ x. cond x w ended) f)

@@ -11,7 +11,8 @@ use Rattle.grammar.specs.Record.{Tables, tables_of}
 use Rattle.writing.specs.Answer.{output_held, written}
 use Rattle.writing.specs.Unread.{SameRead}
 use Rattle.writing.proofs.Unread.{links_and_bytes_unread}
-use Rattle.writer.specs.Entry.{wrote_of}
+use Rattle.grammar.proofs.Numbered.{numbered_injective}
+use Rattle.writer.specs.Entry.{length_in}
 use Rattle.writer.specs.contracts.serialize_value.{ended}
 use Rattle.writer.proofs.serialize_value.Reads.{Learnt}
 
@@ -47,4 +48,4 @@ serialize_value_unread c c' same root nesting room =
     links_and_bytes_unread (tables_in c) t same (root_in c) (nesting_in c) (room_in c) ∙ ap (λ n. written t n (nesting_in c) (room_in c)) root
     ∙ ap (λ n. written t (root_in c') n (room_in c)) nesting ∙ ap (written t (root_in c') (nesting_in c')) room
     in
-    (c.meets.answers ∙ ap wrote_of e ∙ sym c'.meets.answers, c.meets.holds ∙ ap₂ output_held room e ∙ sym c'.meets.holds)
+    (numbered_injective c.result c'.result (c.meets.answers ∙ ap length_in e ∙ sym c'.meets.answers), c.meets.holds ∙ ap₂ output_held room e ∙ sym c'.meets.holds)

@@ -7,6 +7,9 @@ ghost use Rattle.grammar.specs.Record.{tables_of};
 ghost use Rattle.writing.specs.Answer.{most_output};
 ghost use Rattle.writer.specs.Entry.{Serializes};
 
+use refusals::{Fault, Refusal};
+use writecheck::{Bounded, Lent, Used};
+
 // How many bytes of an output count.
 fn counted(room: usize) -> usize
     ensures { (result ≡ min room most_output) × (result ≤ room) × (result ≤ most_output) }
@@ -28,36 +31,34 @@ pub fn serialize_value(
     root: u32,
     nesting: u32,
     out: &mut [u8],
-) -> output::Wrote
+) -> Result<u32, Fault>
     ensures { Serializes (tables_of input.now nodes.now entries.now used_nodes used_entries) root nesting (length out.old) result out.new }
 {
     if (refusals::MOST_BYTES as usize) < input.len() {
         clearing::clear_bytes(out);
-        return output::Wrote::Refused(refusals::INPUT_TOO_LONG, 0);
+        return Err(Refusal::InputTooLong.at(0));
     }
-    let used = writecheck::Used {
+    let used = Used {
         nodes: used_nodes,
         entries: used_entries,
     };
-    let allowance = stores::at_most(nesting as usize, refusals::MOST_NESTING);
-    let room = counted(out.len());
-    match writevalue::write_value(
+    let lent = Lent {
         input,
         nodes,
         entries,
-        &mut out[..room],
         used,
-        allowance,
-        root,
-        0,
-    ) {
-        output::Wrote::Done(a) => {
+    };
+    let values = Bounded { lent };
+    let allowance = stores::at_most(nesting as usize, refusals::MOST_NESTING);
+    let room = counted(out.len());
+    match writevalue::write_value(&values, &mut out[..room], allowance, root, 0) {
+        Ok(a) => {
             clearing::clear_bytes(&mut out[a as usize..]);
-            output::Wrote::Done(a)
+            Ok(a)
         }
-        output::Wrote::Refused(number, place) => {
+        Err(fault) => {
             clearing::clear_bytes(out);
-            output::Wrote::Refused(number, place)
+            Err(fault)
         }
     }
 }

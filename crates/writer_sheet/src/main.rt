@@ -4,49 +4,32 @@
 
 ghost use Rattle.std.specs.Prelude.{◌<◌};
 
-use output::Wrote;
 use printing::{say, say_bytes, say_number, say_refused};
-use reader::Outcome;
+use reader::Read;
+use refusals::Fault;
 use std::io::{self, BufWriter, Write};
 
 // How many numbers the nodes of the longest value take.
 const NODES: usize = 126;
 
-fn say_answer(writer: &mut impl Write, answer: Wrote) -> io::Result<()> {
+fn say_answer(writer: &mut impl Write, answer: Result<u32, Fault>) -> io::Result<()> {
     match answer {
-        Wrote::Done(count) => {
+        Ok(count) => {
             say_number(writer, count as u64)?;
             say(writer, b" bytes")?;
         }
-        Wrote::Refused(number, place) => {
-            say_refused(writer, number, place)?;
+        Err(fault) => {
+            say_refused(writer, fault.refusal.number(), fault.place)?;
         }
     }
     say(writer, b":")
 }
 
 // How many nodes and how many entries a reading used; none where it was refused, so that the writer then refuses the root.
-fn nodes_used(answer: Outcome) -> u32 {
-    match answer {
-        Outcome::Refused(_, _) => 0,
-        Outcome::Read {
-            consumed: _,
-            nodes,
-            entries: _,
-            slots: _,
-        } => nodes,
-    }
-}
-
-fn entries_used(answer: Outcome) -> u32 {
-    match answer {
-        Outcome::Refused(_, _) => 0,
-        Outcome::Read {
-            consumed: _,
-            nodes: _,
-            entries,
-            slots: _,
-        } => entries,
+fn used(read: Result<Read, Fault>) -> (u32, u32) {
+    match read {
+        Ok(read) => (read.nodes, read.entries),
+        Err(_) => (0, 0),
     }
 }
 
@@ -56,18 +39,19 @@ fn show(
     input: &[u8],
     nodes: &[u32],
     entries: &[u32],
-    read: Outcome,
+    read: Result<Read, Fault>,
     nesting: u32,
     out: &mut [u8],
 ) -> io::Result<()> {
+    let (used_nodes, used_entries) = used(read);
     say_answer(
         writer,
         writer::serialize_value(
             input,
             nodes,
             entries,
-            nodes_used(read),
-            entries_used(read),
+            used_nodes,
+            used_entries,
             0,
             nesting,
             out,

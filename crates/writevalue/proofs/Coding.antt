@@ -20,9 +20,7 @@ use Rattle.writing.specs.Names.{contents_of}
 use Rattle.writing.specs.Steps as manner
 use Rattle.writing.specs.Steps.{as_locals, manners, part, parts_as, parted, string_part, writing}
 use Rattle.writing.proofs.Into.{then-then}
-use Rattle.output.specs.declared.Wrote.{Wrote}
-use Rattle.output.specs.declared.Wrote.TheVariants as wrote
-use Rattle.output.specs.Puts.{Puts}
+use Rattle.output.specs.Puts.{Wrote, Puts}
 use Rattle.chains.specs.Chained.{string_at}
 use Rattle.writecheck.specs.Looking.{after, part_of}
 use Rattle.grammar.proofs.Tests.{none-some}
@@ -37,6 +35,8 @@ use Rattle.writevalue.specs.Parts.{lined_part, parts_from, PartIn}
 use Rattle.writenames.specs.Names.{Localed}
 use Rattle.underway.proofs.Under.{start, left_as, done, refused_in, written_in}
 use Rattle.writevalue.proofs.Opening.{row_held}
+use Rattle.std.specs.Prelude.{Ok, Err}
+use Rattle.refusals.specs.declared.Fault.{Fault}
 
 -- The parts in one row.
 
@@ -198,12 +198,12 @@ module _ {t : Tables} {n a kinds line first : ℕ} {o₀ : List ℕ} {at : ℕ} 
         way = left_as w.way (ap (parts_from t a line (contents_of t kinds) i) are);
       }
 
-  pub part-refused : {o o' : List ℕ} {i e p v number place : ℕ} {r : Wrote} → PartTurn t n a kinds line first o₀ at o i e p v
-      → Puts (lined_part t a line (contents_of t kinds) i v) p o r o' → r ≡ wrote.Refused number place → Puts (all_parts t n a) at o₀ (wrote.Refused number place) o'
+  pub part-refused : {o o' : List ℕ} {i e p v : ℕ} {stop : Fault} {r : Wrote} → PartTurn t n a kinds line first o₀ at o i e p v
+      → Puts (lined_part t a line (contents_of t kinds) i v) p o r o' → r ≡ Err stop → Puts (all_parts t n a) at o₀ (Err stop) o'
   part-refused {i = i} x put is = refused_in (parts_from t a line (contents_of t kinds) (i + 1) x.rest) x.way put is
 
   pub part-more : {o o' : List ℕ} {i e e' p v b : ℕ} {r : Wrote} → PartTurn t n a kinds line first o₀ at o i e p v → i < 10 → e' ≡ (entry_at t.entries e).next
-      → Puts (lined_part t a line (contents_of t kinds) i v) p o r o' → r ≡ wrote.Done b → Parting t n a kinds line first o₀ at o' (i + 1) e' b
+      → Puts (lined_part t a line (contents_of t kinds) i v) p o r o' → r ≡ Ok b → Parting t n a kinds line first o₀ at o' (i + 1) e' b
   part-more {i = i} x l on put is =
       record {
         within = omega arith;
@@ -213,7 +213,7 @@ module _ {t : Tables} {n a kinds line first : ℕ} {o₀ : List ℕ} {at : ℕ} 
         way = written_in x.way put is;
       }
 
-  pub parting_all : {o : List ℕ} {i e p : ℕ} → Parting t n a kinds line first o₀ at o i e p → 10 ≤ i → Puts (all_parts t n a) at o₀ (wrote.Done p) o
+  pub parting_all : {o : List ℕ} {i e p : ℕ} → Parting t n a kinds line first o₀ at o i e p → 10 ≤ i → Puts (all_parts t n a) at o₀ (Ok p) o
   unfolding parts_from
   parting_all {o} {i} {e} {p} w h =
       let z : 10 - i ≡ 0 = omega arith in

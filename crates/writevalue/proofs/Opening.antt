@@ -7,7 +7,10 @@ use mathlib.Core.List.{List}
 use lib.ListN.{length}
 use lib.Dec.{ltb, eqb}
 use borrow.Author.Tests.{lt-ltb, le-ltb, eq-eqb}
-use Rattle.refusals.specs.Numbers.{too_deep, bad_table}
+use Rattle.refusals.specs.Faults.{fault}
+use Rattle.refusals.specs.declared.Fault.{Fault}
+use Rattle.refusals.specs.declared.Refusal.TheVariants.{TooDeep, BadTable}
+use Rattle.std.specs.Prelude.{Result, Ok, Err}
 use Rattle.grammar.specs.Letters.{codes, class_of}
 use Rattle.grammar.specs.State.{Node, node_at}
 use Rattle.grammar.specs.Record.{Tables, faulty, look, chain, node_of, nodes_in, sound, sound_at}
@@ -60,15 +63,15 @@ module _ (nodes : List ℕ) (used a n : ℕ) where
 
 -- A node by its levels and its record.
 
-pub open_deep : (t : Tables) (a n : ℕ) {at : ℕ} {o : List ℕ} {r : Bool} → r ≡ out_of_levels t a n → r ≡ true → at ≤ length o → Heads t a n at o (opened.Refused too_deep n) o
-open_deep t a n e f h = record { same = refl; stands = stopped (left_as (start h) (writing-deep t a n (sym f ∙ e))) }
+pub open_deep : (t : Tables) (a n : ℕ) {at : ℕ} {o : List ℕ} {r : Bool} → r ≡ out_of_levels t a n → r ≡ true → at ≤ length o → {stop : Fault} → stop ≡ fault TooDeep n → Heads t a n at o (Err stop) o
+open_deep t a n e f h is = record { same = refl; stands = stopped (left_as (start h) (writing-deep t a n (sym f ∙ e))) is }
 
-pub open_bad : (t : Tables) (a n : ℕ) {at : ℕ} {o : List ℕ} {r : Bool} → r ≡ out_of_levels t a n → r ≡ false → look t n ≡ faulty n → at ≤ length o
-    → Heads t a n at o (opened.Refused bad_table n) o
-open_bad t a n e f bad h =
+pub open_bad : (t : Tables) (a n : ℕ) {at : ℕ} {o : List ℕ} {r : Bool} → r ≡ out_of_levels t a n → r ≡ false → look t n ≡ faulty n → at ≤ length o → {stop : Fault} → stop ≡ fault BadTable n
+    → Heads t a n at o (Err stop) o
+open_bad t a n e f bad h is =
     record {
       same = refl;
-      stands = stopped (left_as (start h) (writing-looked t a n (sym f ∙ e) ∙ ap (looked (writing (a - 1) t) (parts_by t a n) t n) bad));
+      stands = stopped (left_as (start h) (writing-looked t a n (sym f ∙ e) ∙ ap (looked (writing (a - 1) t) (parts_by t a n) t n) bad)) is;
     }
 
 -- two levels for a code
@@ -93,7 +96,7 @@ held_code t n k e =
 pub row_held : (t : Tables) (n : ℕ) (k : Held t n) → row_of_node t n ≡ k.kids
 row_held t n k = ap or_none k.chained
 
-pub open_front : (t : Tables) (a n : ℕ) {N : Node} {at : ℕ} {o o' : List ℕ} {b : Bool} {r : Opened} → b ≡ out_of_levels t a n → b ≡ false → (k : Held t n)
+pub open_front : (t : Tables) (a n : ℕ) {N : Node} {at : ℕ} {o o' : List ℕ} {b : Bool} {r : Result Opened Fault} → b ≡ out_of_levels t a n → b ≡ false → (k : Held t n)
     → N ≡ node_of t n → length o' ≡ length o → Fronts t.input N (class_of N.letter) at o r o' → Heads t a n at o r o'
 open_front t a n {N} {at} {o} {o'} {b} {r} e f k is same front =
     record { same = same; stands = go r ((subst (λ x. Fronts t.input x (class_of x.letter) at o r o') is front).tells (writing (a - 1) t) (parts_by t a n) k.kids long) }
@@ -112,11 +115,11 @@ open_front t a n {N} {at} {o} {o'} {b} {r} e f k is same front =
     some_level zero h = never h
     some_level (suc a) h = omega arith
 
-    go : (r : Opened) → FrontAs (writing (a - 1) t) (parts_by t a n) t.input (node_of t n) k.kids (class_of (node_of t n).letter) at o r o' → HeadAs t a n at o r o'
-    go (opened.Refused number place) h = puts_equal h whole_is
-    go (opened.Done p) h = puts_equal h whole_is
-    go (opened.Row p pairs) h = (on h (ap (λ vs. then (each (writing (a - 1) t) vs) (closed pairs)) (sym (row_held t n k))), some_level a (sym f ∙ e), k)
-    go (opened.Parts p) h =
+    go : (r : Result Opened Fault) → FrontAs (writing (a - 1) t) (parts_by t a n) t.input (node_of t n) k.kids (class_of (node_of t n).letter) at o r o' → HeadAs t a n at o r o'
+    go (Err stop) h = puts_equal h whole_is
+    go (Ok (opened.Done p)) h = puts_equal h whole_is
+    go (Ok (opened.Row p pairs)) h = (on h (ap (λ vs. then (each (writing (a - 1) t) vs) (closed pairs)) (sym (row_held t n k))), some_level a (sym f ∙ e), k)
+    go (Ok (opened.Parts p)) h =
         let c = held_code t n k h.1 in
         let two = two-levels t a n (sym f ∙ e) c in (
           on h.0 (two.1 (line_of t n) k.kids ∙ ap (parted t (a - 2) (writing (a - 2) t) (line_of t n)) (sym (row_held t n k))),
@@ -124,7 +127,7 @@ open_front t a n {N} {at} {o} {o'} {b} {r} e f k is same front =
           record { code = h.1; held = k },
         )
 
-pub head_as : {t : Tables} {a n at : ℕ} {o o' : List ℕ} {r r' : Opened} → Heads t a n at o r o' → r ≡ r' → HeadAs t a n at o r' o'
+pub head_as : {t : Tables} {a n at : ℕ} {o o' : List ℕ} {r r' : Result Opened Fault} → Heads t a n at o r o' → r ≡ r' → HeadAs t a n at o r' o'
 head_as {t} {a} {n} {at} {o} {o'} k e = subst (λ x. HeadAs t a n at o x o') e k.stands
 
 pub looks_bad : (t : Tables) (n : ℕ) (r : Bool) → Looks t n r → r ≡ false → look t n ≡ faulty n

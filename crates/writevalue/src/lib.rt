@@ -3,7 +3,6 @@
 #![tactic(auto)]
 
 ghost use Rattle.std.specs.Prelude.{◌≡◌, true, ◌+◌, ◌≤◌, length};
-ghost use Rattle.refusals.specs.Limits.{most_bytes};
 ghost use Rattle.grammar.specs.Letters.{class_of};
 ghost use Rattle.grammar.specs.Record;
 ghost use Rattle.fields.specs.Classes.{class_at};
@@ -11,7 +10,7 @@ ghost use Rattle.stores.specs.Written.{node_of};
 ghost use Rattle.writing.specs.Canonical.{shown_line};
 ghost use Rattle.writing.specs.Steps.{writing};
 ghost use Rattle.output.specs.Puts.{Open, Puts};
-ghost use Rattle.writecheck.specs.Looking.{lent, Held};
+ghost use Rattle.writecheck.specs.Looking.{lent_of, Held};
 ghost use Rattle.underway.specs.Rows.{closed};
 ghost use Rattle.writevalue.specs.Heads.{eight_at, whole_of, row_of, parts_of, Fronts, Heads, Levels, Coded};
 ghost use Rattle.writevalue.specs.Parts.{PartIn, row_written, part_written, parts_written};
@@ -22,71 +21,73 @@ use grammar::{
     WRITTEN_CODE, WRITTEN_COMPLEX, WRITTEN_DICT, WRITTEN_FLOAT, WRITTEN_INT, WRITTEN_NULL,
     WRITTEN_SLICE, WRITTEN_TUPLE, WRITTEN_UNICODE,
 };
+use refusals::{Fault, Refusal};
+use writecheck::{Bounded, Lent};
 
-// What stands in front of a node's children: it is refused, or whole already; or its row comes next, of a dict's pairs or not; or a code's parts do.
+// What stands in front of a node's children: it is whole already; or its row comes next, of a dict's pairs or not; or a code's parts do.
 #[derive(Clone, Copy)]
 pub enum Opened {
-    Refused(u32, u32),
     Done(u32),
     Row(u32, bool),
     Parts(u32),
 }
 
-fn whole(wrote: output::Wrote) -> Opened
+// `with_row`, `with_parts` are alike: one line each; by `?` in each arm of `write_front` they would be thirteen goals more.
+fn whole(wrote: Result<u32, Fault>) -> Result<Opened, Fault>
     ensures { result ≡ whole_of wrote }
 {
-    match wrote {
-        output::Wrote::Done(a) => Opened::Done(a),
-        output::Wrote::Refused(number, place) => Opened::Refused(number, place),
-    }
+    let a = wrote?;
+    Ok(Opened::Done(a))
 }
 
-fn with_row(wrote: output::Wrote, pairs: bool) -> Opened
+fn with_row(wrote: Result<u32, Fault>, pairs: bool) -> Result<Opened, Fault>
     ensures { result ≡ row_of pairs wrote }
 {
-    match wrote {
-        output::Wrote::Done(a) => Opened::Row(a, pairs),
-        output::Wrote::Refused(number, place) => Opened::Refused(number, place),
-    }
+    let a = wrote?;
+    Ok(Opened::Row(a, pairs))
 }
 
-fn with_parts(wrote: output::Wrote) -> Opened
+fn with_parts(wrote: Result<u32, Fault>) -> Result<Opened, Fault>
     ensures { result ≡ parts_of wrote }
 {
-    match wrote {
-        output::Wrote::Done(a) => Opened::Parts(a),
-        output::Wrote::Refused(number, place) => Opened::Refused(number, place),
-    }
+    let a = wrote?;
+    Ok(Opened::Parts(a))
 }
 
 // Eight bytes: a float, or a whole number.
-fn write_eight(s: &[u8], out: &mut [u8], letter: u32, place: u32, at: u32) -> output::Wrote
+fn write_eight(s: &[u8], out: &mut [u8], letter: u32, place: u32, at: u32) -> Result<u32, Fault>
     requires { Open at out.old × (place + 8 ≤ length s.now) }
     ensures { Puts (eight_at s.now letter place) at out.old result out.new }
 {
     if letter == FLOAT_LETTER {
-        return output::write_slice(out, at, WRITTEN_FLOAT, s, place, 8);
+        return output::write_slice(out, at, WRITTEN_FLOAT, output::contents(s, place, 8));
     }
-    outputlongs::write_int64(out, at, s, place)
+    outputlongs::write_int64(out, at, fields::le64(s, place as usize))
 }
 
 // A node's own bytes, in front of its children.
-fn write_front(s: &[u8], out: &mut [u8], n: stores::Node, class: u32, at: u32) -> Opened
-    requires { Open at out.old × (length s.now ≤ most_bytes) × (Record.sound s.now (node_of n) ≡ true) × (class_at class ≡ class_of n.letter) }
-    ensures { Fronts s.now (node_of n) (class_of n.letter) at out.old result out.new }
+fn write_front(
+    values: &Bounded,
+    out: &mut [u8],
+    n: stores::Node,
+    class: u32,
+    at: u32,
+) -> Result<Opened, Fault>
+    requires { Open at out.old × (Record.sound values.now.lent.input.now (node_of n) ≡ true) × (class_at class ≡ class_of n.letter) }
+    ensures { Fronts values.now.lent.input.now (node_of n) (class_of n.letter) at out.old result out.new }
 {
+    let s = values.lent.input;
     match class {
         fields::SINGLE_CLASS => whole(output::write_u8(out, at, n.letter as u8)),
-        fields::FIXED4_CLASS => whole(output::write_slice(out, at, WRITTEN_INT, s, n.place, 4)),
+        fields::FIXED4_CLASS => {
+            let four = output::contents(s, n.place, 4);
+            whole(output::write_slice(out, at, WRITTEN_INT, four))
+        }
         fields::FIXED8_CLASS => whole(write_eight(s, out, n.letter, n.place, at)),
-        fields::DOUBLE_CLASS => whole(output::write_slice(
-            out,
-            at,
-            WRITTEN_COMPLEX,
-            s,
-            n.place,
-            16,
-        )),
+        fields::DOUBLE_CLASS => {
+            let both = output::contents(s, n.place, 16);
+            whole(output::write_slice(out, at, WRITTEN_COMPLEX, both))
+        }
         fields::LONG_CLASS => whole(outputlongs::write_pylong(out, at, s, n.place, n.size)),
         fields::SEQUENCE_CLASS => with_row(
             output::write_len(out, at, n.letter as u8, n.count),
@@ -95,30 +96,28 @@ fn write_front(s: &[u8], out: &mut [u8], n: stores::Node, class: u32, at: u32) -
         fields::FEW_CLASS => with_row(output::write_len(out, at, WRITTEN_TUPLE, n.count), false),
         fields::SLICE_CLASS => with_row(output::write_u8(out, at, WRITTEN_SLICE), false),
         fields::DICT_CLASS => with_row(output::write_u8(out, at, WRITTEN_DICT), true),
-        fields::BYTES_CLASS => whole(output::write_vec(out, at, WRITTEN_BYTES, s, n.place, n.size)),
-        fields::TEXT_CLASS => whole(output::write_vec(
-            out,
-            at,
-            WRITTEN_UNICODE,
-            s,
-            n.place,
-            n.size,
-        )),
-        fields::SHORT_CLASS => whole(output::write_vec(
-            out,
-            at,
-            WRITTEN_UNICODE,
-            s,
-            n.place,
-            n.size,
-        )),
-        _ => with_parts(output::write_slice(out, at, WRITTEN_CODE, s, n.place, CODE_NUMBERS)),
+        fields::BYTES_CLASS => {
+            let bytes = output::contents(s, n.place, n.size);
+            whole(output::write_vec(out, at, WRITTEN_BYTES, bytes))
+        }
+        fields::TEXT_CLASS => {
+            let text = output::contents(s, n.place, n.size);
+            whole(output::write_vec(out, at, WRITTEN_UNICODE, text))
+        }
+        fields::SHORT_CLASS => {
+            let short = output::contents(s, n.place, n.size);
+            whole(output::write_vec(out, at, WRITTEN_UNICODE, short))
+        }
+        _ => {
+            let numbers = output::contents(s, n.place, CODE_NUMBERS);
+            with_parts(output::write_slice(out, at, WRITTEN_CODE, numbers))
+        }
     }
 }
 
 // Whether no level is left for a node, or for the body of a code.
-fn too_deep(nodes: &[u32], used: u32, allowance: u32, node: u32) -> bool
-    ensures { Levels nodes.now used allowance node result }
+fn too_deep(lent: &Lent, allowance: u32, node: u32) -> bool
+    ensures { Levels lent.now.nodes.now lent.now.used.nodes allowance node result }
 {
     if allowance == 0 {
         return true;
@@ -126,46 +125,44 @@ fn too_deep(nodes: &[u32], used: u32, allowance: u32, node: u32) -> bool
     if allowance != 1 {
         return false;
     }
-    if stores::nodes_in(nodes, used) <= node {
+    if stores::nodes_in(lent.nodes, lent.used.nodes) <= node {
         return false;
     }
-    let n = stores::node_of(nodes, node);
+    let n = stores::node_of(lent.nodes, node);
     n.letter == CODE_LETTER
 }
 
 // A node up to its children: its levels, its record, and its own bytes.
 fn open_node(
-    s: &[u8],
-    nodes: &[u32],
-    entries: &[u32],
+    values: &Bounded,
     out: &mut [u8],
-    used: writecheck::Used,
     allowance: u32,
     node: u32,
     at: u32,
-) -> Opened
-    requires { Open at out.old × (length s.now ≤ most_bytes) }
-    ensures { Heads (lent s.now nodes.now entries.now used) allowance node at out.old result out.new }
+) -> Result<Opened, Fault>
+    requires { Open at out.old }
+    ensures { Heads (lent_of values.now.lent) allowance node at out.old result out.new }
 {
-    if too_deep(nodes, used.nodes, allowance, node) {
-        return Opened::Refused(refusals::TOO_DEEP, node);
+    if too_deep(&values.lent, allowance, node) {
+        return Err(Refusal::TooDeep.at(node));
     }
-    if !writecheck::look(s, nodes, entries, used, node) {
-        return Opened::Refused(refusals::BAD_TABLE, node);
+    if !writecheck::look(values, node) {
+        return Err(Refusal::BadTable.at(node));
     }
-    let n = stores::node_of(nodes, node);
-    write_front(s, out, n, fields::class_of(n.letter), at)
+    let n = stores::node_of(values.lent.nodes, node);
+    write_front(values, out, n, fields::class_of(n.letter), at)
 }
 
 // What stands behind a row.
-fn close_row(out: &mut [u8], at: u32, pairs: bool) -> output::Wrote
+// Pairs end with a letter and rows with nothing: one bit of the row's head, no choice of steps.
+fn close_row(out: &mut [u8], at: u32, pairs: bool) -> Result<u32, Fault>
     requires { Open at out.old }
     ensures { Puts (closed pairs) at out.old result out.new }
 {
     if pairs {
         return output::write_u8(out, at, WRITTEN_NULL);
     }
-    output::Wrote::Done(at)
+    Ok(at)
 }
 
 // A first line of 0 or less is written as 0.
@@ -181,80 +178,51 @@ fn shown(line: u32) -> u32
 // A value.
 #[cycle(write_children_write_part_write_parts_write_value)]
 pub fn write_value(
-    s: &[u8],
-    nodes: &[u32],
-    entries: &[u32],
+    values: &Bounded,
     out: &mut [u8],
-    used: writecheck::Used,
     allowance: u32,
     node: u32,
     at: u32,
-) -> output::Wrote
-    requires { Open at out.old × (length s.now ≤ most_bytes) }
-    ensures { Puts (writing allowance (lent s.now nodes.now entries.now used) node) at out.old result out.new }
+) -> Result<u32, Fault>
+    requires { Open at out.old }
+    ensures { Puts (writing allowance (lent_of values.now.lent) node) at out.old result out.new }
 {
-    match open_node(s, nodes, entries, out, used, allowance, node, at) {
-        Opened::Refused(number, place) => output::Wrote::Refused(number, place),
-        Opened::Done(a) => output::Wrote::Done(a),
-        Opened::Row(a, pairs) => match write_children(
-            s,
-            nodes,
-            entries,
-            out,
-            used,
-            allowance - 1,
-            node,
-            a,
-        ) {
-            output::Wrote::Refused(number, place) => output::Wrote::Refused(number, place),
-            output::Wrote::Done(b) => close_row(out, b, pairs),
-        },
-        Opened::Parts(a) => write_parts(s, nodes, entries, out, used, allowance - 2, node, a),
+    match open_node(values, out, allowance, node, at)? {
+        Opened::Done(a) => Ok(a),
+        Opened::Row(a, pairs) => {
+            let b = write_children(values, out, allowance - 1, node, a)?;
+            close_row(out, b, pairs)
+        }
+        Opened::Parts(a) => write_parts(values, out, allowance - 2, node, a),
     }
 }
 
 // The children of a container, one after another, each with the allowance that is left to them.
 #[cycle(write_children_write_part_write_parts_write_value)]
 fn write_children(
-    s: &[u8],
-    nodes: &[u32],
-    entries: &[u32],
+    values: &Bounded,
     out: &mut [u8],
-    used: writecheck::Used,
     allowance: u32,
     node: u32,
     at: u32,
-) -> output::Wrote
-    requires { Open at out.old × (length s.now ≤ most_bytes) × Held (lent s.now nodes.now entries.now used) node }
-    ensures { Puts (row_written (lent s.now nodes.now entries.now used) allowance node) at out.old result out.new }
+) -> Result<u32, Fault>
+    requires { Open at out.old × Held (lent_of values.now.lent) node }
+    ensures { Puts (row_written (lent_of values.now.lent) allowance node) at out.old result out.new }
 {
-    let n = stores::node_of(nodes, node);
+    let n = stores::node_of(values.lent.nodes, node);
     let count = n.count;
     let mut e = n.first;
     let mut i = 0u32;
     let mut p = at;
     loop {
-        match writeleaves::write_leaves(s, nodes, entries, out, used, allowance, count, e, i, p) {
-            writeleaves::Rowed::Refused(number, place) => {
-                return output::Wrote::Refused(number, place);
-            }
-            writeleaves::Rowed::On(here, done, a) => {
-                if count <= done {
-                    return output::Wrote::Done(a);
-                }
-                let child = stores::child_of(entries, here);
-                match write_value(s, nodes, entries, out, used, allowance, child, a) {
-                    output::Wrote::Refused(number, place) => {
-                        return output::Wrote::Refused(number, place);
-                    }
-                    output::Wrote::Done(b) => {
-                        p = b;
-                    }
-                }
-                e = stores::next_of(entries, here);
-                i = done + 1;
-            }
+        let row = writeleaves::write_leaves(values, out, allowance, count, e, i, p)?;
+        if count <= row.done {
+            return Ok(row.at);
         }
+        let child = stores::child_of(values.lent.entries, row.entry);
+        p = write_value(values, out, allowance, child, row.at)?;
+        e = stores::next_of(values.lent.entries, row.entry);
+        i = row.done + 1;
     }
 }
 
@@ -262,83 +230,56 @@ fn write_children(
 // comes before the ninth.
 #[cycle(write_children_write_part_write_parts_write_value)]
 fn write_part(
-    s: &[u8],
-    nodes: &[u32],
-    entries: &[u32],
+    values: &Bounded,
     out: &mut [u8],
-    used: writecheck::Used,
     allowance: u32,
     line: u32,
     kinds: u32,
     part: u32,
     node: u32,
     at: u32,
-) -> output::Wrote
-    requires { Open at out.old × (length s.now ≤ most_bytes) × PartIn (lent s.now nodes.now entries.now used) kinds part node }
-    ensures { Puts (part_written (lent s.now nodes.now entries.now used) allowance line kinds part node) at out.old result out.new }
+) -> Result<u32, Fault>
+    requires { Open at out.old × PartIn (lent_of values.now.lent) kinds part node }
+    ensures { Puts (part_written (lent_of values.now.lent) allowance line kinds part node) at out.old result out.new }
 {
     match part {
-        CODE_PART => writeleaves::write_bytes(s, nodes, entries, out, used, allowance, node, at),
-        NAMES_PART => writenames::write_marshal_name_tuple(
-            s, nodes, entries, out, used, allowance, node, at,
-        ),
-        LOCALS_PART => writenames::write_locals(
-            s, nodes, entries, out, used, allowance, kinds, node, at,
-        ),
-        KINDS_PART => writeleaves::write_bytes(s, nodes, entries, out, used, allowance, node, at),
-        FILE_PART => writenames::write_string(s, nodes, entries, out, used, allowance, node, at),
-        NAME_PART => writenames::write_string(s, nodes, entries, out, used, allowance, node, at),
-        QUALIFIED_NAME_PART => writenames::write_string(
-            s, nodes, entries, out, used, allowance, node, at,
-        ),
-        LINES_PART => match output::write_u32(out, at, shown(line)) {
-            output::Wrote::Refused(number, place) => output::Wrote::Refused(number, place),
-            output::Wrote::Done(a) => writeleaves::write_bytes(
-                s, nodes, entries, out, used, allowance, node, a,
-            ),
-        },
-        EXCEPTIONS_PART => writeleaves::write_bytes(
-            s, nodes, entries, out, used, allowance, node, at,
-        ),
-        _ => write_value(s, nodes, entries, out, used, allowance, node, at),
+        CODE_PART => writeleaves::write_bytes(&values.lent, out, allowance, node, at),
+        NAMES_PART => writenames::write_marshal_name_tuple(&values.lent, out, allowance, node, at),
+        LOCALS_PART => writenames::write_locals(values, out, allowance, kinds, node, at),
+        KINDS_PART => writeleaves::write_bytes(&values.lent, out, allowance, node, at),
+        FILE_PART => writenames::write_string(&values.lent, out, allowance, node, at),
+        NAME_PART => writenames::write_string(&values.lent, out, allowance, node, at),
+        QUALIFIED_NAME_PART => writenames::write_string(&values.lent, out, allowance, node, at),
+        LINES_PART => {
+            let a = output::write_u32(out, at, shown(line))?;
+            writeleaves::write_bytes(&values.lent, out, allowance, node, a)
+        }
+        EXCEPTIONS_PART => writeleaves::write_bytes(&values.lent, out, allowance, node, at),
+        _ => write_value(values, out, allowance, node, at),
     }
 }
 
 // The ten parts of a code.
 #[cycle(write_children_write_part_write_parts_write_value)]
 fn write_parts(
-    s: &[u8],
-    nodes: &[u32],
-    entries: &[u32],
+    values: &Bounded,
     out: &mut [u8],
-    used: writecheck::Used,
     allowance: u32,
     node: u32,
     at: u32,
-) -> output::Wrote
-    requires { Open at out.old × (length s.now ≤ most_bytes) × Coded (lent s.now nodes.now entries.now used) node }
-    ensures { Puts (parts_written (lent s.now nodes.now entries.now used) allowance node) at out.old result out.new }
+) -> Result<u32, Fault>
+    requires { Open at out.old × Coded (lent_of values.now.lent) node }
+    ensures { Puts (parts_written (lent_of values.now.lent) allowance node) at out.old result out.new }
 {
-    let n = stores::node_of(nodes, node);
-    let line = fields::le32(s, n.place as usize + n.size as usize);
-    let kinds = writecheck::part_at(entries, n.first, KINDS_PART);
-    let mut e = n.first;
-    let mut part = 0u32;
-    let mut p = at;
-    while part < CODE_PARTS {
-        let child = stores::child_of(entries, e);
-        match write_part(
-            s, nodes, entries, out, used, allowance, line, kinds, part, child, p,
-        ) {
-            output::Wrote::Refused(number, place) => {
-                return output::Wrote::Refused(number, place);
-            }
-            output::Wrote::Done(a) => {
-                p = a;
-            }
-        }
-        e = stores::next_of(entries, e);
-        part += 1;
+    let n = stores::node_of(values.lent.nodes, node);
+    let line = fields::le32(values.lent.input, n.place as usize + n.size as usize);
+    let kinds = writecheck::part_at(values.lent.entries, n.first, KINDS_PART);
+    let mut entry = n.first;
+    let mut end = at;
+    for part in 0..CODE_PARTS {
+        let child = stores::child_of(values.lent.entries, entry);
+        end = write_part(values, out, allowance, line, kinds, part, child, end)?;
+        entry = stores::next_of(values.lent.entries, entry);
     }
-    output::Wrote::Done(p)
+    Ok(end)
 }

@@ -129,19 +129,11 @@ fn ends_are_ascii(bytes: &[u8], block: usize) -> bool
 fn greatest(bytes: &[u8]) -> u8
     ensures { Greatest bytes.now result }
 {
-    let mut at = 0;
     let mut most = 0u8;
-    while at < bytes.len() {
-        most = greater(most, bytes[at]);
-        at += 1;
+    for &byte in bytes {
+        most = most.max(byte);
     }
     most
-}
-
-fn greater(a: u8, b: u8) -> u8
-    ensures { (a ≤ result) × (b ≤ result) × ((m : ℕ) → a ≤ m → b ≤ m → result ≤ m) }
-{
-    if a < b { b } else { a }
 }
 
 // Whether the bytes are whole sequences, one after another. `by_blocks`, for speed alone: whether ASCII is passed by blocks.

@@ -3,12 +3,6 @@ use Rattle.pieces.proofs.Gates.{entered}
 use Rattle.bypiece.proofs.Entering.{piece-shut, piece-stuck, piece_open}
 use Rattle.bypiece.proofs.any_piece.Goals as goal
 
-pub look-requires : goal.look-requires
-look-requires c = c.requires.0
-
-pub stick-requires : goal.stick-requires
-stick-requires c = c.requires.0
-
 pub take_piece-requires : goal.take_piece-requires
 take_piece-requires c = entered _ _ c.requires.0 c.requires.1 c.look.ensures c.in-Open.is
 

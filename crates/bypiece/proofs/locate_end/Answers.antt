@@ -3,22 +3,10 @@ use Rattle.pieces.proofs.Gates.{entered}
 use Rattle.bypiece.proofs.Entering.{end_none, end_shut, end_stuck, end_open_lem}
 use Rattle.bypiece.proofs.locate_end.Goals as goal
 
-pub no_state-requires : goal.no_state-requires
-no_state-requires c = c.if-state-lt-STATE_NUMBERS.true
-
 pub returns-then-state-lt-STATE_NUMBERS : goal.returns-then-state-lt-STATE_NUMBERS
 returns-then-state-lt-STATE_NUMBERS c =
     let a = c.args in
     end_none a.state.now a.records.now c.if-state-lt-STATE_NUMBERS.true c.no_state.ensures
-
-pub kept_at-k-requires : goal.kept_at-k-requires
-kept_at-k-requires c = c.if-state-lt-STATE_NUMBERS.false
-
-pub look-requires : goal.look-requires
-look-requires c = c.if-state-lt-STATE_NUMBERS.false
-
-pub stick-requires : goal.stick-requires
-stick-requires c = c.if-state-lt-STATE_NUMBERS.false
 
 pub take_end-requires : goal.take_end-requires
 take_end-requires c =

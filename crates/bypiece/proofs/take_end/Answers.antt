@@ -1,5 +1,6 @@
 -- `bypiece::take_end` meets its contract: the tests decide which way of the definition holds.
-use mathlib.Core.Path.{refl}
+use mathlib.Core.Path.{refl, ap}
+use Rattle.std.specs.Prelude.{Ok}
 use Rattle.pieces.proofs.Closes.{end_over, end_placed, end_held_by}
 use Rattle.bypiece.proofs.Entering.{leaves_same}
 use Rattle.bypiece.proofs.Ends.{ending, held_few}
@@ -10,26 +11,23 @@ end_bare-requires c =
     let a = c.args in
     ending a.state.now a.records.now a.k c.requires
 
-pub returns-then-k-eq-OVER : goal.returns-then-k-eq-OVER
-returns-then-k-eq-OVER c =
-    let a = c.args in
-    leaves_same (end_over a.state.now a.records.now a.k c.if-k-eq-OVER.true) c.end_bare.ensures
-
-pub finish-requires : goal.finish-requires
-finish-requires c = c.requires.numbers
-
 pub returns-then-k : goal.returns-then-k
 returns-then-k c =
     let a = c.args in
-    leaves_same (end_placed a.state.now a.records.now a.k c.if-k-eq-OVER.false c.if-k.true)
-    (record { answers = c.finish.ensures.0; states = c.finish.ensures.1; fills = refl })
+    leaves_same (end_over a.state.now a.records.now a.k c.if-k.true) c.end_bare.ensures
+
+pub returns-then-k-2 : goal.returns-then-k-2
+returns-then-k-2 c =
+    let a = c.args in
+    leaves_same (end_placed a.state.now a.records.now a.k c.if-k.false c.if-k-2.true)
+    (record { answers = ap Ok c.finish.ensures.0; states = c.finish.ensures.1; fills = refl })
 
 pub end_held-requires : goal.end_held-requires
 end_held-requires c =
     let a = c.args in
-    (ending a.state.now a.records.now a.k c.requires, held_few a.state.now a.records.now a.k c.requires c.if-k-eq-OVER.false)
+    (ending a.state.now a.records.now a.k c.requires, held_few a.state.now a.records.now a.k c.requires c.if-k.false)
 
 pub returns : goal.returns
 returns c =
     let a = c.args in
-    leaves_same (end_held_by a.state.now a.records.now a.k c.if-k-eq-OVER.false c.if-k.false) c.end_held.ensures
+    leaves_same (end_held_by a.state.now a.records.now a.k c.if-k.false c.if-k-2.false) c.end_held.ensures

@@ -1,7 +1,8 @@
 -- Carried by `Straight` itself: so many entries are passed, and the next is the one behind them. Assumes nothing.
 use Rattle.chains.proofs.Chains.{straight_start, straight_more}
 use native.Mathlib.Omega.{arith}
-use mathlib.Core.Path.{sym, ◌∙◌}
+use Rattle.chains.specs.Chained.{Straight}
+use mathlib.Core.Path.{◌≡◌, sym, subst, ◌∙◌}
 use Rattle.chains.proofs.straight.Goals as goal
 
 pub loop-i-init : goal.loop-i-init
@@ -17,4 +18,7 @@ pub loop-i-preserved : goal.loop-i-preserved
 loop-i-preserved c = (omega (arith, c.loop-i.invariant.0), straight_more c.loop-i.invariant.1 c.loop-i.invariant.0 c.loop-i-test.true (omega arith) (sym c.next_at.ensures ∙ c.if-next_at-e.false))
 
 pub returns : goal.returns
-returns c = c.loop-i.invariant.1
+returns c =
+    let a = c.args in
+    let whole : c.loop-i.i ≡ a.steps = omega (arith, c.loop-i.invariant.1) in
+    subst (Straight a.entries.now a.room a.first a.steps) whole c.loop-i.invariant.1

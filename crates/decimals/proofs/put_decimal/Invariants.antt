@@ -5,6 +5,3 @@ use Rattle.decimals.proofs.put_decimal.Given as goal
 
 abbrev pub invariant-loop-i : goal.invariant-loop-i
 invariant-loop-i l = PutSoFar l.initial.out l.at l.n l.out l.i l.above
-
-abbrev pub decreases-loop-i : goal.decreases-loop-i
-decreases-loop-i l = l.i

@@ -4,52 +4,54 @@ use mathlib.Core.Path.{refl, sym, ◌∙◌, ap}
 use mathlib.Core.List.{◌++◌}
 use lib.ListN.{length}
 use native.Mathlib.Omega.{arith}
+use Rattle.std.specs.Prelude.{Ok}
+use Rattle.std.proofs.lemmas.Result.{err_from_is_err_and}
 use Rattle.clearing.specs.Lent.{zeros}
 use Rattle.editions.specs.Archive.{record_of}
 use Rattle.editions.specs.Answers.{in_room}
-use Rattle.editions.proofs.Saving.{save_long, part-within, save_archive_fault, save_file-fault, save_missing, save_already, save_new}
+use Rattle.editions.proofs.Searching.{found_within}
+use Rattle.editions.proofs.Saving.{save_long, save_archive_fault, save_file-fault, save_missing, save_already, save_new}
 use Rattle.editions.proofs.save_edition.Goals as goal
 
 pub returns-then-archive-gt4294967295 : goal.returns-then-archive-gt4294967295
-returns-then-archive-gt4294967295 c = save_long c.args.archive.now
-    c.args.file.now
-    (length c.args.out.now) c.if-archive-gt4294967295.true c.refused.ensures
-    c.clear_bytes.ensures
+returns-then-archive-gt4294967295 c = rw (c.at.ensures, c.clear_bytes.ensures) (save_long c.args.archive.now c.args.file.now _ c.if-archive-gt4294967295.true)
 
-pub slice_bounds-search-end : goal.slice_bounds-search-end
-slice_bounds-search-end c = let w = part-within c.args.file.now 1
-    c.look-own.ensures in omega (arith, w)
+pub returns-in_err-search-in-Err : goal.returns-in_err-search-in-Err
+returns-in_err-search-in-Err c =
+    let p = err_from_is_err_and c.from_residual.result c.from_residual.ensures.1 in
+    rw (p.1, p.2, c.clear_bytes.ensures) (save_archive_fault c.args.archive.now c.args.file.now _ c.if-archive-gt4294967295.false _ c.in_err-search-in-Err.ensures)
 
-pub returns-then-s-ne0 : goal.returns-then-s-ne0
-returns-then-s-ne0 c =
+pub returns-in_err-search-in-Ok-None : goal.returns-in_err-search-in-Ok-None
+returns-in_err-search-in-Ok-None c =
+    let r = c.from_residual-in_err-search-in-Ok-None in
+    let p = err_from_is_err_and r.result r.ensures.1 in
+    rw (p.1, p.2, c.clear_bytes.ensures) (save_archive_fault c.args.archive.now c.args.file.now _ c.if-archive-gt4294967295.false _ c.in_err-search-in-Ok-None.ensures)
+
+pub of-requires : goal.of-requires
+of-requires c = let w = found_within c.args.file.now c.args.file.now (ap Ok (sym c.in-Ok-Some.field-0-is) ∙ c.in-Ok-Some.ensures) in omega (arith, w)
+
+pub returns-in_err-search-in-Ok-Some : goal.returns-in_err-search-in-Ok-Some
+returns-in_err-search-in-Ok-Some c =
+    let r = c.from_residual-in_err-search-in-Ok-Some in
+    let p = err_from_is_err_and r.result r.ensures.1 in
+    rw (p.1, p.2, c.clear_bytes.ensures) (save_archive_fault c.args.archive.now c.args.file.now _ c.if-archive-gt4294967295.false _ c.in_err-search-in-Ok-Some.ensures)
+
+pub returns-in_ok-search-in-Err : goal.returns-in_ok-search-in-Err
+returns-in_ok-search-in-Err c =
+    rw c.clear_bytes.ensures
+    (save_file-fault c.args.archive.now c.args.file.now _ c.if-archive-gt4294967295.false _ c.in_ok-search-in-Err.ensures c.in-Err.ensures)
+
+pub returns-in_ok-search-in-Ok-None : goal.returns-in_ok-search-in-Ok-None
+returns-in_ok-search-in-Ok-None c =
+    rw (c.at-in-Ok-None.ensures, c.clear_bytes.ensures)
+    (save_missing c.args.archive.now c.args.file.now _ c.if-archive-gt4294967295.false _ c.in_ok-search-in-Ok-None.ensures (ap Ok (sym c.in-Ok-None.field-0-is) ∙ c.in-Ok-None.ensures))
+
+pub returns-in-Some : goal.returns-in-Some
+returns-in-Some c =
+    rw (c.at-in-Some.ensures, c.clear_bytes.ensures)
+    (save_already c.args.archive.now c.args.file.now _ c.if-archive-gt4294967295.false _ c.in_ok-search-in-Ok-Some.ensures (ap Ok (sym c.in-Ok-Some.field-0-is) ∙ c.in-Ok-Some.ensures) c.of.ensures c.in-Some.is)
+
+pub returns-in-None : goal.returns-in-None
+returns-in-None c =
     let a = c.args in
-    save_archive_fault a.archive.now a.file.now (length a.out.now) c.if-archive-gt4294967295.false _ c.search-s.ensures c.if-s-ne0.true c.refused-then-s-ne0.ensures c.clear_bytes.ensures
-
-pub returns-then-own-ne0 : goal.returns-then-own-ne0
-returns-then-own-ne0 c =
-    let a = c.args in
-    save_file-fault a.archive.now a.file.now (length a.out.now) c.if-archive-gt4294967295.false _ c.search-s.ensures c.if-s-ne0.false c.look-own.ensures c.if-own-ne0.true c.refused-then-own-ne0.ensures c.clear_bytes.ensures
-
-pub returns-then-own-eq0 : goal.returns-then-own-eq0
-returns-then-own-eq0 c =
-    let a = c.args in
-    save_missing a.archive.now a.file.now (length a.out.now) c.if-archive-gt4294967295.false _ c.search-s.ensures c.if-s-ne0.false c.look-own.ensures c.if-own-ne0.false c.if-own-eq0.true c.refused-then-own-eq0.ensures c.clear_bytes.ensures
-
-pub shape_of-out-then-s-ne0-2 : goal.shape_of-out-then-s-ne0-2
-shape_of-out-then-s-ne0-2 c = c.clear_bytes.auto.bytes
-
-pub returns-then-s-ne0-2 : goal.returns-then-s-ne0-2
-returns-then-s-ne0-2 c =
-    let a = c.args in
-    save_already a.archive.now a.file.now (length a.out.now) c.if-archive-gt4294967295.false _ c.search-s.ensures c.if-s-ne0.false c.look-own.ensures c.if-own-ne0.false c.if-own-eq0.false refl c.if-s-ne0-2.true c.refused-then-s-ne0-2.ensures c.clear_bytes.ensures
-
-pub put_new-requires : goal.put_new-requires
-put_new-requires c = (c.if-archive-gt4294967295.false, c.clear_bytes.ensures ∙ ap zeros (sym c.clear_bytes.auto.bytes))
-
-pub shape_of-out : goal.shape_of-out
-shape_of-out c = c.put_new.auto.out ∙ c.clear_bytes.auto.bytes
-
-pub returns : goal.returns
-returns c =
-    let a = c.args in
-    save_new a.archive.now a.file.now (length a.out.now) c.if-archive-gt4294967295.false _ c.search-s.ensures c.if-s-ne0.false c.look-own.ensures c.if-own-ne0.false c.if-own-eq0.false refl c.if-s-ne0-2.false (c.put_new.ensures ∙ ap (in_room (a.archive.now ++ record_of a.file.now)) c.clear_bytes.auto.bytes)
+    save_new a.archive.now a.file.now (length a.out.now) c.if-archive-gt4294967295.false _ c.in_ok-search-in-Ok-Some.ensures (ap Ok (sym c.in-Ok-Some.field-0-is) ∙ c.in-Ok-Some.ensures) c.of.ensures c.in-None.is (c.put_new.ensures ∙ ap (in_room (a.archive.now ++ record_of a.file.now)) c.clear_bytes.auto.bytes)

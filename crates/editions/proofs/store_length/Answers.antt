@@ -1,19 +1,14 @@
--- `editions::store_length` meets its contract, by the laws of this crate that it names.
+-- `editions::store_length` meets its contract: the four bytes of a number, low byte first.
 -- Assumes nothing.
-use lib.ListN.{length-set}
-use mathlib.Core.Path.{refl}
-use native.Mathlib.Numerals.{add-one, add-two, add-three}
+use mathlib.Core.Path.{◌∙◌}
+use Prim.Native.Nat.{◌+◌, ◌-◌}
 use native.Mathlib.Omega.{arith}
+use Rattle.taggedfields.proofs.Stored.{put_mid-sets}
+use Rattle.editions.specs.Archive.{bytes32}
+use Rattle.editions.proofs.Saving.{four-bytes}
 use Rattle.editions.proofs.store_length.Goals as goal
 
-pub bounds-out-at-2 : goal.bounds-out-at-2
-bounds-out-at-2 c = simp length-set (omega arith)
-
-pub bounds-out-at-3 : goal.bounds-out-at-3
-bounds-out-at-3 c = simp length-set (omega arith)
-
-pub bounds-out-at-4 : goal.bounds-out-at-4
-bounds-out-at-4 c = simp length-set (omega arith)
-
 pub returns : goal.returns
-returns c = rw (add-one c.args.at, add-two c.args.at, add-three c.args.at) refl
+returns c =
+    rw (c.copy_from_slice.ensures.after, c.to_le_bytes.ensures ∙ four-bytes c.args.n)
+    (put_mid-sets c.args.out.now (bytes32 c.args.n) c.args.at (c.args.at + 4 - c.args.at) (omega arith) (omega arith))

@@ -9,8 +9,7 @@ pub returns-then-count-eq0 : goal.returns-then-count-eq0
 returns-then-count-eq0 c = record { within = search rules; exact = λ rest. rw c.if-count-eq0.true }
 
 pub returns-then-le16-eq0 : goal.returns-then-le16-eq0
-returns-then-le16-eq0 c =
-    record { within = tt; exact = λ rest. rw (last _ _ _ rest c.if-count-eq0.false, ← c.le16.ensures.0, eq-eqb _ _ c.if-le16-eq0.true) }
+returns-then-le16-eq0 c = rw c.at.ensures (record { within = tt; exact = λ rest. rw (last _ _ _ rest c.if-count-eq0.false, ← c.le16.ensures.0, eq-eqb _ _ c.if-le16-eq0.true) })
 
 pub returns : goal.returns
 returns c =

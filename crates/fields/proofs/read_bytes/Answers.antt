@@ -2,23 +2,23 @@
 -- Assumes nothing.
 use Rattle.fields.specs.Behind.{fields_of}
 use Rattle.grammar.specs.Fields.{contained}
+use Rattle.refusals.proofs.Faults.{handed_on}
 use Rattle.fields.proofs.Laws.{passed, failed, bytes_cut, bytes_in_lem}
 use native.Mathlib.Omega.{arith}
 use Rattle.fields.proofs.read_bytes.Goals as goal
 
 pub le32-size-requires : goal.le32-size-requires
-le32-size-requires c = omega (arith, (passed c.read_len.ensures c.in-Fine.is).within)
+le32-size-requires c = omega (arith, (passed c.read_len.ensures c.in_ok-read_len.was).within)
 
-pub returns-then-s-p : goal.returns-then-s-p
-returns-then-s-p c =
-    bytes_cut (passed c.read_len.ensures c.in-Fine.is)
-    c.le32-size.ensures c.if-s-p.true
+pub returns-then-from-p : goal.returns-then-from-p
+returns-then-from-p c = rw c.at.ensures (bytes_cut (passed c.read_len.ensures c.in_ok-read_len.was)
+    c.le32-size.ensures c.if-from-p.true)
 
-pub returns-in-Refused : goal.returns-in-Refused
+pub returns-in_err-read_len : goal.returns-in_err-read_len
 unfolding fields_of contained
-returns-in-Refused c = record { ahead = tt; exact = failed c.read_len.ensures c.in-Refused.is _ }
+returns-in_err-read_len c = rw (handed_on c.from_residual.ensures.1) (record { ahead = tt; exact = failed c.read_len.ensures c.in_err-read_len.was _ })
 
-pub returns-else-s-p : goal.returns-else-s-p
-returns-else-s-p c =
-    bytes_in_lem (passed c.read_len.ensures c.in-Fine.is)
-    c.le32-size.ensures c.if-s-p.false
+pub returns : goal.returns
+returns c =
+    bytes_in_lem (passed c.read_len.ensures c.in_ok-read_len.was)
+    c.le32-size.ensures c.if-from-p.false

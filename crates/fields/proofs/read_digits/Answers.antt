@@ -1,25 +1,41 @@
 -- `fields::read_digits` meets its contract. The loop's invariant: the digits judged so far were fine, and what is left comes to the same answer.
--- The measure is how many are left. Assumes nothing.
-use borrow.Author.Rules.{rules}
-use mathlib.Core.Path.{refl}
-use Rattle.fields.proofs.Laws.{all_judged, digit-cut, digit-bad, digit-fine}
+-- Assumes nothing.
+use mathlib.Core.Path.{◌≡◌, ap₂, subst₂}
+use Prim.Native.Nat.{◌+◌, ◌-◌, ◌*◌}
+use native.Mathlib.Omega.{arith}
+use Rattle.grammar.specs.Fields.{digits}
+use Rattle.fields.proofs.Laws.{Judging, all_judged, digit-cut, digit-bad, digit-fine}
 use Rattle.fields.proofs.read_digits.Goals as goal
 
-pub loop-left-init : goal.loop-left-init
-loop-left-init c = record { fewer = search rules; stands = refl; within = search rules; comes = λ rest. refl }
+pub loop-i-init : goal.loop-i-init
+loop-i-init c =
+    let all : c.args.count - 0 ≡ c.args.count = omega arith in
+    let here : c.args.from.at + 0 ≡ c.args.from.at = omega arith in
+    record { fewer = omega arith; stands = omega arith; within = omega (arith, c.args.from.within, c.args.from.bound); comes = λ rest. ap₂ (λ n p. digits c.args.from.input.now n p rest) all here }
 
-pub returns-then-s-p : goal.returns-then-s-p
-returns-then-s-p c = digit-cut c.loop-left.invariant c.loop-left-test.true c.if-s-p.true
+pub overflow_mul-place : goal.overflow_mul-place
+overflow_mul-place c = omega (arith, c.loop-i.invariant.within, c.args.from.within, c.args.from.bound)
+
+pub overflow_add-place : goal.overflow_add-place
+overflow_add-place c = omega (arith, c.loop-i.invariant.within, c.args.from.within, c.args.from.bound)
+
+pub returns-then-from-p : goal.returns-then-from-p
+returns-then-from-p c = rw c.at.ensures (digit-cut c.loop-i.invariant (omega arith) c.if-from-p.true)
 
 pub returns-then-le16-ge32768 : goal.returns-then-le16-ge32768
 returns-then-le16-ge32768 c =
-    digit-bad c.loop-left.invariant c.loop-left-test.true c.if-s-p.false
-    c.le16.ensures.0 c.if-le16-ge32768.true
+    rw c.at-then-le16-ge32768.ensures
+    (digit-bad c.loop-i.invariant (omega arith) c.if-from-p.false c.le16.ensures.0 c.if-le16-ge32768.true)
 
-pub loop-left-preserved : goal.loop-left-preserved
-loop-left-preserved c =
-    digit-fine c.loop-left.invariant c.loop-left-test.true c.if-s-p.false
-    c.le16.ensures.0 c.if-le16-ge32768.false
+pub loop-i-preserved : goal.loop-i-preserved
+loop-i-preserved c =
+    let count = c.args.count in
+    let at = c.args.from.at in
+    let i = c.loop-i.i in
+    let left : count - i - 1 ≡ count - (i + 1) = omega arith in
+    let place : at + 2 * i + 2 ≡ at + 2 * (i + 1) = omega arith in
+    subst₂ (λ l p. Judging c.args.from.input.now count at l p) left place
+    (digit-fine c.loop-i.invariant (omega arith) c.if-from-p.false c.le16.ensures.0 c.if-le16-ge32768.false)
 
 pub returns : goal.returns
-returns c = all_judged c.loop-left.invariant c.loop-left-test.false
+returns c = all_judged c.loop-i.invariant (omega arith)

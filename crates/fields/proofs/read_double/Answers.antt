@@ -6,14 +6,14 @@ use Rattle.grammar.specs.Fields.{fields}
 use Rattle.fields.specs.Behind.{fields_of}
 use Rattle.fields.proofs.read_double.Goals as goal
 
-pub returns-then-s-p : goal.returns-then-s-p
+pub returns-then-from-p : goal.returns-then-from-p
 unfolding fields_of fields
-returns-then-s-p c = record { ahead = tt; exact = rw (lt-leb _ _ c.if-s-p.true) }
+returns-then-from-p c = rw c.at.ensures (record { ahead = tt; exact = rw (lt-leb _ _ c.if-from-p.true) })
 
-pub returns-then-s-p-2 : goal.returns-then-s-p-2
+pub returns-then-from-p-2 : goal.returns-then-from-p-2
 unfolding fields_of fields
-returns-then-s-p-2 c = record { ahead = tt; exact = rw (le-leb _ _ c.if-s-p.false, lt-leb _ _ c.if-s-p-2.true) }
+returns-then-from-p-2 c = rw c.at-then-from-p-2.ensures (record { ahead = tt; exact = rw (le-leb _ _ c.if-from-p.false, lt-leb _ _ c.if-from-p-2.true) })
 
 pub returns : goal.returns
 unfolding fields_of fields
-returns c = record { ahead = (search rules, search rules); exact = rw (le-leb _ _ c.if-s-p.false, le-leb _ _ c.if-s-p-2.false) }
+returns c = record { ahead = (search rules, search rules); exact = rw (le-leb _ _ c.if-from-p.false, le-leb _ _ c.if-from-p-2.false) }

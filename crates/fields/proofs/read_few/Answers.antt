@@ -6,10 +6,10 @@ use Rattle.grammar.specs.Fields.{fields}
 use Rattle.fields.specs.Behind.{fields_of}
 use Rattle.fields.proofs.read_few.Goals as goal
 
-pub returns-then-s-p : goal.returns-then-s-p
+pub returns-then-from-p : goal.returns-then-from-p
 unfolding fields_of fields
-returns-then-s-p c = record { ahead = tt; exact = rw (lt-leb _ _ c.if-s-p.true) }
+returns-then-from-p c = rw c.at.ensures (record { ahead = tt; exact = rw (lt-leb _ _ c.if-from-p.true) })
 
 pub returns : goal.returns
 unfolding fields_of fields
-returns c = record { ahead = (search rules, search rules); exact = rw (le-leb _ _ c.if-s-p.false, c.word.ensures.0) }
+returns c = record { ahead = (search rules, search rules); exact = rw (le-leb _ _ c.if-from-p.false, c.word.ensures.0) }

@@ -23,5 +23,5 @@ unfolding classes class_at
 returns-in_default c =
     let class = c.args.class in
     let told = c.in_default.in_default-own.rest in
-    let last : class ≡ 12 = omega (arith, told, c.if-class-lt-BYTES_CLASS.false, c.requires.0) in
+    let last : class ≡ 12 = omega (arith, told, c.if-class-lt-BYTES_CLASS.false, c.requires) in
     of_class (ap class_at last) c.read_numbers.ensures

@@ -47,5 +47,5 @@ unfolding classes class_at fields_of fields
 returns-in_default c =
     let class = c.args.class in
     let over : 8 ≤ class = avoids class 8 c.in_default.in_default-own.rest in
-    let last : class ≡ 8 = omega (arith, over, c.requires.0) in
+    let last : class ≡ 8 = omega (arith, over, c.requires) in
     of_class (ap class_at last) (record { ahead = (search rules, search rules); exact = refl })

@@ -9,9 +9,9 @@ use Rattle.fields.proofs.read_numbers.Goals as goal
 
 pub returns-then-whole-lt-CODE_WORDS : goal.returns-then-whole-lt-CODE_WORDS
 unfolding fields_of code_fields
-returns-then-whole-lt-CODE_WORDS c = record { ahead = tt; exact = numbers-cut c.args.s.now 5 c.args.at _ (search rules) c.if-whole-lt-CODE_WORDS.true }
+returns-then-whole-lt-CODE_WORDS c = rw c.at.ensures (record { ahead = tt; exact = numbers-cut c.args.from.input.now 5 c.args.from.at _ (search rules) c.if-whole-lt-CODE_WORDS.true })
 
 pub returns : goal.returns
 unfolding fields_of code_fields
 returns c =
-    record { ahead = (search rules, search rules); exact = numbers_in c.args.s.now 5 c.args.at _ (omega arith) }
+    record { ahead = (search rules, search rules); exact = numbers_in c.args.from.input.now 5 c.args.from.at _ (omega arith) }

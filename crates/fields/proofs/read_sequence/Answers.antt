@@ -3,19 +3,20 @@
 use borrow.Author.Rules.{rules}
 use Rattle.grammar.specs.Fields.{fields}
 use Rattle.fields.specs.Behind.{fields_of}
+use Rattle.refusals.proofs.Faults.{handed_on}
 use Rattle.fields.proofs.Laws.{passed, failed}
 use native.Mathlib.Omega.{arith}
 use Rattle.fields.proofs.read_sequence.Goals as goal
 
 pub le32-requires : goal.le32-requires
-le32-requires c = omega (arith, (passed c.read_len.ensures c.in-Fine.is).within)
+le32-requires c = omega (arith, (passed c.read_len.ensures c.in_ok-read_len.was).within)
 
-pub returns-in-Refused : goal.returns-in-Refused
+pub returns-in_err-read_len : goal.returns-in_err-read_len
 unfolding fields_of fields
-returns-in-Refused c = record { ahead = tt; exact = failed c.read_len.ensures c.in-Refused.is _ }
+returns-in_err-read_len c = rw (handed_on c.from_residual.ensures.1) (record { ahead = tt; exact = failed c.read_len.ensures c.in_err-read_len.was _ })
 
-pub returns-in-Fine : goal.returns-in-Fine
+pub returns : goal.returns
 unfolding fields_of fields
-returns-in-Fine c =
-    let fine = passed c.read_len.ensures c.in-Fine.is in
+returns c =
+    let fine = passed c.read_len.ensures c.in_ok-read_len.was in
     record { ahead = (search rules, fine.within); exact = rw c.le32.ensures (fine.exact _) }

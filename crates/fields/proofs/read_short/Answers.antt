@@ -3,19 +3,20 @@
 use borrow.Author.Tests.{lt-leb}
 use Rattle.grammar.specs.Fields.{contained}
 use Rattle.fields.specs.Behind.{fields_of}
+use Rattle.refusals.proofs.Faults.{handed_on}
 use Rattle.fields.proofs.Laws.{passed, failed, short-bad, short_in}
 use Rattle.fields.proofs.read_short.Goals as goal
 
-pub returns-then-s-p : goal.returns-then-s-p
+pub returns-then-from-p : goal.returns-then-from-p
 unfolding fields_of contained
-returns-then-s-p c = record { ahead = tt; exact = rw (lt-leb _ _ c.if-s-p.true) }
+returns-then-from-p c = rw c.at.ensures (record { ahead = tt; exact = rw (lt-leb _ _ c.if-from-p.true) })
 
-pub returns-in-Refused : goal.returns-in-Refused
-returns-in-Refused c =
-    short-bad c.if-s-p.false c.word-size.ensures.0
-    (failed c.read_wtf8.ensures c.in-Refused.is)
+pub returns-in_err-read_wtf8 : goal.returns-in_err-read_wtf8
+returns-in_err-read_wtf8 c =
+    rw (handed_on c.from_residual.ensures.1)
+    (short-bad c.if-from-p.false c.word-size.ensures.0 (failed c.read_wtf8.ensures c.in_err-read_wtf8.was))
 
-pub returns-in-Fine : goal.returns-in-Fine
-returns-in-Fine c =
-    short_in c.if-s-p.false c.word-size.ensures.0
-    (passed c.read_wtf8.ensures c.in-Fine.is)
+pub returns : goal.returns
+returns c =
+    short_in c.if-from-p.false c.word-size.ensures.0
+    (passed c.read_wtf8.ensures c.in_ok-read_wtf8.was)

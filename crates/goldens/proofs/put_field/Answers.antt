@@ -1,9 +1,14 @@
 -- `goldens::put_field` meets its contract, by the laws of this crate that it names.
+use native.Mathlib.Omega.{arith}
+use Prim.Native.Nat.{◌+◌, ◌-◌}
+use lib.ListN.{length}
+use Rattle.taggedfields.proofs.Stored.{put_mid-sets}
 use Rattle.goldens.proofs.Moves.{field_put}
 use Rattle.goldens.proofs.put_field.Goals as goal
 
 pub returns : goal.returns
 returns c =
-    let file = c.args.file.now in
-    let out = c.args.out.now in
-    field_put out c.args.at c.args.tag file c.args.start c.args.size c.requires.1 c.put_header.ensures c.copy_bytes.ensures
+    let a = c.args in
+    field_put a.out.now a.at a.tag a.contents.now c.put_header.ensures
+    (rw c.copy_from_slice.ensures.after
+    (put_mid-sets c.put_header.new.out a.contents.now (a.at + 3) _ (omega (arith, c.requires.0, c.put_header.auto.out)) (omega arith)))

@@ -4,16 +4,16 @@ use Rattle.join.proofs.Told.{place_inside, tells-long, tells-refused, tells-plac
 use Rattle.join.proofs.line_told.Goals as goal
 
 pub returns-then-table : goal.returns-then-table
-returns-then-table c = tells-long _ _ _ c.if-table.true c.no_line.ensures
+returns-then-table c = tells-long _ _ _ c.if-table.true c.at.ensures
 
 pub overflow_cast-e : goal.overflow_cast-e
-overflow_cast-e c = let a = c.args in omega (arith, place_inside a.table.now a.first a.count c.walk_row-e.ensures, c.if-table.false)
+overflow_cast-e c = let a = c.args in omega (arith, place_inside a.t.bytes.now a.t.first a.t.count c.walk_row-e.ensures, c.if-table.false)
 
-pub returns-then-e-eq-REFUSED : goal.returns-then-e-eq-REFUSED
-returns-then-e-eq-REFUSED c = tells-refused _ _ _ c.if-table.false c.walk_row-e.ensures c.if-e-eq-REFUSED.true c.no_line-then-e-eq-REFUSED.ensures
+pub returns-in-Refused : goal.returns-in-Refused
+returns-in-Refused c = tells-refused _ _ _ c.if-table.false c.walk_row-e.ensures c.in-Refused.is c.at-in-Refused.ensures
 
-pub returns-then-e-eq-ALL_PLACED : goal.returns-then-e-eq-ALL_PLACED
-returns-then-e-eq-ALL_PLACED c = tells-placed _ _ _ c.if-table.false c.walk_row-e.ensures c.if-e-eq-ALL_PLACED.true
+pub returns-in-AllPlaced : goal.returns-in-AllPlaced
+returns-in-AllPlaced c = tells-placed _ _ _ c.if-table.false c.walk_row-e.ensures c.in-AllPlaced.is
 
 pub returns : goal.returns
-returns c = tells-ended _ _ _ c.if-table.false c.walk_row-e.ensures c.if-e-eq-REFUSED.false c.if-e-eq-ALL_PLACED.false c.entry_line-line.ensures
+returns c = tells-ended _ _ _ c.if-table.false c.walk_row-e.ensures c.in_default.not-Refused c.in_default-how.not-AllPlaced c.entry_line-line.ensures

@@ -1,10 +1,6 @@
 -- `none_rises` meets its contract by the laws cited here. Assumes nothing.
 use Rattle.keepmove.specs.Down.{NoneRises}
-use Prim.Native.Nat.{◌-◌, ◌≤◌}
 use Rattle.keepmove.proofs.none_rises.Given as goal
 
 abbrev pub invariant-loop-i : goal.invariant-loop-i
-invariant-loop-i l = (NoneRises l.i l.s) × (l.i ≤ l.kept)
-
-abbrev pub decreases-loop-i : goal.decreases-loop-i
-decreases-loop-i l = l.kept - l.i
+invariant-loop-i l = NoneRises l.i l.order

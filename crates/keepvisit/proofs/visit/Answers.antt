@@ -9,14 +9,15 @@ pub loop-top-init : goal.loop-top-init
 loop-top-init c = search (starting, rules)
 
 pub returns-then-bound-n : goal.returns-then-bound-n
-returns-then-bound-n c = search (beyond, rules)
+returns-then-bound-n c = rw c.at.ensures (beyond c.loop-top.invariant c.loop-top-test.true c.if-bound-n.true)
 
 pub loop-top-preserved-then-s-at-ne0 : goal.loop-top-preserved-then-s-at-ne0
 loop-top-preserved-then-s-at-ne0 c = search (passed, rules)
 
 pub returns-then-not-mark : goal.returns-then-not-mark
 returns-then-not-mark c =
-    unsound c.loop-top.invariant c.loop-top-test.true c.if-bound-n.false c.if-s-at-ne0.false c.count_of-count.ensures c.first_of-first.ensures c.mark.ensures c.if-not-mark.true
+    rw c.at-then-not-mark.ensures
+    (unsound c.loop-top.invariant c.loop-top-test.true c.if-bound-n.false c.if-s-at-ne0.false c.count_of-count.ensures c.first_of-first.ensures c.mark.ensures c.if-not-mark.true)
 
 pub overflow_add-moved : goal.overflow_add-moved
 overflow_add-moved c =

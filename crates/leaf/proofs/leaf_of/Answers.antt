@@ -2,23 +2,14 @@
 -- Assumes nothing.
 use borrow.Author.Rules.{rules}
 use mathlib.Core.Path.{sym, ap, ◌∙◌}
-use borrow.Author.Tests.{lt-ltb, le-ltb}
+use borrow.Author.Tests.{le-ltb}
+use Rattle.grammar.specs.Reading.{gives}
 use Rattle.grammar.specs.Leaf as definition
 use Rattle.grammar.specs.Record.{sound}
 use Rattle.grammar.specs.State.{Node}
 use Rattle.soundness.proofs.Soundness.{in_store, sound-node}
 use Rattle.leaf.specs.Answers.{told_of}
-use Rattle.leaf.specs.declared.Answered.TheVariants as answered
 use Rattle.leaf.proofs.leaf_of.Goals as goal
-
-pub returns-then-input : goal.returns-then-input
-unfolding definition.leaf_of
-returns-then-input c = rw (lt-ltb _ _ c.if-input.true)
-
-pub returns-then-not-sound_at : goal.returns-then-not-sound_at
-unfolding definition.leaf_of
-returns-then-not-sound_at c =
-    rw (le-ltb _ _ c.if-input.false, ← c.sound_at.ensures, c.if-not-sound_at.true)
 
 pub node_at-requires : goal.node_at-requires
 node_at-requires c =
@@ -37,5 +28,5 @@ unfolding definition.leaf_of
 returns c =
     let input = c.args.input.now in
     rw (le-ltb _ _ c.if-input.false, ← c.sound_at.ensures, c.if-not-sound_at.false)
-    (ap answered.Told c.leaf_as.ensures
-    ∙ ap (λ (n : Node). answered.Told (told_of (definition.leaf_as input n.letter n.place))) c.node_at.ensures)
+    (ap gives c.leaf_as.ensures
+    ∙ ap (λ (n : Node). gives (told_of (definition.leaf_as input n.letter n.place))) c.node_at.ensures)

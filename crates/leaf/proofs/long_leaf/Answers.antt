@@ -17,18 +17,18 @@ pub long_of-requires : goal.long_of-requires
 long_of-requires c =
     λ negative. negative-some c.args.s.now c.args.place c.le32-word.result c.digit_count.result
     c.le32-word.ensures c.digit_count.ensures.0
-    c.magnitude.ensures c.in-Is.is c.requires.0 (search rules) negative
+    c.magnitude.ensures c.in-Some.is c.requires.0 (search rules) negative
 
-pub returns-in-Above : goal.returns-in-Above
-returns-in-Above c =
+pub returns-in-None : goal.returns-in-None
+returns-in-None c =
     c.plain.ensures
     ∙ ap told_of (long-above c.args.s.now c.args.place c.le32-word.result c.digit_count.result
     c.le32-word.ensures c.digit_count.ensures.0
-    c.magnitude.ensures c.in-Above.is)
+    c.magnitude.ensures c.in-None.is)
 
-pub returns-in-Is : goal.returns-in-Is
-returns-in-Is c =
+pub returns-in-Some : goal.returns-in-Some
+returns-in-Some c =
     c.long_of.ensures
     ∙ ap told_of (long_measured c.args.s.now c.args.place c.le32-word.result c.digit_count.result
     c.le32-word.ensures c.digit_count.ensures.0
-    c.magnitude.ensures c.in-Is.is)
+    c.magnitude.ensures c.in-Some.is)

@@ -1,5 +1,5 @@
 -- `leaf::magnitude` meets its contract. The loop's invariant: the digits counted so far stand above those that are left.
--- The measure is how many are left. Assumes nothing.
+-- Assumes nothing.
 use Rattle.leaf.proofs.Digits.{counting, counted_all, one_more, beyond}
 use Rattle.leaf.proofs.magnitude.Goals as goal
 

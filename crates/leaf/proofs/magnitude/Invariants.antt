@@ -1,10 +1,7 @@
 -- `leaf::magnitude` meets its contract. The loop's invariant: the digits counted so far stand above those that are left.
--- The measure is how many are left. Assumes nothing.
+-- Assumes nothing.
 use Rattle.leaf.proofs.Digits.{Counting}
 use Rattle.leaf.proofs.magnitude.Given as goal
 
 abbrev pub invariant-loop-left : goal.invariant-loop-left
 invariant-loop-left l = Counting l.s l.count l.at l.left l.number
-
-abbrev pub decreases-loop-left : goal.decreases-loop-left
-decreases-loop-left l = l.left

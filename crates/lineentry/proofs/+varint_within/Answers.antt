@@ -18,25 +18,25 @@ returns-then-b-lt64 t c =
     let e = c.wide-b.ensures.0 in
     rw e (sym (varint_last a.most a.table.now a.at (omega arith) (omega arith) (omega (arith, e))))
 
+pub returns-in_err-rest : goal.returns-in_err-rest
+returns-in_err-rest t c =
+    let a = c.args in
+    let e = c.wide-b.ensures.0 in
+    c.from_residual.ensures ∙ sym (varint_next a.most a.table.now a.at (omega arith) (omega arith) (omega (arith, e))
+    ∙ ap (on_more (get_or a.table.now a.at 0)) (sym c.varint_within.ensures ∙ c.in_err-rest.was))
+
 pub returns-then-sum-ge4294967296 : goal.returns-then-sum-ge4294967296
 returns-then-sum-ge4294967296 t c =
     let a = c.args in
     let e = c.wide-b.ensures.0 in
     sym (varint_next a.most a.table.now a.at (omega arith) (omega arith) (omega (arith, e))
-    ∙ ap (on_more (get_or a.table.now a.at 0)) (sym c.in-Value.ensures)
-    ∙ more_large (get_or a.table.now a.at 0) _ _ _ (subst (λ b. 4294967296 ≤ b % 64 + 64 * c.in-Value.value) e c.if-sum-ge4294967296.true))
+    ∙ ap (on_more (get_or a.table.now a.at 0)) (sym c.varint_within.ensures ∙ c.in_ok-rest.was)
+    ∙ more_large (get_or a.table.now a.at 0) _ _ _ (subst (λ b. 4294967296 ≤ b % 64 + 64 * c.in_ok-rest.rest.value) e c.if-sum-ge4294967296.true))
 
-pub returns-in-TooLong : goal.returns-in-TooLong
-returns-in-TooLong t c =
-    let a = c.args in
-    let e = c.wide-b.ensures.0 in
-    sym (varint_next a.most a.table.now a.at (omega arith) (omega arith) (omega (arith, e))
-    ∙ ap (on_more (get_or a.table.now a.at 0)) (sym c.in-TooLong.ensures))
-
-pub returns-else-sum-ge4294967296 : goal.returns-else-sum-ge4294967296
-returns-else-sum-ge4294967296 t c =
+pub returns : goal.returns
+returns t c =
     let a = c.args in
     let e = c.wide-b.ensures.0 in
     rw e (sym (varint_next a.most a.table.now a.at (omega arith) (omega arith) (omega (arith, e))
-    ∙ ap (on_more (get_or a.table.now a.at 0)) (sym c.in-Value.ensures)
-    ∙ more_small (get_or a.table.now a.at 0) _ _ _ (subst (λ b. b % 64 + 64 * c.in-Value.value < 4294967296) e c.if-sum-ge4294967296.false)))
+    ∙ ap (on_more (get_or a.table.now a.at 0)) (sym c.varint_within.ensures ∙ c.in_ok-rest.was)
+    ∙ more_small (get_or a.table.now a.at 0) _ _ _ (subst (λ b. b % 64 + 64 * c.in_ok-rest.rest.value < 4294967296) e c.if-sum-ge4294967296.false)))

@@ -1,16 +1,11 @@
--- `lineentry::lt_read_signed_varint` meets its contract: the varint that was read, and the test on its lowest bit.
-use borrow.Author.Tests.{eq-eqb, ne_eqb}
+-- `lineentry::lt_read_signed_varint` meets its contract: the varint that was read, its value as a step.
 use Rattle.lineentry.specs.Varint.{signed_at}
 use Rattle.lineentry.proofs.lt_read_signed_varint.Goals as goal
 
-pub returns-in-TooLong : goal.returns-in-TooLong
+pub returns-in_err-read : goal.returns-in_err-read
 unfolding signed_at
-returns-in-TooLong c = rw (← c.lt_read_varint.ensures, c.in-TooLong.is)
+returns-in_err-read c = rw (c.from_residual.ensures, ← c.lt_read_varint.ensures, c.in_err-read.was)
 
-pub returns-then-value-eq0 : goal.returns-then-value-eq0
+pub returns : goal.returns
 unfolding signed_at
-returns-then-value-eq0 c = rw (← c.lt_read_varint.ensures, c.in-Value.is, eq-eqb _ _ c.if-value-eq0.true)
-
-pub returns-else-value-eq0 : goal.returns-else-value-eq0
-unfolding signed_at
-returns-else-value-eq0 c = rw (← c.lt_read_varint.ensures, c.in-Value.is, ne_eqb _ _ c.if-value-eq0.false)
+returns c = rw (c.signed_step.ensures, ← c.lt_read_varint.ensures, c.in_ok-read.was)

@@ -8,8 +8,8 @@ returns-in_default c = rw (← c.lt_read_signed_varint.ensures, c.in_default.is)
 
 pub returns-in_default-move_line : goal.returns-in_default-move_line
 unfolding no_columns
-returns-in_default-move_line c = rw (← c.lt_read_signed_varint.ensures, c.in-Value.is, ← c.move_line.ensures, c.in_default-move_line.is)
+returns-in_default-move_line c = rw (← c.lt_read_signed_varint.ensures, c.in-Some.is, ← c.move_line.ensures, c.in_default-move_line.is)
 
 pub returns : goal.returns
 unfolding no_columns
-returns c = rw (c.at_line.ensures, ← c.lt_read_signed_varint.ensures, c.in-Value.is, ← c.move_line.ensures, c.in-To.is)
+returns c = rw (c.at_line.ensures, ← c.lt_read_signed_varint.ensures, c.in-Some.is, ← c.move_line.ensures, c.in-Some-move_line.is)

@@ -8,4 +8,4 @@ returns-in_default c = rw (← c.move_line.ensures, c.in_default.is)
 
 pub returns : goal.returns
 unfolding one_line
-returns c = rw (c.show_line-l.ensures, c.lt_byte-end_column.ensures, c.lt_byte-column.ensures, ← c.move_line.ensures, c.in-To.is)
+returns c = rw (c.show_line-l.ensures, c.lt_byte-end_column.ensures, c.lt_byte-column.ensures, ← c.move_line.ensures, c.in-Some.is)

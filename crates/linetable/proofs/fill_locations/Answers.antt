@@ -9,7 +9,7 @@ loop-i-init c = (omega arith, filled_none c.args.flat.now c.args.out.now)
 
 pub loop-i-preserved : goal.loop-i-preserved
 loop-i-preserved c =
-    (omega arith, filled_more c.args.flat.now c.loop-i.i (length c.args.out.now) c.args.out.now c.loop-i-test.true c.loop-i.invariant.0 c.loop-i.invariant.1 c.location_at-v.ensures)
+    (omega arith, filled_more c.args.flat.now c.loop-i.i (length c.args.out.now) c.args.out.now c.loop-i-test.true c.loop-i.invariant.0 c.loop-i.invariant.1 c.location_at.ensures)
 
 pub returns : goal.returns
 returns c = filled_done c.args.flat.now c.loop-i.i c.args.out.now (omega arith) c.loop-i.invariant.1

@@ -5,6 +5,3 @@ use Rattle.linetable.proofs.fill_locations.Given as goal
 
 abbrev pub invariant-loop-i : goal.invariant-loop-i
 invariant-loop-i l = (l.i ≤ length l.initial.out) × (l.out ≡ filled l.flat l.i (length l.initial.out - l.i) l.initial.out)
-
-abbrev pub decreases-loop-i : goal.decreases-loop-i
-decreases-loop-i l = l.i

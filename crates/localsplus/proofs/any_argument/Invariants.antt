@@ -1,14 +1,10 @@
 -- `localsplus::any_argument` meets its contract: what is left of the list says as much as the whole on whether all are nothing.
 -- Assumes nothing.
-use Prim.Native.Nat.{◌-◌, ◌≤◌}
 use mathlib.Core.Path.{◌≡◌}
-use lib.ListN.{length, drop}
+use lib.ListN.{drop}
 use Rattle.localsplus.specs.Lists.{cell_args_from, all_nothing}
 use Rattle.localsplus.proofs.any_argument.Given as goal
 
 abbrev pub invariant-loop-i : goal.invariant-loop-i
 invariant-loop-i l =
-    (l.i ≤ length l.kinds) × (all_nothing (cell_args_from l.sum 0 l.kinds) ≡ all_nothing (cell_args_from l.sum l.i (drop l.i l.kinds)))
-
-abbrev pub decreases-loop-i : goal.decreases-loop-i
-decreases-loop-i l = length l.kinds - l.i
+    all_nothing (cell_args_from l.sum 0 l.kinds) ≡ all_nothing (cell_args_from l.sum l.i (drop l.i l.kinds))

@@ -1,6 +1,5 @@
 -- `localsplus::write_positions` meets its contract: the laws of a walk carry the loop, one turn of the positions each arm.
 -- Assumes nothing.
-use Prim.Native.Nat.{◌-◌}
 use lib.ListN.{length, drop}
 use Rattle.localsplus.specs.Lists.{positions_from, positions}
 use Rattle.localsplus.proofs.Walk.{Walk}
@@ -9,6 +8,3 @@ use Rattle.localsplus.proofs.write_positions.Given as goal
 abbrev pub invariant-loop-i : goal.invariant-loop-i
 invariant-loop-i l =
     Walk (positions l.bit l.kinds) l.kinds (length l.initial.out) l.out l.n l.i (positions_from l.bit l.i (drop l.i l.kinds))
-
-abbrev pub decreases-loop-i : goal.decreases-loop-i
-decreases-loop-i l = length l.kinds - l.i

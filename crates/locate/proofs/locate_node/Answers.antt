@@ -5,8 +5,9 @@ use Prim.Native.Nat.{◌/◌}
 use native.Mathlib.Omega.{arith}
 use lib.ListN.{length}
 use mir.Facts.{to_z-of_z}
+use Rattle.std.specs.Prelude.{Err}
 use Rattle.grammar.specs.State.{Node}
-use Rattle.linetable.specs.Answer.{first_line_of, records_of}
+use Rattle.linetable.specs.Answer.{first_line_of, numbered, records_of}
 use Rattle.fields.proofs.Laws.{part}
 use Rattle.soundness.proofs.Soundness.{in_store}
 use Rattle.locate.proofs.Sound.{sound-span, too_long, unsound, table}
@@ -18,7 +19,7 @@ returns-then-input c =
     let a = c.args in
     let capacity = length a.records.now / 4 in
     rw (too_long a.input.now a.nodes.now a.used a.node (first_line_of a.first_line) a.count capacity c.if-input.true)
-    c.refuse.ensures
+    (ap numbered (c.refuse.ensures.0 ∙ ap Err c.at.ensures), c.refuse.ensures.1)
 
 pub returns-then-not-sound_at : goal.returns-then-not-sound_at
 unfolding records_of
@@ -27,7 +28,7 @@ returns-then-not-sound_at c =
     let capacity = length a.records.now / 4 in
     let bad = sym c.sound_at.ensures ∙ c.if-not-sound_at.true in
     rw (unsound a.input.now a.nodes.now a.used a.node (first_line_of a.first_line) a.count capacity c.if-input.false bad)
-    c.refuse-then-not-sound_at.ensures
+    (ap numbered (c.refuse-then-not-sound_at.ensures.0 ∙ ap Err c.at-then-not-sound_at.ensures), c.refuse-then-not-sound_at.ensures.1)
 
 pub node_at-found-requires : goal.node_at-found-requires
 node_at-found-requires c =

@@ -1,11 +1,7 @@
 -- Carried by `Asking`: what is left of the question still comes to the same. Assumes nothing.
-use Prim.Native.Nat.{◌-◌}
 use Rattle.nodespan.specs.Walk.{bounded}
 use Rattle.nodespan.proofs.Walks.{Asking}
 use Rattle.nodespan.proofs.closed.Given as goal
 
 abbrev pub invariant-loop-node : goal.invariant-loop-node
 invariant-loop-node l = Asking (bounded l.nodes l.entries l.b) l.b.many l.b.room l.all l.steps l.node
-
-abbrev pub decreases-loop-node : goal.decreases-loop-node
-decreases-loop-node l = l.b.many - l.node

@@ -9,13 +9,14 @@ use Rattle.nodespan.proofs.span_of.Goals as goal
 
 pub returns-then-input : goal.returns-then-input
 unfolding definition.span_of
-returns-then-input c = rw (lt-ltb _ _ c.if-input.true)
+returns-then-input c = rw (c.at.ensures, lt-ltb _ _ c.if-input.true)
 
 pub returns-then-not-sound_at : goal.returns-then-not-sound_at
 returns-then-not-sound_at c =
     let a = c.args in
     let t = tables_of a.input.now a.nodes.now a.entries.now a.used_nodes a.used_entries in
-    span_unsound t a.node (le-ltb _ _ c.if-input.false) (sym c.sound_at.ensures ∙ c.if-not-sound_at.true)
+    rw c.at-then-not-sound_at.ensures
+    (span_unsound t a.node (le-ltb _ _ c.if-input.false) (sym c.sound_at.ensures ∙ c.if-not-sound_at.true))
 
 pub node_at-requires : goal.node_at-requires
 node_at-requires c =
@@ -26,7 +27,8 @@ pub returns-then-not-spanned : goal.returns-then-not-spanned
 returns-then-not-spanned c =
     let a = c.args in
     let t = tables_of a.input.now a.nodes.now a.entries.now a.used_nodes a.used_entries in
-    span_outside t a.node (le-ltb _ _ c.if-input.false) (sym c.sound_at.ensures ∙ c.if-not-sound_at.false) c.node_at.ensures c.spanned.ensures c.if-not-spanned.true
+    rw c.at-then-not-spanned.ensures
+    (span_outside t a.node (le-ltb _ _ c.if-input.false) (sym c.sound_at.ensures ∙ c.if-not-sound_at.false) c.node_at.ensures c.spanned.ensures c.if-not-spanned.true)
 
 pub returns : goal.returns
 returns c =

@@ -7,7 +7,7 @@ use mathlib.Core.Path.{◌∙◌}
 use Rattle.output.proofs.write_len.Goals as goal
 
 pub returns-then-room-place-lt5 : goal.returns-then-room-place-lt5
-returns-then-room-place-lt5 c = full (omega arith) (omega arith) (omega arith)
+returns-then-room-place-lt5 c = full (omega arith) (omega arith) (omega arith) c.at.ensures
 
 pub store_u32-requires : goal.store_u32-requires
 store_u32-requires c = simp length-set (omega arith)

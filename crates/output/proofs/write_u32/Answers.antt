@@ -4,7 +4,7 @@ use Rattle.output.proofs.Laws.{full, placed}
 use Rattle.output.proofs.write_u32.Goals as goal
 
 pub returns-then-room-place-lt4 : goal.returns-then-room-place-lt4
-returns-then-room-place-lt4 c = full (omega arith) (omega arith) (omega arith)
+returns-then-room-place-lt4 c = full (omega arith) (omega arith) (omega arith) c.at.ensures
 
 pub store_u32-requires : goal.store_u32-requires
 store_u32-requires c = omega arith

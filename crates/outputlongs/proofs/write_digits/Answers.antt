@@ -6,7 +6,7 @@ use mathlib.Core.Path.{◌∙◌}
 use Rattle.outputlongs.proofs.write_digits.Goals as goal
 
 pub returns-then-room-place : goal.returns-then-room-place
-returns-then-room-place c = digits_full c.args.out.now c.args.at c.args.negative c.args.magnitude c.digits_in-count.result c.digits_in-count.ensures.0 (omega arith) (omega arith) (omega arith)
+returns-then-room-place c = digits_full c.args.out.now c.args.at c.args.negative c.args.magnitude c.digits_in-count.result c.digits_in-count.ensures.0 (omega arith) (omega arith) (omega arith) c.at.ensures
 
 pub store_u32-requires : goal.store_u32-requires
 store_u32-requires c = simp length-set (omega (arith, c.digits_in-count.ensures))

@@ -1,16 +1,14 @@
--- Carried by `Plain`: the bytes that are left tell the same. Assumes nothing.
-use Rattle.outputtext.proofs.Strings.{plain_none, plain_more, plain_not, plain_all}
-use borrow.Author.Rules.{rules}
+-- Carried by `each_ascii`: what the chain tests of each byte is `ascii`. Assumes nothing.
+use Rattle.outputtext.proofs.Strings.{each_ascii}
+use Rattle.std.proofs.lemmas.Iterator.{YieldsList-from_slice}
+use Rattle.std.proofs.lemmas.Iterator.Search.{all_from_yields_List}
+use Rattle.std.proofs.Common.{rules, tests}
+use mathlib.Core.Path.{◌∙◌}
+use Rattle.std.specs.Prelude.{ltb}
 use Rattle.outputtext.proofs.is_ascii.Goals as goal
 
-pub loop-i-init : goal.loop-i-init
-loop-i-init c = plain_none _ _ _
-
-pub returns-then-s-from-ge128 : goal.returns-then-s-from-ge128
-returns-then-s-from-ge128 c = search (plain_not, rules)
-
-pub loop-i-preserved : goal.loop-i-preserved
-loop-i-preserved c = search (plain_more, rules)
-
 pub returns : goal.returns
-returns c = search (plain_all, rules)
+returns c =
+    let bytes = c.args.bytes.now in
+    all_from_yields_List (λ byte. ltb byte 128) _ _ c.all.result c.all.ensures.ran (YieldsList-from_slice bytes cc) (λ x b q k. search (rules, tests))
+    ∙ each_ascii bytes

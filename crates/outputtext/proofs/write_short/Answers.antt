@@ -1,21 +1,14 @@
 -- Carried by the laws of room. Assumes nothing.
-use Rattle.outputtext.proofs.Strings.{short_full, short-placed}
-use lib.ListN.{length-set}
+use Rattle.output.proofs.Laws.{full, placed, sets-second}
 use native.Mathlib.Omega.{arith}
 use mathlib.Core.Path.{◌∙◌}
+use lib.ListN.{length}
 use Rattle.outputtext.proofs.write_short.Goals as goal
 
 pub returns-then-room-place : goal.returns-then-room-place
-returns-then-room-place c = short_full c.args.out.now c.args.at c.args.s.now c.args.from c.args.size c.requires.1 (omega arith) (omega arith) (omega arith)
-
-pub bounds-out-place-2 : goal.bounds-out-place-2
-bounds-out-place-2 c = simp length-set (omega arith)
-
-pub store_slice-requires : goal.store_slice-requires
-store_slice-requires c = simp length-set (omega arith)
-
-pub shape_of-out : goal.shape_of-out
-shape_of-out c = c.store_slice.auto.out ∙ simp length-set
+returns-then-room-place c = full (omega arith) (omega arith) (omega arith) c.at.ensures
 
 pub returns : goal.returns
-returns c = short-placed c.args.out.now c.args.at c.args.s.now c.args.from c.args.size c.requires.1 (omega arith) c.store_slice.ensures
+returns c =
+    let a = c.args in
+    placed (omega arith) (omega (arith, c.from.ensures)) (c.store_slice.ensures ∙ sets-second a.out.now a.at 0x7A (length a.bytes.now) a.bytes.now)

@@ -14,6 +14,3 @@ pub long_entry-requires : goal.long_entry-requires
 long_entry-requires c =
     let long = long_is _ _ (sym c.is_long.ensures ∙ c.if-is_long.true) in
     (long, read-numbers _ _ long c.short_numbers-numbers.ensures c.if-numbers.true)
-
-pub returns : goal.returns
-returns c = c.in_numbers.ensures ∙ c.read_entry.ensures

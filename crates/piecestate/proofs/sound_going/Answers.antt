@@ -1,7 +1,8 @@
 -- `piecestate::sound_going` meets its contract: each test decides a case of the definition.
-use mathlib.Core.Path.{sym, ◌∙◌}
+use mathlib.Core.Path.{sym, ap, ◌∙◌}
 use borrow.Author.Tests.{lt-ltb, le-ltb, eq-eqb, ne_eqb}
-use Rattle.piecestate.specs.State.{sound_going}
+use Rattle.piecestate.specs.State.{open_entry, sound_going}
+use Rattle.piecestate.proofs.Stores.{part_held}
 use Rattle.piecestate.proofs.sound_going.Goals as goal
 
 pub returns-then-not-is_counted : goal.returns-then-not-is_counted
@@ -26,4 +27,4 @@ returns-then-k-eq0 c = rw (sym c.is_counted.ensures ∙ c.if-not-is_counted.fals
 
 pub returns : goal.returns
 unfolding sound_going
-returns c = rw (sym c.is_counted.ensures ∙ c.if-not-is_counted.false, le-ltb _ _ c.if-k-gt-MOST_HELD.false, le-ltb _ _ c.if-k.false, le-ltb _ _ c.if-k-2.false, ne_eqb _ _ c.if-k-eq0.false) c.open_held.ensures
+returns c = rw (sym c.is_counted.ensures ∙ c.if-not-is_counted.false, le-ltb _ _ c.if-k-gt-MOST_HELD.false, le-ltb _ _ c.if-k.false, le-ltb _ _ c.if-k-2.false, ne_eqb _ _ c.if-k-eq0.false) (c.open_held.ensures ∙ ap (λ h. open_entry h c.args.k.line) (part_held c.args.state.now c.args.k.size))

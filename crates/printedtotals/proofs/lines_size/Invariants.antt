@@ -1,12 +1,7 @@
 -- `printedtotals::lines_size` meets its contract: the lines counted and those left are all.
 -- Assumes nothing.
-use Prim.Native.Nat.{◌-◌}
 use Rattle.printedtotals.proofs.Printing.{SizeSoFar}
-use Rattle.totals.specs.Totals.{counters}
 use Rattle.printedtotals.proofs.lines_size.Given as goal
 
 abbrev pub invariant-loop-i : goal.invariant-loop-i
 invariant-loop-i l = SizeSoFar l.store l.size l.i
-
-abbrev pub decreases-loop-i : goal.decreases-loop-i
-decreases-loop-i l = counters - l.i

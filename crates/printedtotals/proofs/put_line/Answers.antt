@@ -10,14 +10,10 @@ put_label-digits-requires c = omega (arith, length-line c.args.i c.args.count)
 pub put_decimal-end-requires : goal.put_decimal-end-requires
 put_decimal-end-requires c = omega (arith, length-line c.args.i c.args.count, c.put_label-digits.auto.out, c.put_label-digits.ensures.0)
 
-pub put_byte-requires : goal.put_byte-requires
-put_byte-requires c =
+pub put_text-requires : goal.put_text-requires
+put_text-requires c =
     omega (arith, length-line c.args.i c.args.count, c.put_decimal-end.auto.out, c.put_decimal-end.ensures.0, c.put_label-digits.auto.out, c.put_label-digits.ensures.0)
-
-pub overflow_add-result : goal.overflow_add-result
-overflow_add-result c =
-    record { fits = omega (arith, length-line c.args.i c.args.count, c.put_decimal-end.ensures.0, c.put_label-digits.ensures.0) }
 
 pub returns : goal.returns
 returns c =
-    put_whole c.args.out.now c.args.at c.args.i c.args.count c.put_label-digits.ensures c.put_decimal-end.ensures c.put_byte.ensures
+    put_whole c.args.out.now c.args.at c.args.i c.args.count c.put_label-digits.ensures c.put_decimal-end.ensures c.put_text.ensures

@@ -13,9 +13,9 @@ decreases-typed l = 4 * l.allowance + 2
 abbrev pub decreases-value : goal.decreases-value
 decreases-value l = 4 * l.allowance
 
-abbrev pub invariant-typed-loop-number : goal.invariant-typed-loop-number
-invariant-typed-loop-number l =
+abbrev pub invariant-typed-loop-refusal : goal.invariant-typed-loop-refusal
+invariant-typed-loop-refusal l =
     InvBody l.kids l.header l.s l.room l.allowance l.initial.l l.initial.nodes l.initial.entries l.initial.slots l.nodes l.entries l.slots l.l
 
-abbrev pub decreases-typed-loop-number : goal.decreases-typed-loop-number
-decreases-typed-loop-number l = length l.s - l.l.walk.at
+abbrev pub decreases-typed-loop-refusal : goal.decreases-typed-loop-refusal
+decreases-typed-loop-refusal l = length l.s - l.l.walk.at

@@ -2,9 +2,8 @@
 use mathlib.Core.Path.{refl}
 use Rattle.wtf8.specs.Leads.{lead_table}
 use Rattle.fields.specs.Headers.{header_table}
-use borrow.Author.Rules.{rules}
 use Rattle.reader.proofs.by_tables.Goals as goal
 
-pub value-requires : goal.value-requires
+pub invariant_of-tables : goal.invariant_of-tables
 unfolding header_table lead_table
-value-requires c = (search rules, refl)
+invariant_of-tables c = record { are_classes = refl; are_leads = refl }

@@ -5,9 +5,9 @@ use lib.ListN.{length}
 use Rattle.readleaves.proofs.Running.{Running}
 use Rattle.readleaves.proofs.run.Given as goal
 
-abbrev pub invariant-loop-number : goal.invariant-loop-number
-invariant-loop-number l =
+abbrev pub invariant-loop-refusal : goal.invariant-loop-refusal
+invariant-loop-refusal l =
     Running l.kids l.header l.s l.room l.allowance l.initial.l l.initial.nodes l.initial.entries l.initial.slots l.nodes l.entries l.slots l.l
 
-abbrev pub decreases-loop-number : goal.decreases-loop-number
-decreases-loop-number l = length l.s - l.l.walk.at
+abbrev pub decreases-loop-refusal : goal.decreases-loop-refusal
+decreases-loop-refusal l = length l.s - l.l.walk.at

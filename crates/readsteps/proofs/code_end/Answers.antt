@@ -2,7 +2,10 @@
 -- Assumes nothing.
 use mathlib.Core.Path.{refl}
 use native.Mathlib.Omega.{arith}
+use Rattle.refusals.proofs.Faults.{number_in_table}
 use Rattle.readsteps.proofs.code_end.Goals as goal
 
-pub returns-then-fault-ne-ACCEPTED : goal.returns-then-fault-ne-ACCEPTED
-returns-then-fault-ne-ACCEPTED c = (λ h. absurd (omega (arith, h, c.requires.0)), λ h. (refl, c.code_fault-fault.ensures, c.if-fault-ne-ACCEPTED.true))
+pub returns-in-Err : goal.returns-in-Err
+returns-in-Err c =
+    let told = c.in-Err.ensures in
+    rw c.at.ensures (λ h. absurd (omega (arith, h, c.requires.0)), λ h. (refl, told, λ e. omega (arith, e, (number_in_table c.in-Err.refusal).0)))

@@ -1,9 +1,5 @@
 -- `front` is the definition's front at every depth; a law of Fronts for each way out.
 -- Assumes nothing.
-use mathlib.Core.Path.{ap}
-use mathlib.Core.List.{List, []}
-use Prim.Native.Nat.{ℕ}
-use lib.ListN.{get_or}
 use Rattle.readsteps.proofs.Fronts.{front-deep, front-end, front-known, front-no_slot, front-refused, front-no_node, front-opened}
 use borrow.Author.Rules.{rules}
 use Rattle.readsteps.proofs.front.Goals as goal
@@ -13,11 +9,6 @@ returns-then-allowance-eq0 c = search (front-deep, rules)
 
 pub returns-then-s-at : goal.returns-then-s-at
 returns-then-s-at c = search (front-end, rules)
-
-pub class_at-class-requires : goal.class_at-class-requires
-class_at-class-requires c =
-    let start = c in
-    (search rules, ap (λ (t : List (List ℕ)). get_or t 0 []) c.requires.4)
 
 pub returns-then-class-eq-REFERENCE_CLASS : goal.returns-then-class-eq-REFERENCE_CLASS
 returns-then-class-eq-REFERENCE_CLASS c = search (front-known, rules)
@@ -32,10 +23,7 @@ pub returns-then-room-w-2 : goal.returns-then-room-w-2
 returns-then-room-w-2 c = search (front-no_node, rules)
 
 pub open_node-requires : goal.open_node-requires
-open_node-requires c =
-    let node = c in
-    let start = c in
-    (search rules, search rules, search rules, search rules, ap (λ (t : List (List ℕ)). get_or t 1 []) start.requires.4)
+open_node-requires c = (search rules, search rules)
 
 pub returns : goal.returns
 returns c = search (front-opened, rules)

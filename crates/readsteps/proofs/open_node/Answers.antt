@@ -7,8 +7,8 @@ use Rattle.readsteps.proofs.open_node.Goals as goal
 pub returns-then-allowance-levels : goal.returns-then-allowance-levels
 returns-then-allowance-levels c = search (node-deep, rules)
 
-pub returns-in-Refused : goal.returns-in-Refused
-returns-in-Refused c = search (node-cut, rules)
+pub returns-in-Err : goal.returns-in-Err
+returns-in-Err c = node-cut c.requires.1 c.levels.ensures c.if-allowance-levels.false c.read_fields.ensures c.in-Err.is
 
-pub returns-in-Span : goal.returns-in-Span
-returns-in-Span c = search (node-opened, rules)
+pub returns-in-Ok : goal.returns-in-Ok
+returns-in-Ok c = node-opened c.requires.1 c.levels.ensures c.if-allowance-levels.false c.read_fields.ensures c.in-Ok.is

@@ -4,8 +4,8 @@ use Rattle.readsteps.proofs.Links.{ref_cut, ref_open, ref_known}
 use borrow.Author.Rules.{rules}
 use Rattle.readsteps.proofs.resolve_ref.Goals as goal
 
-pub returns-then-s-p : goal.returns-then-s-p
-returns-then-s-p c = search (ref_cut, rules)
+pub returns-then-from-p : goal.returns-then-from-p
+returns-then-from-p c = search (ref_cut, rules)
 
 pub returns-then-stored-eq0 : goal.returns-then-stored-eq0
 returns-then-stored-eq0 c = search (ref_open, rules)

@@ -1,18 +1,10 @@
--- `salvage::cover` meets its contract: what is left to cover still comes to the same output. Assumes nothing.
-use mathlib.Core.Path.{refl}
+-- `salvage::cover` meets its contract: entries of eight, then the remainder. Assumes nothing.
 use native.Mathlib.Omega.{arith}
-use Rattle.salvage.proofs.Stores.{covering_more, covering_last, covering_all}
-use borrow.Author.Rules.{rules}
+use Rattle.salvage.proofs.Stores.{covered_less, covered_even}
 use Rattle.salvage.proofs.cover.Goals as goal
 
-pub loop-rest-init : goal.loop-rest-init
-loop-rest-init c = record { same = refl; room = omega arith; upto = omega arith; comes = refl }
+pub returns-then-left-gt0 : goal.returns-then-left-gt0
+returns-then-left-gt0 c = covered_less c.args.out.now c.args.at c.args.left c.requires.0 (c.fill.ensures.after (λ y e. e)) c.if-left-gt0.true
 
-pub loop-rest-preserved : goal.loop-rest-preserved
-loop-rest-preserved c = search (covering_more, rules)
-
-pub returns-then-rest-gt0 : goal.returns-then-rest-gt0
-returns-then-rest-gt0 c = search (covering_last, covering_all, rules)
-
-pub returns-else-rest-gt0 : goal.returns-else-rest-gt0
-returns-else-rest-gt0 c = search (covering_all, rules)
+pub returns-else-left-gt0 : goal.returns-else-left-gt0
+returns-else-left-gt0 c = covered_even c.args.out.now c.args.at c.args.left c.requires.0 (c.fill.ensures.after (λ y e. e)) (omega (arith, c.if-left-gt0.false))

@@ -1,9 +1,9 @@
 -- `salvage::write_covered` meets its contract. Assumes nothing.
 use native.Mathlib.Omega.{arith}
-use Rattle.salvage.proofs.Stores.{stored-covered}
+use Rattle.salvage.proofs.Stores.{front-stored, stored-covered}
 use Rattle.salvage.proofs.write_covered.Goals as goal
 
 pub returns : goal.returns
 returns c =
     let a = c.args in
-    stored-covered a.table.now a.place a.left a.out.now (omega arith) c.copy.ensures c.cover.ensures
+    stored-covered a.table.now a.place a.left a.out.now (omega arith) (front-stored a.place a.table.now a.out.now (omega arith) (omega arith) c.copy_from_slice.ensures.after) c.cover.ensures

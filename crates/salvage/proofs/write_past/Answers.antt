@@ -4,4 +4,4 @@ use Rattle.salvage.proofs.Stores.{stored_past}
 use Rattle.salvage.proofs.write_past.Goals as goal
 
 pub returns : goal.returns
-returns c = stored_past _ _ _ _ _ _ (omega arith) c.head_for-head.ensures c.copy.ensures c.store.ensures c.copy-2.ensures
+returns c = stored_past _ _ _ _ _ _ (omega arith) (omega arith) (omega arith) c.head_for.ensures c.copy_from_slice.ensures.after

@@ -1,25 +1,22 @@
 -- `settings::lookup` meets its contract, by the laws of this crate that it names.
 -- Assumes nothing.
-use mathlib.Core.Path.{refl}
+use mathlib.Core.Path.{◌∙◌}
 use native.Mathlib.Omega.{arith}
-use Rattle.settings.proofs.Lookups.{says, part_same}
+use Rattle.settings.specs.declared.Origin.TheVariants as origin
+use Rattle.settings.proofs.Lookups.{says_refused, says_in}
 use Rattle.settings.proofs.lookup.Goals as goal
 
-pub returns-then-found-ne0 : goal.returns-then-found-ne0
-returns-then-found-ne0 c = (says _ _ _ c.find_setting-found.ensures).refused c.if-found-ne0.true
+pub of-requires : goal.of-requires
+of-requires c = let p = says_in _ _ c.args.tag origin.Override c.in-Ok.ensures c.in-Override.is in omega (arith, p.within)
 
-pub slice_bounds-result-end-then-found-eq0 : goal.slice_bounds-result-end-then-found-eq0
-slice_bounds-result-end-then-found-eq0 c = let p = (says _ _ _ c.find_setting-found.ensures).override c.if-found-ne0.false
-    c.if-found-eq0.true in omega (arith, p.within)
+pub of-requires-in-Default : goal.of-requires-in-Default
+of-requires-in-Default c = let p = says_in _ _ c.args.tag origin.Default c.in-Ok.ensures c.in-Default.is in omega (arith, p.within)
 
-pub slice_bounds-result-end-2 : goal.slice_bounds-result-end-2
-slice_bounds-result-end-2 c = let p = (says _ _ _ c.find_setting-found.ensures).default c.if-found-ne0.false
-    c.if-found-eq0.false in omega (arith, p.within)
+pub returns-in-Err : goal.returns-in-Err
+returns-in-Err c = says_refused _ _ c.args.tag c.in-Err.ensures
 
-pub returns-then-found-eq0 : goal.returns-then-found-eq0
-returns-then-found-eq0 c = part_same _ ((says _ _ _ c.find_setting-found.ensures).override
-    c.if-found-ne0.false c.if-found-eq0.true) refl
+pub returns-in-Override : goal.returns-in-Override
+returns-in-Override c = c.of.ensures ∙ (says_in _ _ c.args.tag origin.Override c.in-Ok.ensures c.in-Override.is).same
 
-pub returns : goal.returns
-returns c = part_same _ ((says _ _ _ c.find_setting-found.ensures).default
-    c.if-found-ne0.false c.if-found-eq0.false) refl
+pub returns-in-Default : goal.returns-in-Default
+returns-in-Default c = c.of-in-Default.ensures ∙ (says_in _ _ c.args.tag origin.Default c.in-Ok.ensures c.in-Default.is).same

@@ -2,8 +2,8 @@
 -- Assumes nothing.
 use Rattle.sources.proofs.above_after.Goals as goal
 
-pub returns-in-Outside : goal.returns-in-Outside
-returns-in-Outside c = rw (← c.as_signed.ensures, ← c.move_line.ensures, c.in-Outside.is)
+pub returns-in-None : goal.returns-in-None
+returns-in-None c = rw (← c.as_signed.ensures, ← c.move_line.ensures, c.in-None.is)
 
-pub returns-in-To : goal.returns-in-To
-returns-in-To c = rw (← c.as_signed.ensures, ← c.move_line.ensures, c.in-To.is) c.is_above.ensures
+pub returns-in-Some : goal.returns-in-Some
+returns-in-Some c = rw (← c.as_signed.ensures, ← c.move_line.ensures, c.in-Some.is) c.is_above.ensures

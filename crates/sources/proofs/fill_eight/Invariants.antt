@@ -1,14 +1,11 @@
 -- `sources::fill_eight` meets its contract: what is left to store still comes to the same store.
 -- Assumes nothing.
 use mathlib.Core.Path.{◌≡◌}
-use Prim.Native.Nat.{◌≤◌, ◌+◌}
+use Prim.Native.Nat.{◌-◌, ◌+◌}
 use lib.ListN.{length, replicate}
 use lib.Seq.{sets}
 use Rattle.sources.proofs.fill_eight.Given as goal
 
-abbrev pub invariant-loop-left : goal.invariant-loop-left
-invariant-loop-left l =
-    (length l.bytes ≡ length l.initial.bytes) × (l.j + l.left ≤ length l.initial.bytes) × (l.left ≤ 8) × (sets l.initial.bytes l.from (replicate 8 l.byte) ≡ sets l.bytes l.j (replicate l.left l.byte))
-
-abbrev pub decreases-loop-left : goal.decreases-loop-left
-decreases-loop-left l = l.left
+abbrev pub invariant-loop-j : goal.invariant-loop-j
+invariant-loop-j l =
+    (length l.bytes ≡ length l.initial.bytes) × (sets l.initial.bytes l.from (replicate 8 l.byte) ≡ sets l.bytes (l.from + l.j) (replicate (8 - l.j) l.byte))

@@ -3,10 +3,10 @@
 use Rattle.sources.specs.Source.{number_at}
 use Rattle.sources.proofs.number_at.Goals as goal
 
-pub returns-in-TooLong : goal.returns-in-TooLong
+pub returns-in-None : goal.returns-in-None
 unfolding number_at
-returns-in-TooLong c = rw (← c.lt_read_varint.ensures, c.in-TooLong.is)
+returns-in-None c = rw (← c.lt_read_varint.ensures, c.in-None.is)
 
-pub returns-in-Value : goal.returns-in-Value
+pub returns-in-Some : goal.returns-in-Some
 unfolding number_at
-returns-in-Value c = rw (← c.lt_read_varint.ensures, c.in-Value.is)
+returns-in-Some c = rw (← c.lt_read_varint.ensures, c.in-Some.is)

@@ -4,6 +4,3 @@ use Rattle.startindex.proofs.full_word.Given as goal
 
 abbrev pub invariant-loop-j : goal.invariant-loop-j
 invariant-loop-j l = Gathering l.records l.from l.word l.j
-
-abbrev pub decreases-loop-j : goal.decreases-loop-j
-decreases-loop-j l = l.j

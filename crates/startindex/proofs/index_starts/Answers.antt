@@ -6,15 +6,15 @@ use borrow.Author.Rules.{rules}
 use Rattle.startindex.proofs.index_starts.Goals as goal
 
 pub returns-then-kept-count : goal.returns-then-kept-count
-returns-then-kept-count c = few-records _ _ _ c.if-kept-count.true c.answer.ensures c.clear.ensures
+returns-then-kept-count c = few-records _ _ _ c.if-kept-count.true c.at.ensures (c.fill.ensures.after (λ y e. e))
 
 pub returns-then-index-words_needed : goal.returns-then-index-words_needed
-returns-then-index-words_needed c = few_words _ _ _ c.clear.ensures c.if-kept-count.false c.if-index-words_needed.true c.words_needed.ensures c.answer-then-index-words_needed.ensures
+returns-then-index-words_needed c = few_words _ _ _ (c.fill.ensures.after (λ y e. e)) c.if-kept-count.false c.if-index-words_needed.true c.words_needed.ensures c.at-then-index-words_needed.ensures
 
-pub overflow_cast-starts : goal.overflow_cast-starts
-overflow_cast-starts c = search (starts_le c.args.records.now 0 c.args.count, rules)
+pub overflow_cast-result : goal.overflow_cast-result
+overflow_cast-result c = search (starts_le c.args.records.now 0 c.args.count, rules)
 
 pub returns : goal.returns
 returns c =
     let laid = c.put_blocks-starts.ensures in
-    all_stored _ _ _ c.clear.ensures c.if-kept-count.false c.if-index-words_needed.false c.words_needed.ensures refl laid.0 c.answer-2.ensures laid.1
+    all_stored _ _ _ (c.fill.ensures.after (λ y e. e)) c.if-kept-count.false c.if-index-words_needed.false c.words_needed.ensures refl laid.0 laid.1

@@ -8,7 +8,7 @@ use borrow.Author.Rules.{rules}
 use Rattle.startindex.proofs.put_block.Goals as goal
 
 pub loop-j-init : goal.loop-j-init
-loop-j-init c = filling_none _ _ _ _ _ (simp length-set (omega arith)) c.requires.4 c.requires.3
+loop-j-init c = filling_none _ _ _ _ _ (simp length-set (omega arith)) c.requires.2 c.requires.1
 
 pub overflow_add-sum : goal.overflow_add-sum
 overflow_add-sum c = search (filling_small c.loop-j.invariant, rules)
@@ -22,4 +22,4 @@ shape_of-index c = c.loop-j.invariant.same ∙ simp length-set
 pub returns : goal.returns
 returns c =
     let all = filling_all c.loop-j.invariant c.loop-j-test.false in
-    (all.0, block-stored _ _ _ c.args.index.now c.requires.4 all.1)
+    (all.0, block-stored _ _ _ c.args.index.now c.requires.2 all.1)

@@ -1,10 +1,6 @@
 -- `starts::kth_in_words` meets its contract: what is left to search still comes to the same answer. Assumes nothing.
-use Rattle.std.proofs.Common.{◌-◌}
 use Rattle.starts.proofs.Loops.{Searching}
 use Rattle.starts.proofs.kth_in_words.Given as goal
 
 abbrev pub invariant-loop-j : goal.invariant-loop-j
 invariant-loop-j l = Searching l.index l.from l.first l.k l.left l.i l.j
-
-abbrev pub decreases-loop-j : goal.decreases-loop-j
-decreases-loop-j l = 8 - l.j

@@ -3,10 +3,10 @@ use Rattle.starts.proofs.Answers.{before-short, before-beyond, before-told}
 use Rattle.starts.proofs.starts_before.Goals as goal
 
 pub returns-then-index-words_needed : goal.returns-then-index-words_needed
-returns-then-index-words_needed c = before-short _ _ _ c.words_needed.ensures c.if-index-words_needed.true c.tell.ensures
+returns-then-index-words_needed c = before-short _ _ _ c.words_needed.ensures c.if-index-words_needed.true c.at.ensures
 
 pub returns-then-count-n : goal.returns-then-count-n
-returns-then-count-n c = before-beyond _ _ _ c.words_needed.ensures c.if-index-words_needed.false c.if-count-n.true c.tell-then-count-n.ensures
+returns-then-count-n c = before-beyond _ _ _ c.words_needed.ensures c.if-index-words_needed.false c.if-count-n.true c.at-then-count-n.ensures
 
 pub returns : goal.returns
-returns c = before-told _ _ _ c.words_needed.ensures c.if-index-words_needed.false c.if-count-n.false c.count_before.ensures c.tell-2.ensures
+returns c = before-told _ _ _ c.words_needed.ensures c.if-index-words_needed.false c.if-count-n.false c.count_before.ensures

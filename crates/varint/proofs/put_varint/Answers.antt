@@ -1,7 +1,6 @@
 -- `varint::put_varint` meets its contract: at each turn the bytes of what is left still make the same whole.
 -- Assumes nothing.
 use Rattle.std.proofs.Common.{arith, length-set, rules}
-use Rattle.varint.proofs.Groups.{size-some}
 use Rattle.varint.proofs.WriteLoops.{little_start, little_turn, little_last_group, little_end}
 use Rattle.varint.proofs.put_varint.Goals as goal
 
@@ -14,8 +13,8 @@ loop-i-preserved c = little_turn c.loop-i.invariant c.loop-i-test.true
 pub overflow_cast-out-2 : goal.overflow_cast-out-2
 overflow_cast-out-2 c = record { fits = omega (arith, little_last_group c.loop-i.invariant c.loop-i-test.false) }
 
-pub bounds-out-i-2 : goal.bounds-out-i-2
-bounds-out-i-2 c = omega (arith, size-some c.loop-i.left)
+pub bounds-out-count : goal.bounds-out-count
+bounds-out-count c = omega (arith, c.loop-i.invariant.room, c.loop-i.invariant.some)
 
 pub shape_of-out : goal.shape_of-out
 shape_of-out c = simp length-set c.loop-i.invariant.same

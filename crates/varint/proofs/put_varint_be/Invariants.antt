@@ -5,6 +5,3 @@ use Rattle.varint.proofs.put_varint_be.Given as goal
 
 abbrev pub invariant-loop-i : goal.invariant-loop-i
 invariant-loop-i l = BigSoFar l.initial.out l.at l.val l.out l.i l.above
-
-abbrev pub decreases-loop-i : goal.decreases-loop-i
-decreases-loop-i l = l.i

@@ -8,7 +8,7 @@ pub returns-then-bits : goal.returns-then-bits
 unfolding stored_signed
 returns-then-bits c =
     let bits : c.bits32-bits.result ≡ of_z w32 c.args.val = c.bits32-bits.ensures ∙ ap (of_z w32) (to_z-of_z c.ranges.val) in
-    rw (← bits, eq-eqb _ _ c.if-bits.true, c.clear_bytes.ensures)
+    rw (← bits, eq-eqb _ _ c.if-bits.true, c.clear_bytes.ensures, c.at.ensures)
 
 pub returns : goal.returns
 unfolding stored_signed

@@ -10,19 +10,19 @@ pub returns-then-data-at : goal.returns-then-data-at
 unfolding read_varint
 returns-then-data-at c = simp (le-ltb _ _ c.if-data-at.true)
 
-pub loop-next-init : goal.loop-next-init
-loop-next-init c = read_start _ _ c.if-data-at.false
+pub loop-i-init : goal.loop-i-init
+loop-i-init c = read_start _ _ c.if-data-at.false
 
 pub returns-then-byte-eq0 : goal.returns-then-byte-eq0
 returns-then-byte-eq0 c =
     let turn = c in
     c.whole.ensures
-    ∙ read_end c.loop-next.invariant c.loop-next-test.true c.if-byte-eq0.true c.with_group-val.ensures
+    ∙ read_end c.loop-i.invariant c.loop-i-test.true c.if-byte-eq0.true c.with_group-val.ensures
 
-pub loop-next-preserved : goal.loop-next-preserved
-loop-next-preserved c =
+pub loop-i-preserved : goal.loop-i-preserved
+loop-i-preserved c =
     let turn = c in
-    read-turn c.loop-next.invariant c.loop-next-test.true c.if-byte-eq0.false c.with_group-val.ensures
+    read-turn c.loop-i.invariant c.loop-i-test.true c.if-byte-eq0.false c.with_group-val.ensures
 
 pub returns : goal.returns
-returns c = read-cut c.loop-next.invariant c.loop-next-test.false
+returns c = read-cut c.loop-i.invariant c.loop-i-test.false

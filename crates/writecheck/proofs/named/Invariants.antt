@@ -1,11 +1,7 @@
 -- Carried by `Walking` over sound strings. Assumes nothing.
 use Rattle.chains.proofs.Chains.{Walking, spelt, onto}
-use Rattle.writecheck.specs.Looking.{lent}
-use Prim.Native.Nat.{◌-◌}
+use Rattle.writecheck.specs.Looking.{lent_of}
 use Rattle.writecheck.proofs.named.Given as goal
 
-abbrev pub invariant-loop-i : goal.invariant-loop-i
-invariant-loop-i l = Walking (spelt (lent l.s l.nodes l.entries l.used)) (onto l.entries) l.steps l.first l.i l.e
-
-abbrev pub decreases-loop-i : goal.decreases-loop-i
-decreases-loop-i l = l.steps - l.i
+abbrev pub invariant-loop : goal.invariant-loop
+invariant-loop l = Walking (spelt (lent_of l.values.lent)) (onto l.values.lent.entries.now) l.steps l.first l.counter l.e

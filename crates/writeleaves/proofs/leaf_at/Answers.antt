@@ -7,4 +7,4 @@ use Rattle.writeleaves.proofs.leaf_at.Goals as goal
 pub returns : goal.returns
 returns c =
     let a = c.args in
-    leaf_held a.s.now a.nodes.now a.used a.allowance a.node (omega arith) (omega (arith, c.nodes_in.ensures)) c.node_at.ensures c.leaf_of.ensures
+    leaf_held a.values.now.lent.input.now a.values.now.lent.nodes.now a.values.now.lent.used a.allowance a.node (omega arith) (omega (arith, c.nodes_in.ensures)) c.node_at.ensures c.leaf_of.ensures

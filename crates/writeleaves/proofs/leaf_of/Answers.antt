@@ -10,10 +10,10 @@ pub returns-else-n-ne4 : goal.returns-else-n-ne4
 unfolding class_of letters found
 returns-else-n-ne4 c =
     let a = c.args in
-    leaf_four a.s.now (node_of a.n) (omega arith) (omega arith) (λ i. omega (arith, c.type_inv.s i)) (ap class_of c.in-105.is) c.if-n-ne4.false
+    leaf_four a.values.now.lent.input.now (node_of a.n) (omega arith) (omega arith) a.values.now.lent.bytes (ap class_of c.in-105.is) c.if-n-ne4.false
 
 pub returns-in-115 : goal.returns-in-115
 unfolding class_of letters found
 returns-in-115 c =
     let a = c.args in
-    leaf_bytes a.s.now (node_of a.n) (omega arith) (omega arith) (λ i. omega (arith, c.type_inv.s i)) (ap class_of c.in-115.is)
+    leaf_bytes a.values.now.lent.input.now (node_of a.n) (omega arith) (omega arith) a.values.now.lent.bytes (ap class_of c.in-115.is)

@@ -1,13 +1,13 @@
 -- The string, or nothing. Assumes nothing.
 use Rattle.writenames.proofs.Naming.{member_in, member_out}
-use Rattle.writecheck.specs.Looking.{lent}
+use Rattle.writecheck.specs.Looking.{lent_of}
 use Rattle.writing.specs.Steps.{string_part}
 use Rattle.writenames.proofs.write_member.Goals as goal
 
 pub returns-then-not-member : goal.returns-then-not-member
 returns-then-not-member c =
     let a = c.args in
-    let t = lent a.s.now a.nodes.now a.entries.now a.used in
+    let t = lent_of a.lent.now in
     member_out a.member (string_part t a.allowance a.node) c.if-not-member.true c.requires.0.inside
 
 pub returns : goal.returns

@@ -3,7 +3,7 @@
 use Rattle.std.proofs.Common.{◌+◌, ◌-◌, ◌*◌}
 use Rattle.underway.proofs.Under.{Rowing}
 use Rattle.underway.specs.Rows.{row_of_node}
-use Rattle.writecheck.specs.Looking.{lent}
+use Rattle.writecheck.specs.Looking.{lent_of}
 use Rattle.writing.specs.Steps.{writing}
 use Rattle.writing.specs.Writing.{each}
 use Rattle.writevalue.proofs.Coding.{Parting}
@@ -21,17 +21,14 @@ decreases-write_parts l = 3 * l.allowance + 2
 abbrev pub decreases-write_value : goal.decreases-write_value
 decreases-write_value l = 3 * l.allowance
 
-abbrev pub invariant-write_children-loop-number : goal.invariant-write_children-loop-number
-invariant-write_children-loop-number l =
-    let t = lent l.s l.nodes l.entries l.used in
+abbrev pub invariant-write_children-loop-row : goal.invariant-write_children-loop-row
+invariant-write_children-loop-row l =
+    let t = lent_of l.values.lent in
     Rowing t (writing l.allowance t) (λ vs. Unit) l.count l.initial.out l.at (each (writing l.allowance t) (row_of_node t l.node)) l.out l.i l.e l.p
 
-abbrev pub decreases-write_children-loop-number : goal.decreases-write_children-loop-number
-decreases-write_children-loop-number l = l.count - l.i
+abbrev pub decreases-write_children-loop-row : goal.decreases-write_children-loop-row
+decreases-write_children-loop-row l = l.count - l.i
 
 abbrev pub invariant-write_parts-loop-part : goal.invariant-write_parts-loop-part
 invariant-write_parts-loop-part l =
-    Parting (lent l.s l.nodes l.entries l.used) l.node l.allowance l.kinds l.line l.initial.e l.initial.out l.at l.out l.part l.e l.p
-
-abbrev pub decreases-write_parts-loop-part : goal.decreases-write_parts-loop-part
-decreases-write_parts-loop-part l = 10 - l.part
+    Parting (lent_of l.values.lent) l.node l.allowance l.kinds l.line l.initial.entry l.initial.out l.at l.out l.part l.entry l.end

@@ -6,14 +6,14 @@ use mathlib.Core.Path.{ap}
 use Rattle.writevalue.proofs.too_deep.Goals as goal
 
 pub returns-then-allowance-eq0 : goal.returns-then-allowance-eq0
-returns-then-allowance-eq0 c = levels_none c.args.nodes.now c.args.used c.args.allowance c.args.node (omega arith)
+returns-then-allowance-eq0 c = levels_none c.args.lent.now.nodes.now c.args.lent.now.used.nodes c.args.allowance c.args.node (omega arith)
 
 pub returns-then-allowance-ne1 : goal.returns-then-allowance-ne1
-returns-then-allowance-ne1 c = levels_more c.args.nodes.now c.args.used c.args.allowance c.args.node (λ e. omega arith) (λ e. omega arith)
+returns-then-allowance-ne1 c = levels_more c.args.lent.now.nodes.now c.args.lent.now.used.nodes c.args.allowance c.args.node (λ e. omega arith) (λ e. omega arith)
 
 pub returns-then-nodes_in-node : goal.returns-then-nodes_in-node
-returns-then-nodes_in-node c = levels-past c.args.nodes.now c.args.used c.args.allowance c.args.node (omega arith) c.nodes_in.ensures (omega arith)
+returns-then-nodes_in-node c = levels-past c.args.lent.now.nodes.now c.args.lent.now.used.nodes c.args.allowance c.args.node (omega arith) c.nodes_in.ensures (omega arith)
 
 pub returns : goal.returns
 returns c =
-    levels-code c.args.nodes.now c.args.used c.args.allowance c.args.node (omega arith) c.nodes_in.ensures (omega arith) (ap (λ (m : Node). m.letter) c.node_of-n.ensures)
+    levels-code c.args.lent.now.nodes.now c.args.lent.now.used.nodes c.args.allowance c.args.node (omega arith) c.nodes_in.ensures (omega arith) (ap (λ (m : Node). m.letter) c.node_of-n.ensures)

@@ -4,4 +4,4 @@ use mathlib.Core.Path.{refl}
 use Rattle.bypiece.proofs.onebyte.fetch_with.Goals as goal
 
 pub returns : goal.returns
-returns c = fetched c.args.state.now c.requires.0 c.args.out.now _ _ c.requires.1 c.fetch.ensures refl
+returns c = fetched c.args.held.now c.args.out.now _ c.fetch.ensures refl

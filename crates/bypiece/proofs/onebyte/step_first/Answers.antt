@@ -10,5 +10,5 @@ returns-then-head-lt208 c = short_cut _ _ (omega arith) (omega arith)
 pub returns-then-head-ge232 : goal.returns-then-head-ge232
 returns-then-head-ge232 c = number_cut _ _ (omega arith) (omega arith) (omega arith)
 
-pub returns-in-To : goal.returns-in-To
-returns-in-To c = line-cut _ _ _ (omega arith) (omega arith) (sym c.line_of.ensures ∙ c.in-To.is)
+pub returns-in-Some : goal.returns-in-Some
+returns-in-Some c = line-cut _ _ _ (omega arith) (omega arith) (sym c.line_of.ensures ∙ c.in-Some.is)

@@ -8,8 +8,8 @@ returns-in_default c = rw (← c.signed_step.ensures, ← c.move_line.ensures, c
 
 pub returns-in_default-move_line : goal.returns-in_default-move_line
 unfolding long_of
-returns-in_default-move_line c = rw (← c.signed_step.ensures, ← c.move_line.ensures, c.in-To.is, ← c.as_signed.ensures, ← c.move_line-2.ensures, c.in_default-move_line.is)
+returns-in_default-move_line c = rw (← c.signed_step.ensures, ← c.move_line.ensures, c.in-Some.is, ← c.as_signed.ensures, ← c.move_line-2.ensures, c.in_default-move_line.is)
 
 pub returns : goal.returns
 unfolding long_of
-returns c = rw (c.show_column-2.ensures, c.show_line-2.ensures, c.show_column.ensures, c.show_line.ensures, ← c.signed_step.ensures, ← c.move_line.ensures, c.in-To.is, ← c.as_signed.ensures, ← c.move_line-2.ensures, c.in-To-move_line.is)
+returns c = rw (c.show_column-2.ensures, c.show_line-2.ensures, c.show_column.ensures, c.show_line.ensures, ← c.signed_step.ensures, ← c.move_line.ensures, c.in-Some.is, ← c.as_signed.ensures, ← c.move_line-2.ensures, c.in-Some-move_line.is)

@@ -5,4 +5,4 @@ use Rattle.lineentry.proofs.short.short_of.Goals as goal
 
 pub returns : goal.returns
 unfolding short_of
-returns c = (rw (c.either.ensures, c.after-next.ensures.0, c.upper.ensures.0, c.one_byte-more.ensures, c.one_byte-one.ensures) refl, c.after-next.ensures.1)
+returns c = (rw (c.after-next.ensures.0, c.upper.ensures.0, c.one_byte-more.ensures, c.one_byte-one.ensures) refl, c.after-next.ensures.1)

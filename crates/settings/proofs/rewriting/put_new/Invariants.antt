@@ -6,7 +6,7 @@ use Rattle.settings.proofs.Loops.{AddedSoFar}
 use Rattle.settings.proofs.rewriting.put_new.Given as goal
 
 abbrev pub invariant-loop-at : goal.invariant-loop-at
-invariant-loop-at l = AddedSoFar l.changes l.file l.room l.start l.initial.out l.out l.at l.used
+invariant-loop-at l = AddedSoFar l.changes.file.now l.own.file.now l.room l.start l.initial.out l.out l.at l.used
 
 abbrev pub decreases-loop-at : goal.decreases-loop-at
-decreases-loop-at l = length l.changes - l.at
+decreases-loop-at l = length l.changes.file.now - l.at

@@ -5,4 +5,4 @@ use Rattle.sillgarland.proofs.Handing.{handed}
 use Rattle.sillgarland.proofs.exceptions.sill_read_exceptions.Goals as goal
 
 pub returns : goal.returns
-returns c = handed decoded_struct c.decoded_numbers.ensures c.decode_exception_table.ensures
+returns c = handed decoded_struct c.from.ensures c.decode_exception_table.ensures

@@ -1,8 +1,8 @@
 -- `sillgarland::exceptions::sill_write_exceptions` meets its contract: the answer of `exceptiontable::encode_exception_table`, handed on as numbers.
 -- Assumes nothing.
-use Rattle.sillgarland.specs.Exceptions.{encoded_struct}
+use Rattle.sillgarland.specs.Varints.{written_struct}
 use Rattle.sillgarland.proofs.Handing.{handed}
 use Rattle.sillgarland.proofs.exceptions.sill_write_exceptions.Goals as goal
 
 pub returns : goal.returns
-returns c = handed encoded_struct c.encoded_numbers.ensures c.encode_exception_table.ensures
+returns c = handed written_struct c.from.ensures c.encode_exception_table.ensures

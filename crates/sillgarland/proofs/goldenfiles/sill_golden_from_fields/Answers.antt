@@ -6,9 +6,9 @@ use Rattle.sillgarland.proofs.goldenfiles.sill_golden_from_fields.Goals as goal
 
 pub returns : goal.returns
 returns c =
-    let known = c.to_plain-answer.ensures in
+    let known = c.to_plain.ensures in
     record {
-      numbers = c.moved_numbers.ensures ∙ ap (λ p. moved_struct p.0) known.0;
+      numbers = c.from.ensures ∙ ap (λ p. moved_struct p.0) known.0;
       holds = ap (λ p. p.1) known.0;
       clear_nodes = known.1;
       clear_entries = known.2;

@@ -8,6 +8,6 @@ use Rattle.sillgarland.proofs.joins.sill_join.Goals as goal
 pub returns : goal.returns
 returns c =
     let start = c in
-    let joined = c.join_tables-answer.ensures in
+    let joined = c.join_tables.ensures in
     let known = simp (to_z-of_z c.ranges.first_a, to_z-of_z c.ranges.first_b) at joined in
-    (c.joined_numbers.ensures ∙ ap joined_struct known.0, known.1)
+    (c.from.ensures ∙ ap joined_struct known.0, known.1)

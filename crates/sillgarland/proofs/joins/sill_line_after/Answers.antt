@@ -7,6 +7,6 @@ use Rattle.sillgarland.proofs.joins.sill_line_after.Goals as goal
 
 pub returns : goal.returns
 returns c =
-    let told = c.line_after-answer.ensures in
+    let told = c.line_after.ensures in
     let known = simp (to_z-of_z c.ranges.first_line) at told in
-    c.line_numbers.ensures ∙ ap line_struct known
+    c.from.ensures ∙ ap line_struct known

@@ -7,6 +7,6 @@ use Rattle.sillgarland.proofs.locations.sill_locate.Goals as goal
 
 pub returns : goal.returns
 returns c =
-    let located = c.linetable_to_records-answer.ensures in
+    let located = c.linetable_to_records.ensures in
     let known = simp (to_z-of_z c.ranges.first_line) at located in
-    (c.located_numbers.ensures ∙ ap located_struct known.0, known.1)
+    (c.from.ensures ∙ ap located_struct known.0, known.1)

@@ -5,4 +5,4 @@ use Rattle.sillgarland.proofs.Handing.{handed}
 use Rattle.sillgarland.proofs.nightly.sill_totals.Goals as goal
 
 pub returns : goal.returns
-returns c = handed totalled_struct c.totalled_numbers.ensures c.count_answers.ensures
+returns c = handed totalled_struct c.from.ensures c.count_answers.ensures

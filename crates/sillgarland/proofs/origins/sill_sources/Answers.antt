@@ -7,6 +7,6 @@ use Rattle.sillgarland.proofs.origins.sill_sources.Goals as goal
 
 pub returns : goal.returns
 returns c =
-    let told = c.sources_of_table-answer.ensures in
+    let told = c.sources_of_table.ensures in
     let known = simp (to_z-of_z c.ranges.first_line) at told in
-    (c.sourced_numbers.ensures ∙ ap sourced_struct known.0, known.1)
+    (c.from.ensures ∙ ap sourced_struct known.0, known.1)

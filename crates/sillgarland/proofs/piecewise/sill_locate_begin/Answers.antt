@@ -9,10 +9,10 @@ use Rattle.sillgarland.proofs.piecewise.sill_locate_begin.Goals as goal
 pub returns : goal.returns
 returns c =
     let a = c.args in
-    let left = c.locate_begin-answer.ensures in
+    let left = c.locate_begin.ensures in
     let first = to_z-of_z c.ranges.first_line in
     record {
-      answers = c.pieced_numbers.ensures ∙ ap pieced_struct (left.answers ∙ ap (λ z. (begin (first_line_of z) a.count a.state.now a.records.now).answer) first);
+      answers = c.from.ensures ∙ ap pieced_struct (left.answers ∙ ap (λ z. (begin (first_line_of z) a.count a.state.now a.records.now).answer) first);
       states = left.states ∙ ap (λ z. (begin (first_line_of z) a.count a.state.now a.records.now).state) first;
       fills = left.fills ∙ ap (λ z. (begin (first_line_of z) a.count a.state.now a.records.now).records) first;
     }

@@ -5,5 +5,5 @@ use Rattle.sillgarland.proofs.piecewise.sill_locate_end.Goals as goal
 
 pub returns : goal.returns
 returns c =
-    let left = c.locate_end-answer.ensures in
-    record { answers = c.pieced_numbers.ensures ∙ ap pieced_struct left.answers; states = left.states; fills = left.fills }
+    let left = c.locate_end.ensures in
+    record { answers = c.from.ensures ∙ ap pieced_struct left.answers; states = left.states; fills = left.fills }

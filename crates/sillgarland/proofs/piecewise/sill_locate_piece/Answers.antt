@@ -5,5 +5,5 @@ use Rattle.sillgarland.proofs.piecewise.sill_locate_piece.Goals as goal
 
 pub returns : goal.returns
 returns c =
-    let left = c.locate_piece-answer.ensures in
-    record { answers = c.pieced_numbers.ensures ∙ ap pieced_struct left.answers; states = left.states; fills = left.fills }
+    let left = c.locate_piece.ensures in
+    record { answers = c.from.ensures ∙ ap pieced_struct left.answers; states = left.states; fills = left.fills }

@@ -7,6 +7,6 @@ use Rattle.sillgarland.proofs.repairs.sill_salvage.Goals as goal
 
 pub returns : goal.returns
 returns c =
-    let repaired = c.salvage_table-answer.ensures in
+    let repaired = c.salvage_table.ensures in
     let known = simp (to_z-of_z c.ranges.first_line) at repaired in
-    (c.salvaged_numbers.ensures ∙ ap salvaged_struct known.0, known.1)
+    (c.from.ensures ∙ ap salvaged_struct known.0, known.1)

@@ -7,4 +7,4 @@ use Rattle.sillgarland.proofs.rowstarts.sill_index_starts.Goals as goal
 pub returns : goal.returns
 returns c =
     let told = c.index_starts.ensures in
-    handed_apart indexed_struct c.indexed_numbers.ensures told.0 told.1
+    handed_apart indexed_struct c.from.ensures told.0 told.1

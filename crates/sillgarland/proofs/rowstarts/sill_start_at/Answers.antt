@@ -5,4 +5,4 @@ use Rattle.sillgarland.specs.Starts.{start_struct}
 use Rattle.sillgarland.proofs.rowstarts.sill_start_at.Goals as goal
 
 pub returns : goal.returns
-returns c = c.start_numbers.ensures ∙ ap start_struct c.start_at.ensures
+returns c = c.from.ensures ∙ ap start_struct c.start_at.ensures

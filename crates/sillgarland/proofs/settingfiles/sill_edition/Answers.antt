@@ -5,4 +5,4 @@ use Rattle.sillgarland.specs.Settingfiles.{edition_struct}
 use Rattle.sillgarland.proofs.settingfiles.sill_edition.Goals as goal
 
 pub returns : goal.returns
-returns c = c.edition_numbers.ensures ∙ ap edition_struct c.find_edition-answer.ensures
+returns c = c.from.ensures ∙ ap edition_struct c.find_edition.ensures

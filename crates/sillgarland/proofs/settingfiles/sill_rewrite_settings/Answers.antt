@@ -6,5 +6,5 @@ use Rattle.sillgarland.proofs.settingfiles.sill_rewrite_settings.Goals as goal
 
 pub returns : goal.returns
 returns c =
-    let known = c.rewrite-answer.ensures in
-    (c.rewritten_numbers.ensures ∙ ap (λ p. rewritten_struct p.0) known, ap (λ p. p.1) known)
+    let known = c.rewrite.ensures in
+    (c.from.ensures ∙ ap (λ p. rewritten_struct p.0) known, ap (λ p. p.1) known)

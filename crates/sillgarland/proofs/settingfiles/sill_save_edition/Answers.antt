@@ -6,5 +6,5 @@ use Rattle.sillgarland.proofs.settingfiles.sill_save_edition.Goals as goal
 
 pub returns : goal.returns
 returns c =
-    let known = c.save_edition-answer.ensures in
-    (c.kept_numbers.ensures ∙ ap (λ p. kept_struct p.0) known, ap (λ p. p.1) known)
+    let known = c.save_edition.ensures in
+    (c.from.ensures ∙ ap (λ p. kept_struct p.0) known, ap (λ p. p.1) known)

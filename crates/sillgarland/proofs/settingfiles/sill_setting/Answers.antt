@@ -5,4 +5,4 @@ use Rattle.sillgarland.specs.Settingfiles.{setting_struct}
 use Rattle.sillgarland.proofs.settingfiles.sill_setting.Goals as goal
 
 pub returns : goal.returns
-returns c = c.setting_numbers.ensures ∙ ap setting_struct c.find_setting-answer.ensures
+returns c = c.from.ensures ∙ ap setting_struct c.find_setting.ensures

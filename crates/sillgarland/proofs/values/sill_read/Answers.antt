@@ -1,8 +1,7 @@
 -- `sillgarland::values::sill_read` meets its contract: the reading, handed on as numbers.
 -- Assumes nothing.
 use Rattle.sillgarland.proofs.Reading.{read_handed}
-use borrow.Author.Rules.{rules}
 use Rattle.sillgarland.proofs.values.sill_read.Goals as goal
 
 pub returns : goal.returns
-returns c = search (read_handed, rules)
+returns c = read_handed c.from.ensures c.deserialize_value.ensures

@@ -6,4 +6,4 @@ use Rattle.sillgarland.proofs.Handing.{handed}
 use Rattle.sillgarland.proofs.varints.sill_write_signed_varint.Goals as goal
 
 pub returns : goal.returns
-returns c = handed written_struct c.written_numbers.ensures (simp (to_z-of_z c.ranges.value) at c.write_signed_varint.ensures)
+returns c = handed written_struct c.from.ensures (simp (to_z-of_z c.ranges.value) at c.write_signed_varint.ensures)

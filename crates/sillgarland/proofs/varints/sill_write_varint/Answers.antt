@@ -5,4 +5,4 @@ use Rattle.sillgarland.proofs.Handing.{handed}
 use Rattle.sillgarland.proofs.varints.sill_write_varint.Goals as goal
 
 pub returns : goal.returns
-returns c = handed written_struct c.written_numbers.ensures c.write_varint.ensures
+returns c = handed written_struct c.from.ensures c.write_varint.ensures

@@ -1,9 +1,0 @@
--- `sillgarland::values::read_numbers` meets its contract, case by case.
--- Assumes nothing.
-use Rattle.sillgarland.proofs.values.read_numbers.Goals as goal
-
-pub returns-in-Read : goal.returns-in-Read
-returns-in-Read c = rw c.in-Read.is
-
-pub returns-in-Refused : goal.returns-in-Refused
-returns-in-Refused c = rw c.in-Refused.is
