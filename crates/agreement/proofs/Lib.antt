@@ -1,6 +1,7 @@
 pub mod Same
 pub mod Refusals
 pub mod Clearing
+pub mod Copying
 pub mod Signed
 pub mod Wtf8
 pub mod Lineentry

@@ -7,13 +7,16 @@ use contract.Monad.{fact}
 use Rattle.linetable.specs.Walk.{Reading}
 use Rattle.linetable.specs.Answer.{located, first_line_of, answer, numbered, records_of, locations_of}
 use Rattle.linetable.proofs.Outcomes.{numbered_injective}
+use denote.RattleType.{RattleType}
+use denote.Param.Laws.{Laws}
 use Rattle.linetable.proofs as linetable
 use Rattle.linetable.specs.contracts as linetable_contracts
 use Rattle.agreement.specs.Agreement.{Tells, Agree, AgreeInModels}
 use Rattle.agreement.proofs.Same.{one, in_models}
 
-pub refuse_agrees : Agree linetable_contracts.refuse.ended linetable.refuse.Reads.Asked linetable.refuse.Reads.Learnt
-refuse_agrees κs a asked r r' ws ws' p p' = (one p.0 p'.0, λ i. (one p.1 p'.1 i, (tt, tt)))
+pub refuse_agrees : (E : RattleType) (laws : Laws E)
+    → Agree (linetable_contracts.refuse.ended E) (linetable.refuse.Reads.Asked E laws) (linetable.refuse.Reads.Learnt E laws)
+refuse_agrees E laws κs a asked r r' ws ws' p p' = (one p.0 p'.0, λ i. (one p.1 p'.1 i, (tt, tt)))
 
 pub linetable_to-records-agrees : Agree linetable_contracts.linetable_to_records.ended linetable.linetable_to_records.Reads.Asked linetable.linetable_to_records.Reads.Learnt
 linetable_to-records-agrees κs a asked r r' ws ws' p p' = (numbered_injective _ _ (one p.0 p'.0), λ i. (tt, (tt, (tt, (one p.1 p'.1 i, tt)))))

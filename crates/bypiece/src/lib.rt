@@ -55,7 +55,7 @@ pub fn locate_begin(
     );
     let room = records.len() / 4;
     if room < count as usize {
-        return piecestate::stick(state, records, Refusal::NoRoom.at(room as u32));
+        return piecestate::stick_fault(state, records, Refusal::NoRoom.at(room as u32));
     }
     clearing::clear_words(records);
     Ok(Pieced {
@@ -71,7 +71,7 @@ fn any_piece(bytes: &[u8], k: Kept, state: &mut [u32], records: &mut [u32]) -> R
 {
     match piecestate::look(state, k, records.len() / 4) {
         Gate::Shut(why) => piecestate::refuse(records, why),
-        Gate::Stuck(why) => piecestate::stick(state, records, why),
+        Gate::Stuck(why) => piecestate::stick_fault(state, records, why),
         Gate::Open => pieces::take_piece(bytes, k, state, records),
     }
 }
@@ -138,7 +138,9 @@ fn end_held(k: Kept, state: &mut [u32], records: &mut [u32]) -> Result<Pieced, F
     let mut held = [0u8; 25];
     piecestate::fetch(&mut held, &state[HELD_FROM..HELD_FROM + size]);
     match lineentry::read_entry(&held[..size], k.line, 0) {
-        Entry::OutOfRange => { piecestate::stick(state, records, Refusal::NumberRange.at(k.start)) }
+        Entry::OutOfRange => {
+            piecestate::stick_fault(state, records, Refusal::NumberRange.at(k.start))
+        }
         Entry::Stop => Ok(end_bare(k, state, records)),
         Entry::Covers(span) => Ok(end_cut(span, k, state, records)),
     }
@@ -168,7 +170,7 @@ pub fn locate_end(state: &mut [u32], records: &mut [u32]) -> Result<Pieced, Faul
     let k = piecestate::kept_at(state);
     match piecestate::look(state, k, records.len() / 4) {
         Gate::Shut(why) => piecestate::refuse(records, why),
-        Gate::Stuck(why) => piecestate::stick(state, records, why),
+        Gate::Stuck(why) => piecestate::stick_fault(state, records, why),
         Gate::Open => take_end(k, state, records),
     }
 }

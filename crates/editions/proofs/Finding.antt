@@ -1,23 +1,60 @@
 -- The file of an edition: each way out of `find_edition`. Assumes nothing.
-use mathlib.Core.Path.{◌≡◌, refl, sym, ap, ◌∙◌}
-use mathlib.Core.Bool.{cond}
+use mathlib.Core.Path.{◌≡◌, refl, sym, ap, ◌∙◌, subst}
+use mathlib.Core.Bool.{Bool, true, false, cond}
 use mathlib.Core.List.{List}
 use mathlib.Core.Option.{Option, none, some}
-use Prim.Native.Nat.{ℕ, ◌≤◌, ◌<◌}
-use lib.Dec.{ltb}
-use lib.ListN.{length}
+use Prim.Native.Nat.{ℕ, zero, suc, ◌+◌, ◌≤◌, ◌<◌}
+use native.Mathlib.Omega.{arith}
+use lib.Dec.{ltb, eqb}
+use lib.ListN.{length, take, drop}
 use borrow.Author.Tests.{lt-ltb, le-ltb}
 use Rattle.std.specs.Prelude.{Result, Ok, Err}
 use Rattle.std.specs.Prelude as rust
 use Rattle.refusals.specs.declared.Fault.{Fault}
-use Rattle.refusals.specs.declared.Refusal.TheVariants.{InputTooLong, NoSuchField}
+use Rattle.refusals.specs.declared.Refusal.{Refusal}
+use Rattle.refusals.specs.declared.Refusal.TheVariants.{DataTooShort, InputTooLong, NoSuchField}
+use Rattle.refusals.specs.Numbers.{repeated_tag}
 use Rattle.std.specs.Option.{ok_or}
-use Rattle.refusals.specs.Faults.{fault, refused}
+use Rattle.refusals.specs.Faults.{fault, refused, number_of}
 use Rattle.refusals.specs.Limits.{nothing}
 use Rattle.taggedfields.specs.declared.Span.{Span}
-use Rattle.editions.specs.Archive.{Saved, archive_of, find_edition}
+use Rattle.taggedfields.specs.Fields.{reading}
+use Rattle.taggedfields.proofs.Parts.{none-some, fault-most}
+use Rattle.editions.specs.Archive.{Saved, Archive, ended, stopped, if_sound, le32, archive_from, archive_of, find_edition}
 use Rattle.editions.specs.Answers.{edition_from, edition_of}
 use Rattle.editions.specs.Meeting.{found_as, searched_from, searched}
+
+-- a fault's number is one of the two that a file may have
+number_in : (bound at : ℕ) (bytes : List ℕ) (x : Fault) → (archive_from bound at bytes).fault ≡ some x → number_of x.refusal ≤ repeated_tag
+unfolding archive_from
+number_in zero at bytes x e = absurd (none-some e)
+number_in (suc bound) at bytes x e =
+    go (number_in bound (at + 4 + le32 bytes) (drop (le32 bytes) (drop 4 bytes)) x) (eqb (length bytes) 0) (ltb (length bytes) 4) (ltb (length (drop 4 bytes)) (le32 bytes))
+    (reading (take (le32 bytes) (drop 4 bytes))).fault refl e
+  where
+    behind : Archive
+    behind = archive_from bound (at + 4 + le32 bytes) (drop (le32 bytes) (drop 4 bytes))
+
+    this : Saved
+    this = record { start = at + 4; file = take (le32 bytes) (drop 4 bytes) }
+
+    stop : (why : Refusal) (place : ℕ) → number_of why ≤ repeated_tag → some (fault why place) ≡ some x → number_of x.refusal ≤ repeated_tag
+    stop why place h q = subst (λ (y : Fault). number_of y.refusal ≤ repeated_tag) (here q) h
+      where
+        here : some (fault why place) ≡ some x → fault why place ≡ x
+        here y = cc
+
+    go : (behind.fault ≡ some x → number_of x.refusal ≤ repeated_tag) → (p q r : Bool) (o : Option Fault) → (reading (take (le32 bytes) (drop 4 bytes))).fault ≡ o
+        → (cond p ended (cond q (stopped DataTooShort at) (cond r (stopped DataTooShort at) (if_sound this o behind)))).fault ≡ some x → number_of x.refusal ≤ repeated_tag
+    go again true q r o d z = absurd (none-some z)
+    go again false true r o d z = stop DataTooShort at (omega arith) z
+    go again false false true o d z = stop DataTooShort at (omega arith) z
+    go again false false false none d z = again z
+    go again false false false (some y) d z = stop y.refusal (at + 4 + y.place) (fault-most (take (le32 bytes) (drop 4 bytes)) y d) z
+
+pub archive_most : (archive : List ℕ) (x : Fault) → (archive_of archive).fault ≡ some x → number_of x.refusal ≤ repeated_tag
+unfolding archive_of
+archive_most archive x e = number_in (length archive) 0 archive x e
 
 pub edition_long : (archive edition : List ℕ) → nothing < length archive → refused InputTooLong 0 ≡ edition_of archive edition
 unfolding edition_of

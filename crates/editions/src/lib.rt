@@ -99,9 +99,9 @@ fn put_record(archive: &[u8], file: &[u8], out: &mut [u8])
     ensures { out.new ≡ sets out.old 0 (archive.now ++ record_of file.now) }
 {
     let end = archive.len();
-    out[0..end].copy_from_slice(archive);
+    copying::copy_bytes(&mut out[0..end], archive);
     store_length(out, end, file.len() as u32);
-    out[end + 4..end + 4 + file.len()].copy_from_slice(file);
+    copying::copy_bytes(&mut out[end + 4..end + 4 + file.len()], file);
 }
 
 // A file that may be saved: it is put behind the archive if there is room.

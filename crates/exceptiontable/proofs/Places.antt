@@ -19,12 +19,12 @@ use Rattle.exceptiontable.specs.Reading.{entry_of, taken_as, first_number, later
 use Rattle.exceptiontable.specs.Promised.{Fit}
 use Rattle.exceptiontable.specs.declared.Handler.{Handler}
 
-start_place : (table : List ℕ) (at : ℕ) {why : Unread} → read_varint_with_start table at ≡ Err why → why.place ≡ at
+pub start_place : (table : List ℕ) (at : ℕ) {why : Unread} → read_varint_with_start table at ≡ Err why → why.place ≡ at
 start_place table at {why} e =
     let t : Told (length table) at at (Err why) = rw e at (with_start_told table at) in
     t.0
 
-later_place : (table : List ℕ) (at : ℕ) {why : Unread} → read_varint table at ≡ Err why → why.place < length table
+pub later_place : (table : List ℕ) (at : ℕ) {why : Unread} → read_varint table at ≡ Err why → why.place < length table
 unfolding read_varint
 later_place table at {why} e = go (ltb at (length table)) refl (rw e at (varint_told table at)) e
   where

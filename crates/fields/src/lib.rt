@@ -9,7 +9,7 @@ ghost use Rattle.grammar.specs.Fields;
 ghost use Rattle.fields.specs.Classes.{class_at, form_classes, kept_classes, refusal_of};
 ghost use Rattle.fields.specs.Behind.{Reads, Judges};
 
-use byte_tables::ByteTables;
+use byte_tables::{ClassTable, LeadTable};
 use cursor::Cursor;
 use refusals::{Fault, Refusal};
 
@@ -157,11 +157,11 @@ pub fn class_of(letter: u32) -> u32
 
 // The class of a header byte's letter, by the table of header bytes. A letter of a record, which may be any number of 32
 // bits, is asked of `class_of`.
-pub fn class_at(tables: &ByteTables, header: u32) -> u32
+pub fn class_at(table: &ClassTable, header: u32) -> u32
     requires { header < 256 }
     ensures { class_at result ≡ class_of (header % 128) }
 {
-    word(tables.classes[header as usize])
+    word(table.classes[header as usize])
 }
 
 // Why a letter is refused, by its class, which is one from REFUSED_CLASS on.
@@ -267,7 +267,7 @@ pub fn read_bytes(from: Cursor) -> Result<Behind, Fault>
 }
 
 // So many bytes that are UTF-8 with surrogates allowed.
-fn read_wtf8(from: Cursor, size: u32, tables: &ByteTables) -> Result<(), Fault>
+fn read_wtf8(from: Cursor, size: u32, table: &LeadTable) -> Result<(), Fault>
     ensures { Judges from.entry.input.now (from.entry.at + size) (Fields.string from.entry.input.now from.entry.at size) result }
 {
     let start = from.at as usize;
@@ -275,14 +275,15 @@ fn read_wtf8(from: Cursor, size: u32, tables: &ByteTables) -> Result<(), Fault>
     if from.input.len() < start + count {
         return Err(Refusal::DataTooShort.at(from.at));
     }
-    if !wtf8::is_wtf8_by_table(&from.input[start..start + count], &tables.leads) {
+    if !wtf8::is_wtf8_by_table(&from.input[start..start + count], &table.leads) {
         return Err(Refusal::InvalidUtf8.at(from.at));
     }
     Ok(())
 }
 
-// A length, and a string of so many bytes.
-pub fn read_text(from: Cursor, tables: &ByteTables) -> Result<Behind, Fault>
+// A length, and a string of so many bytes. Inlined, as `read_short` is: strings are read where a call and an answer in memory are felt.
+#[inline(always)]
+pub fn read_text(from: Cursor, table: &LeadTable) -> Result<Behind, Fault>
     ensures { Reads from.entry.input.now (contains text) from.entry.at result }
 {
     read_len(from)?;
@@ -291,7 +292,7 @@ pub fn read_text(from: Cursor, tables: &ByteTables) -> Result<Behind, Fault>
         input: from.input,
         at: from.at + 4,
     };
-    read_wtf8(string, size, tables)?;
+    read_wtf8(string, size, table)?;
     Ok(Behind {
         place: from.at + 4,
         size,
@@ -300,7 +301,8 @@ pub fn read_text(from: Cursor, tables: &ByteTables) -> Result<Behind, Fault>
 }
 
 // A one-byte length, and a string of so many bytes.
-pub fn read_short(from: Cursor, tables: &ByteTables) -> Result<Behind, Fault>
+#[inline(always)]
+pub fn read_short(from: Cursor, table: &LeadTable) -> Result<Behind, Fault>
     ensures { Reads from.entry.input.now (contains short) from.entry.at result }
 {
     let p = from.at as usize;
@@ -312,7 +314,7 @@ pub fn read_short(from: Cursor, tables: &ByteTables) -> Result<Behind, Fault>
         input: from.input,
         at: from.at + 1,
     };
-    read_wtf8(string, size, tables)?;
+    read_wtf8(string, size, table)?;
     Ok(Behind {
         place: from.at + 1,
         size,
@@ -331,19 +333,21 @@ pub fn digit_count(count: u32) -> u32
     }
 }
 
-// So many digits, each judged as it is read.
+// So many digits, each judged as it is read. Those that are there are counted first: a test of the end at each digit takes half as much time again.
 fn read_digits(from: Cursor, count: u32) -> Result<(), Fault>
     ensures { Judges from.entry.input.now (from.entry.at + 2 * count) (Fields.digits from.entry.input.now count from.entry.at) result }
 {
-    for i in 0..count {
-        let place = from.at + 2 * i;
-        let p = place as usize;
-        if from.input.len() < p + 2 {
-            return Err(Refusal::DataTooShort.at(place));
-        }
+    let start = from.at as usize;
+    let there = (from.input.len() - start) / 2;
+    let whole = there.min(count as usize);
+    for i in 0..whole {
+        let p = start + 2 * i;
         if 0x8000 <= le16(from.input, p) {
-            return Err(Refusal::InvalidBytecode.at(place));
+            return Err(Refusal::InvalidBytecode.at(p as u32));
         }
+    }
+    if whole < count as usize {
+        return Err(Refusal::DataTooShort.at((start + 2 * whole) as u32));
     }
     Ok(())
 }
@@ -442,7 +446,7 @@ pub fn read_form(from: Cursor, class: u32) -> Result<Behind, Fault>
 }
 
 // The fields behind the header of a node, from the byte after it on.
-pub fn read_fields(from: Cursor, class: u32, tables: &ByteTables) -> Result<Behind, Fault>
+pub fn read_fields(from: Cursor, class: u32, table: &LeadTable) -> Result<Behind, Fault>
     requires { class < kept_classes }
     ensures { Reads from.entry.input.now (class_at class) from.entry.at result }
 {
@@ -451,8 +455,8 @@ pub fn read_fields(from: Cursor, class: u32, tables: &ByteTables) -> Result<Behi
     }
     match class {
         BYTES_CLASS => read_bytes(from),
-        TEXT_CLASS => read_text(from, tables),
-        SHORT_CLASS => read_short(from, tables),
+        TEXT_CLASS => read_text(from, table),
+        SHORT_CLASS => read_short(from, table),
         _ => read_numbers(from),
     }
 }

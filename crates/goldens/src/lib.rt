@@ -43,7 +43,7 @@ fn put_field(out: &mut [u8], at: usize, tag: u8, contents: &[u8])
     ensures { out.new ≡ sets out.old at (bytes_of (written tag contents.now)) }
 {
     put_header(out, at, tag, contents.len() as u16);
-    out[at + 3..at + 3 + contents.len()].copy_from_slice(contents);
+    copying::copy_bytes(&mut out[at + 3..at + 3 + contents.len()], contents);
 }
 
 // The whole new golden.
@@ -93,8 +93,8 @@ fn put_plain(golden: Golden, out: &mut [u8])
     let code = golden.parts.code.of(golden.file);
     let result = golden.parts.result.of(golden.file);
     let end = code.len();
-    out[0..end].copy_from_slice(code);
-    out[end..end + result.len()].copy_from_slice(result);
+    copying::copy_bytes(&mut out[0..end], code);
+    copying::copy_bytes(&mut out[end..end + result.len()], result);
 }
 
 // The old golden, if there is room.

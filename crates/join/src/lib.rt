@@ -105,8 +105,8 @@ fn write_both(out: &mut [u8], a: &[u8], b: &[u8])
     requires { length a.now + length b.now ≤ length out.old }
     ensures { out.new ≡ sets out.old 0 (a.now ++ b.now) }
 {
-    out[..a.len()].copy_from_slice(a);
-    out[a.len()..a.len() + b.len()].copy_from_slice(b);
+    copying::copy_bytes(&mut out[..a.len()], a);
+    copying::copy_bytes(&mut out[a.len()..a.len() + b.len()], b);
 }
 
 // How many bytes were written, for how many instructions, and the line that they leave, kept plus 2^31.

@@ -21,8 +21,8 @@ pub struct Located {
     pub whole: bool,
 }
 
-// A refusal leaves the whole store zero.
-pub fn refuse(records: &mut [u32], why: Fault) -> Result<Located, Fault>
+// A refusal leaves the whole store zero. What it says is of any type: a fault, or numbers that are none's.
+pub fn refuse<E>(records: &mut [u32], why: E) -> Result<Located, E>
     ensures { (result ≡ Err why) × (records.new ≡ zeros (length records.old)) }
 {
     clearing::clear_words(records);

@@ -25,7 +25,7 @@ pub fn store_bytes(out: &mut [u8], at: usize, bytes: &[u8])
     requires { at + length bytes.now ≤ length out.old }
     ensures { out.new ≡ sets out.old at bytes.now }
 {
-    out[at..at + bytes.len()].copy_from_slice(bytes);
+    copying::copy_bytes(&mut out[at..at + bytes.len()], bytes);
 }
 
 pub fn store_u32(out: &mut [u8], at: usize, x: u32)

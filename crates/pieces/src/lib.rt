@@ -164,7 +164,7 @@ fn settle_refused(
     ensures { Leaves (refused_as state.old records.old to.line to.placed to.at to.bytes held.now) result state.new records.new }
 {
     if lostentry::lost_entry(held, to.line) {
-        return piecestate::stick(state, records, Refusal::NumberRange.at(to.at));
+        return piecestate::stick_fault(state, records, Refusal::NumberRange.at(to.at));
     }
     Ok(go_on(state, to, held))
 }
@@ -319,7 +319,7 @@ pub fn take_piece(
     ensures { Leaves (piece_by piece.now state.old records.old k) result state.new records.new }
 {
     if ((refusals::MOST_BYTES - k.bytes) as usize) < piece.len() {
-        return piecestate::stick(state, records, Refusal::InputTooLong.at(0));
+        return piecestate::stick_fault(state, records, Refusal::InputTooLong.at(0));
     }
     let bytes = k.bytes + piece.len() as u32;
     if k.status == Standing::Over as u32 {

@@ -5,7 +5,7 @@
 ghost use Rattle.std.specs.Prelude.{◌≡◌, ◌∷◌, map, ◌≤◌, ◌<◌, length, Err};
 ghost use Rattle.std.proofs.lemmas.List.Edits.{sets};
 ghost use Rattle.clearing.specs.Lent.{zeros};
-ghost use Rattle.piecestate.specs.State.{kept_at, low, open_entry, counted, sound_going, kept_refusal, kept_why, sound_by};
+ghost use Rattle.piecestate.specs.State.{kept_at, low, open_entry, counted, sound_going, kept_refusal, kept_why, refused_state, sound_by};
 ghost use Rattle.piecestate.specs.Answers.{Leaves, no_state, stuck, gate};
 
 use lineentry::Entry;
@@ -207,25 +207,39 @@ pub fn look(state: &[u32], k: Kept, room: usize) -> Gate
     Gate::Open
 }
 
-// A refusal leaves the records zero.
-pub fn refuse(records: &mut [u32], why: Fault) -> Result<Pieced, Fault>
+// A refusal leaves the records zero. What it says is of any type: a fault, or numbers that are none's.
+pub fn refuse<E>(records: &mut [u32], why: E) -> Result<Pieced, E>
     ensures { (result ≡ Err why) × (records.new ≡ zeros (length records.old)) }
 {
     clearing::clear_words(records);
     Err(why)
 }
 
-// One that the state keeps. The two stores are two parameters, here and in pieces and bypiece. A struct of both is no plainer: passed by `&mut`, it would
+// One that the state keeps, by any number and place. The two stores are two parameters, here and in pieces and bypiece. A struct of both is no plainer: passed by `&mut`, it would
 // have each contract say besides that its two references are the same ones; by value, `lent.exit.0.now` and `lent.exit.1.0.now` for `state.new` and
 // `records.new`.
-pub fn stick(state: &mut [u32], records: &mut [u32], why: Fault) -> Result<Pieced, Fault>
+pub fn stick<E>(
+    state: &mut [u32],
+    records: &mut [u32],
+    number: u32,
+    place: u32,
+    why: E,
+) -> Result<Pieced, E>
+    requires { 40 ≤ length state.old }
+    ensures { (result ≡ Err why) × (state.new ≡ refused_state state.old number place) × (records.new ≡ zeros (length records.old)) }
+{
+    state[6] = Standing::Refusing as u32;
+    state[7] = number;
+    state[8] = place;
+    refuse(records, why)
+}
+
+// The same of a fault, by its own numbers.
+pub fn stick_fault(state: &mut [u32], records: &mut [u32], why: Fault) -> Result<Pieced, Fault>
     requires { 40 ≤ length state.old }
     ensures { Leaves (stuck state.old records.old why) result state.new records.new }
 {
-    state[6] = Standing::Refusing as u32;
-    state[7] = why.refusal.number();
-    state[8] = why.place;
-    refuse(records, why)
+    stick(state, records, why.refusal.number(), why.place, why)
 }
 
 // Fewer numbers than a state has.

@@ -33,7 +33,9 @@ use Rattle.linetable.specs.Walk.{walk, after, joined}
 use Rattle.linetable.specs.Answer.{located}
 use Rattle.locate.specs.Part.{located_at}
 use Rattle.std.specs.Prelude.{Result, Ok, Err}
+use Rattle.refusals.specs.Faults as faults
 use Rattle.refusals.specs.declared.Fault.{Fault}
+use Rattle.refusals.proofs.Faults.{number_in_table}
 use Rattle.varint.specs.Writing.{little_endian, signed_code}
 use Rattle.varint.specs.Answers.{stored, stored_signed}
 use Rattle.writing.specs.Writing.{Writing, ended, refused, emit, then, each, into}
@@ -155,19 +157,34 @@ located_at_in_table s nodes used n first count capacity =
     if_tabled_lines (ltb most_bytes (length s)) _ _ (omega arith, omega arith)
     (if_tabled_lines (sound_at s nodes used n && _) _ _ (located_in_table _ first count capacity) (omega arith, omega arith))
 
--- A fault's number is one of the table, and of an answer with a store it is to be shown alone that the store is zero where it is refused.
+-- where an answer is refused, its store is zero
 abbrev pub Cleared : {A : Type 0} → (room : ℕ) → Result A Fault × List ℕ → Type 0
 Cleared room (Ok x, xs) = Unit {0}
 Cleared room (Err why, xs) = xs ≡ zeros room
+
+-- and its number is one of the table, as every fault's is
+abbrev pub TabledStore : {A : Type 0} → (room : ℕ) → Result A Fault × List ℕ → Type 0
+TabledStore room (Ok x, xs) = Unit {0}
+TabledStore room (Err why, xs) = InTable (faults.number_of why.refusal) × (xs ≡ zeros room)
+
+pub tabled : {A : Type 0} (room : ℕ) (o : Result A Fault × List ℕ) → Cleared room o → TabledStore room o
+tabled room (Ok x, xs) z = tt
+tabled room (Err why, xs) z = (number_in_table why.refusal, z)
 
 -- the varints
 pub stored_cleared : (room : ℕ) (bytes : List ℕ) → Cleared room (stored room bytes)
 unfolding stored
 stored_cleared room bytes = either (Cleared room) (leb (length bytes) room) _ _ tt refl
 
+pub stored_in_table : (room : ℕ) (bytes : List ℕ) → TabledStore room (stored room bytes)
+stored_in_table room bytes = tabled room (stored room bytes) (stored_cleared room bytes)
+
 pub signed_cleared : (room bits : ℕ) → Cleared room (stored_signed room bits)
 unfolding stored_signed
 signed_cleared room bits = either (Cleared room) (eqb bits (2 ^ 31)) _ _ refl (stored_cleared room (little_endian (signed_code bits)))
+
+pub signed_in_table : (room bits : ℕ) → TabledStore room (stored_signed room bits)
+signed_in_table room bits = tabled room (stored_signed room bits) (signed_cleared room bits)
 
 -- The writing: nowhere on its way is it refused with another number.
 abbrev TabledOn : Writing → Type 0

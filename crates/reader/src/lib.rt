@@ -10,7 +10,7 @@ ghost use Rattle.readleaves.specs.Readings.{ReadsValue, ReadsBody, ReadsChild};
 ghost use Rattle.reader.specs.Delivered.{Delivers};
 
 use fields::Kids;
-use fields::byte_tables::ByteTables;
+use fields::byte_tables::{ByteTables, ClassTable, LeadTable};
 use readsteps::{Line, Next, Opened, Room, Step, Walk};
 use refusals::{Fault, Refusal};
 
@@ -181,8 +181,12 @@ fn by_tables(
     ensures { ReadsValue s.now room allowance w nodes.old entries.old slots.old result nodes.new entries.new slots.new }
 {
     let tables = ByteTables {
-        classes: fields::header_bytes::CLASSES,
-        leads: wtf8::first_bytes::LEADS,
+        headers: ClassTable {
+            classes: fields::header_bytes::CLASSES,
+        },
+        first_bytes: LeadTable {
+            leads: wtf8::first_bytes::LEADS,
+        },
     };
     value(s, nodes, entries, slots, room, allowance, w, &tables)
 }

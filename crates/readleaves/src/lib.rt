@@ -8,7 +8,7 @@ ghost use Rattle.readsteps.specs.Held.{Safe, LineIn};
 ghost use Rattle.readleaves.specs.Fronts.{Refers, Spans, Leafs, Plainly};
 ghost use Rattle.readleaves.specs.Turns.{NumbersIn, SafeLeaf, Takes, Tries, Runs};
 
-use fields::byte_tables::ByteTables;
+use fields::byte_tables::{ByteTables, LeadTable};
 use fields::cursor::Cursor;
 use fields::{Behind, Kids};
 use readsteps::{Head, Line, Next, Opened, Room, Step, Walk};
@@ -33,7 +33,7 @@ fn reference(from: Cursor, slots: &[u32]) -> Option<Plain>
 
 // The fields of the classes that are read in a few steps. Any other class is answered as fields that are refused are: both are left to
 // others.
-fn read_leaf(from: Cursor, class: u32, tables: &ByteTables) -> Option<Behind>
+fn read_leaf(from: Cursor, class: u32, table: &LeadTable) -> Option<Behind>
     ensures { Spans from.entry.input.now class from.entry.at result }
 {
     match class {
@@ -45,17 +45,17 @@ fn read_leaf(from: Cursor, class: u32, tables: &ByteTables) -> Option<Behind>
         fields::FIXED4_CLASS => fields::read_fixed(from, 4).ok(),
         fields::FIXED8_CLASS => fields::read_fixed(from, 8).ok(),
         fields::BYTES_CLASS => fields::read_bytes(from).ok(),
-        fields::TEXT_CLASS => fields::read_text(from, tables).ok(),
-        fields::SHORT_CLASS => fields::read_short(from, tables).ok(),
+        fields::TEXT_CLASS => fields::read_text(from, table).ok(),
+        fields::SHORT_CLASS => fields::read_short(from, table).ok(),
         _ => None,
     }
 }
 
 // The head of a leaf: of a node without children.
-fn head(from: Cursor, letter: u32, flag: u32, class: u32, tables: &ByteTables) -> Option<Plain>
+fn head(from: Cursor, letter: u32, flag: u32, class: u32, table: &LeadTable) -> Option<Plain>
     ensures { Leafs from.entry.input.now letter flag class from.entry.at result }
 {
-    let behind = read_leaf(from, class, tables)?;
+    let behind = read_leaf(from, class, table)?;
     match behind.kids {
         Kids::Pairs => None,
         Kids::Parts => None,
@@ -95,7 +95,7 @@ fn front(
     let byte = readsteps::byte_at(s, at);
     let letter = byte % 128;
     let flag = byte / 128;
-    let class = fields::class_at(tables, byte);
+    let class = fields::class_at(&tables.headers, byte);
     let from = Cursor {
         input: s,
         at: at + 1,
@@ -109,7 +109,7 @@ fn front(
     if room.nodes <= w.nodes {
         return None;
     }
-    head(from, letter, flag, class, tables)
+    head(from, letter, flag, class, &tables.first_bytes)
 }
 
 // A plain value, read on the spot: it has no children, so that its record and its slot are written at once. None, and nothing is written,

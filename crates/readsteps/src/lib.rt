@@ -15,7 +15,7 @@ ghost use Rattle.readsteps.specs.Linking.{Attaches, ItemNext, PairNext, PartNext
 ghost use Rattle.readsteps.specs.Linking;
 ghost use Rattle.std.specs.Prelude.{Ok};
 
-use fields::byte_tables::ByteTables;
+use fields::byte_tables::{ByteTables, LeadTable};
 use fields::cursor::Cursor;
 use refusals::{Fault, Refusal};
 
@@ -109,7 +109,7 @@ fn open_node(
     letter: u32,
     flag: u32,
     class: u32,
-    tables: &ByteTables,
+    table: &LeadTable,
 ) -> Result<Opened, Fault>
     requires { (0 < allowance) × (class < kept_classes) }
     ensures { Opens from.entry.input.now allowance letter flag class from.entry.at result }
@@ -118,7 +118,7 @@ fn open_node(
         return Err(Refusal::TooDeep.at(from.at));
     }
     // Here and in `next_part` no `?`, as in readleaves: 17.3 million instructions in place of 15.8 for code objects of CPython's library.
-    match fields::read_fields(from, class, tables) {
+    match fields::read_fields(from, class, table) {
         Err(Fault { refusal, place }) => Err(Fault { refusal, place }),
         Ok(behind) => {
             let head = Head {
@@ -162,7 +162,7 @@ pub fn front(
     let byte = byte_at(s, at);
     let letter = byte % 128;
     let flag = byte / 128;
-    let class = fields::class_at(tables, byte);
+    let class = fields::class_at(&tables.headers, byte);
     let from = Cursor {
         input: s,
         at: at + 1,
@@ -179,7 +179,7 @@ pub fn front(
     if room.nodes <= w.nodes {
         return Err(Refusal::NoNode.at(at));
     }
-    open_node(from, allowance, letter, flag, class, tables)
+    open_node(from, allowance, letter, flag, class, &tables.first_bytes)
 }
 
 // The node of one part of a code: this child, where so many came before it.

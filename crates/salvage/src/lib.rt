@@ -53,7 +53,7 @@ fn write_past(out: &mut [u8], table: &[u8], place: usize, next: usize, left: usi
     requires { (place < next) × (next ≤ length table.now) × (next ≤ length out.old) × (0 < left) × (left < 8) }
     ensures { out.new ≡ sets out.old 0 (take place table.now ++ shortened table.now place next left) }
 {
-    out[..next].copy_from_slice(&table[..next]);
+    copying::copy_bytes(&mut out[..next], &table[..next]);
     out[place] = head_for(table[place], left);
 }
 
@@ -62,7 +62,7 @@ fn write_covered(out: &mut [u8], table: &[u8], place: usize, left: usize)
     requires { (place ≤ length table.now) × (place + (left + 7) / 8 ≤ length out.old) × (left < 0x100000000) }
     ensures { out.new ≡ sets out.old 0 (take place table.now ++ fill left) }
 {
-    out[..place].copy_from_slice(&table[..place]);
+    copying::copy_bytes(&mut out[..place], &table[..place]);
     cover(out, place, left);
 }
 

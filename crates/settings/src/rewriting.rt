@@ -28,7 +28,7 @@ fn put(bytes: &[u8], room: usize, used: usize, out: &mut [u8]) -> Option<usize>
         return None;
     }
     let end = used + bytes.len();
-    out[used..end].copy_from_slice(bytes);
+    copying::copy_bytes(&mut out[used..end], bytes);
     Some(end)
 }
 

@@ -10,7 +10,7 @@ pub returns-in-Shut : goal.returns-in-Shut
 returns-in-Shut c = piece-shut _ _ _ c.requires.0 c.requires.1 c.look.ensures c.in-Shut.is c.refuse.ensures
 
 pub returns-in-Stuck : goal.returns-in-Stuck
-returns-in-Stuck c = piece-stuck _ _ _ c.requires.0 c.requires.1 c.look.ensures c.in-Stuck.is c.stick.ensures
+returns-in-Stuck c = piece-stuck _ _ _ c.requires.0 c.requires.1 c.look.ensures c.in-Stuck.is c.stick_fault.ensures
 
 pub returns-in-Open : goal.returns-in-Open
 returns-in-Open c = piece_open _ _ _ c.requires.0 c.requires.1 c.look.ensures c.in-Open.is c.take_piece.ensures

@@ -10,7 +10,7 @@ pub returns-in-OutOfRange : goal.returns-in-OutOfRange
 returns-in-OutOfRange c =
     let a = c.args in
     let p = c.requires in
-    by_entry a.state.now a.records.now a.k _ (read_held a.state.now a.records.now p.0 p.1 (replicate 25 0) refl c.fetch.ensures c.read_entry.ensures) c.in-OutOfRange.is (leaves_same (ap (stuck a.state.now a.records.now) (sym c.at.ensures)) c.stick.ensures)
+    by_entry a.state.now a.records.now a.k _ (read_held a.state.now a.records.now p.0 p.1 (replicate 25 0) refl c.fetch.ensures c.read_entry.ensures) c.in-OutOfRange.is (leaves_same (ap (stuck a.state.now a.records.now) (sym c.at.ensures)) c.stick_fault.ensures)
 
 pub returns-in-Stop : goal.returns-in-Stop
 returns-in-Stop c =

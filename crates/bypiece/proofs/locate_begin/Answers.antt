@@ -11,7 +11,7 @@ returns-then-state-lt-STATE_NUMBERS c =
 pub returns-then-room-count : goal.returns-then-room-count
 returns-then-room-count c =
     let a = c.args in
-    start_few a.first_line a.count a.state.now a.records.now c.ranges.first_line c.bits32.ensures c.as_signed.ensures c.freshen.ensures c.if-state-lt-STATE_NUMBERS.false c.if-room-count.true c.at.ensures c.stick.ensures
+    start_few a.first_line a.count a.state.now a.records.now c.ranges.first_line c.bits32.ensures c.as_signed.ensures c.freshen.ensures c.if-state-lt-STATE_NUMBERS.false c.if-room-count.true c.at.ensures c.stick_fault.ensures
 
 pub returns : goal.returns
 returns c =

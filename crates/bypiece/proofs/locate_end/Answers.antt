@@ -21,7 +21,7 @@ returns-in-Shut c =
 pub returns-in-Stuck : goal.returns-in-Stuck
 returns-in-Stuck c =
     let a = c.args in
-    end_stuck a.state.now a.records.now c.if-state-lt-STATE_NUMBERS.false c.kept_at-k.ensures c.look.ensures c.in-Stuck.is c.stick.ensures
+    end_stuck a.state.now a.records.now c.if-state-lt-STATE_NUMBERS.false c.kept_at-k.ensures c.look.ensures c.in-Stuck.is c.stick_fault.ensures
 
 pub returns-in-Open : goal.returns-in-Open
 returns-in-Open c =

@@ -12,6 +12,6 @@ pub returns : goal.returns
 returns c =
     let a = c.args in
     record_put a.archive.now a.file.now a.out.now
-    (rw c.copy_from_slice.ensures.after (put_mid-sets a.out.now a.archive.now 0 (length a.archive.now - 0) (omega (arith, c.requires.0)) (omega arith)))
+    (rw c.copy_bytes.ensures (put_mid-sets a.out.now a.archive.now 0 (length a.archive.now - 0) (omega (arith, c.requires.0)) (omega arith)))
     c.store_length.ensures
-    (rw c.copy_from_slice-2.ensures.after (put_mid-sets c.store_length.new.out a.file.now (length a.archive.now + 4) _ (omega (arith, c.requires.0, c.store_length.auto.out)) (omega arith)))
+    (rw c.copy_bytes-2.ensures (put_mid-sets c.store_length.new.out a.file.now (length a.archive.now + 4) _ (omega (arith, c.requires.0, c.store_length.auto.out)) (omega arith)))

@@ -13,5 +13,5 @@ pub returns : goal.returns
 returns c =
     let start = c in
     let header = c.args.header in
-    let entry = c.word.ensures.0 ∙ ap (λ (t : List ℕ). get_or t header 0) c.args.tables.now.are_classes in
+    let entry = c.word.ensures.0 ∙ ap (λ (t : List ℕ). get_or t header 0) c.args.table.now.right in
     subst (λ (n : ℕ). class_at n ≡ class_of (header % 128)) (sym entry) (headers_right header c.requires)

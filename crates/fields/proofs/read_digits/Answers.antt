@@ -13,19 +13,10 @@ loop-i-init c =
     let here : c.args.from.at + 0 ≡ c.args.from.at = omega arith in
     record { fewer = omega arith; stands = omega arith; within = omega (arith, c.args.from.within, c.args.from.bound); comes = λ rest. ap₂ (λ n p. digits c.args.from.input.now n p rest) all here }
 
-pub overflow_mul-place : goal.overflow_mul-place
-overflow_mul-place c = omega (arith, c.loop-i.invariant.within, c.args.from.within, c.args.from.bound)
-
-pub overflow_add-place : goal.overflow_add-place
-overflow_add-place c = omega (arith, c.loop-i.invariant.within, c.args.from.within, c.args.from.bound)
-
-pub returns-then-from-p : goal.returns-then-from-p
-returns-then-from-p c = rw c.at.ensures (digit-cut c.loop-i.invariant (omega arith) c.if-from-p.true)
-
 pub returns-then-le16-ge32768 : goal.returns-then-le16-ge32768
 returns-then-le16-ge32768 c =
-    rw c.at-then-le16-ge32768.ensures
-    (digit-bad c.loop-i.invariant (omega arith) c.if-from-p.false c.le16.ensures.0 c.if-le16-ge32768.true)
+    rw c.at.ensures
+    (digit-bad c.loop-i.invariant (omega (arith, c.min-whole.ensures)) (omega (arith, c.min-whole.ensures, c.args.from.within)) c.le16.ensures.0 c.if-le16-ge32768.true)
 
 pub loop-i-preserved : goal.loop-i-preserved
 loop-i-preserved c =
@@ -35,7 +26,13 @@ loop-i-preserved c =
     let left : count - i - 1 ≡ count - (i + 1) = omega arith in
     let place : at + 2 * i + 2 ≡ at + 2 * (i + 1) = omega arith in
     subst₂ (λ l p. Judging c.args.from.input.now count at l p) left place
-    (digit-fine c.loop-i.invariant (omega arith) c.if-from-p.false c.le16.ensures.0 c.if-le16-ge32768.false)
+    (digit-fine c.loop-i.invariant (omega (arith, c.min-whole.ensures)) (omega (arith, c.min-whole.ensures, c.args.from.within)) c.le16.ensures.0 c.if-le16-ge32768.false)
+
+pub returns-then-whole-count : goal.returns-then-whole-count
+returns-then-whole-count c =
+    let end : c.min-whole.result ≡ c.loop-i.i = omega arith in
+    rw (c.at-then-whole-count.ensures, end)
+    (digit-cut c.loop-i.invariant (omega (arith, c.min-whole.ensures)) (omega (arith, c.min-whole.ensures, c.args.from.within)))
 
 pub returns : goal.returns
-returns c = all_judged c.loop-i.invariant (omega arith)
+returns c = all_judged c.loop-i.invariant (omega (arith, c.min-whole.ensures))

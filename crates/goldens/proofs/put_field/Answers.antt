@@ -10,5 +10,5 @@ pub returns : goal.returns
 returns c =
     let a = c.args in
     field_put a.out.now a.at a.tag a.contents.now c.put_header.ensures
-    (rw c.copy_from_slice.ensures.after
+    (rw c.copy_bytes.ensures
     (put_mid-sets c.put_header.new.out a.contents.now (a.at + 3) _ (omega (arith, c.requires.0, c.put_header.auto.out)) (omega arith)))

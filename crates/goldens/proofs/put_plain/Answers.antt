@@ -21,6 +21,6 @@ returns c =
     let m : length result ≡ parts.result.size = ap length c.of-result.ensures ∙ part_length file parts.result c.args.golden.standing.result_in in
     let first = put_mid-sets out code 0 (length code - 0) (omega (arith, n, c.requires)) (omega arith) in
     let long = ap length first ∙ length-sets out 0 code in
-    rw (c.copy_from_slice.ensures.after, c.copy_from_slice-2.ensures.after)
+    rw (c.copy_bytes.ensures, c.copy_bytes-2.ensures)
     (plain-put (golden_in file parts) c.of-code.ensures c.of-result.ensures out first
     (put_mid-sets _ result (length code) (length code + length result - length code) (omega (arith, n, m, c.requires, long)) (omega arith)))

@@ -3,4 +3,4 @@ use Rattle.join.proofs.Told.{stored-both}
 use Rattle.join.proofs.write_both.Goals as goal
 
 pub returns : goal.returns
-returns c = let a = c.args in stored-both a.a.now a.b.now a.out.now c.requires c.copy_from_slice.ensures.after c.copy_from_slice-2.ensures.after
+returns c = let a = c.args in stored-both a.a.now a.b.now a.out.now c.requires c.copy_bytes.ensures c.copy_bytes-2.ensures

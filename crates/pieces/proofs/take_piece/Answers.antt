@@ -14,7 +14,7 @@ returns-then-k-piece c =
     let a = c.args in
     let p = c.requires in
     leaves_same (piece-long a.k a.state.now a.records.now p a.piece.now (omega (arith, bytes-upto a.k a.state.now a.records.now p)))
-    (leaves_same (ap (stuck a.state.now a.records.now) (sym c.at.ensures)) c.stick.ensures)
+    (leaves_same (ap (stuck a.state.now a.records.now) (sym c.at.ensures)) c.stick_fault.ensures)
 
 pub returns-then-k : goal.returns-then-k
 returns-then-k c =

@@ -6,4 +6,4 @@ use Rattle.salvage.proofs.write_covered.Goals as goal
 pub returns : goal.returns
 returns c =
     let a = c.args in
-    stored-covered a.table.now a.place a.left a.out.now (omega arith) (front-stored a.place a.table.now a.out.now (omega arith) (omega arith) c.copy_from_slice.ensures.after) c.cover.ensures
+    stored-covered a.table.now a.place a.left a.out.now (omega arith) (front-stored a.place a.table.now a.out.now (omega arith) (omega arith) c.copy_bytes.ensures) c.cover.ensures

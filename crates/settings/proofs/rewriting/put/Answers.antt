@@ -12,4 +12,4 @@ returns-then-room-used c = puts_none (elim c.then-room-used.branch [ then-room-u
 
 pub returns : goal.returns
 returns c = puts-bytes c.args.bytes.now c.if-room-used.false c.if-room-used-2.false
-    (rw c.copy_from_slice.ensures.after (put_mid-sets c.args.out.now c.args.bytes.now c.args.used _ (omega (arith, c.requires.0, c.if-room-used.false, c.if-room-used-2.false)) (omega arith)))
+    (rw c.copy_bytes.ensures (put_mid-sets c.args.out.now c.args.bytes.now c.args.used _ (omega (arith, c.requires.0, c.if-room-used.false, c.if-room-used-2.false)) (omega arith)))

@@ -1,0 +1,16 @@
+// Bytes of one slice, one after another, into another: for files that are put together of parts of others.
+// A loop, and not std's `copy_from_slice`, which the compiler makes a call of memmove: the archive for C needs no more from elsewhere than memset and
+// memcpy, and a short run of bytes is copied faster without a call.
+#![tactic(auto)]
+
+ghost use Rattle.std.specs.Prelude.{◌≡◌, length};
+
+// As many bytes as the output has.
+pub fn copy_bytes(out: &mut [u8], bytes: &[u8])
+    requires { length out.old ≡ length bytes.now }
+    ensures { out.new ≡ bytes.now }
+{
+    for i in 0..bytes.len() {
+        out[i] = bytes[i];
+    }
+}
