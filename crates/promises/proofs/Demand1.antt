@@ -30,7 +30,7 @@ use Rattle.promises.specs.Demand1.{Demand1}
 use Rattle.promises.proofs.Reading.{written_by}
 use Rattle.promises.proofs.LineEnds.{locate_ends, locations_end, salvage-ends, sources_end}
 use Rattle.promises.proofs.Joins.{join-ends, line-ends}
-use Rattle.promises.proofs.Exceptions.{decoded_in_table, decoded_ends, encoded_in_table}
+use Rattle.promises.proofs.Exceptions.{decoded_in_table, tabled_decoded_ends, encoded_in_table}
 use Rattle.promises.proofs.Goldens.{to_fields_tabled, to_plain_tabled, move_ends}
 use Rattle.promises.proofs.Settings.{setting_ends, rewrite_ends, save_ends, edition_ends}
 use Rattle.promises.proofs.Piecewise.{pieced-ends}
@@ -38,9 +38,9 @@ use Rattle.cuttings.proofs.Answered.{begin-ends, piece-ends, end_ends}
 use Rattle.promises.proofs.RowStarts.{index-ends, before-ends, at_ends}
 use Rattle.nodespan.specs.Span.{span_of}
 use Rattle.promises.proofs.Spans.{span_in_table, span-ends}
-use Rattle.promises.proofs.Nightly.{totals_in_table, added_in_table, totalled_ends, printed_in_table}
+use Rattle.promises.proofs.Nightly.{totals_in_table, added_in_table, tabled_totalled_ends, printed_in_table}
 use Rattle.promises.proofs.Numbers.{leaf_in_table, located_in_table, located_at_in_table, stored_in_table, signed_in_table, written_in_table}
-use Rattle.promises.proofs.ValueEnds.{read-ends, write_ends, leaf_ends, varint_ends, split_ends, found-ends}
+use Rattle.promises.proofs.ValueEnds.{read-ends, write_ends, leaf_ends, tabled_varint_ends, split_ends, found-ends}
 use Rattle.promises.proofs.Reclaiming.{keep_ends, more_ends}
 
 pub demand_1 : Demand1
@@ -277,25 +277,25 @@ demand_1 =
           record {
             asks_nothing = λ κs a. tt;
             returns = λ M. sillgarland.varints.sill_write_varint.Met.met;
-            ends = λ c. varint_ends (stored (length c.args.0.now) (little_endian c.args.1.0)) c.args.0.now (stored_in_table _ (little_endian c.args.1.0)) c.result _ c.meets;
+            ends = λ c. tabled_varint_ends (stored (length c.args.0.now) (little_endian c.args.1.0)) c.args.0.now (stored_in_table _ (little_endian c.args.1.0)) c.result _ c.meets;
           };
       sill_write-signed_varint =
           record {
             asks_nothing = λ κs a. tt;
             returns = λ M. sillgarland.varints.sill_write_signed_varint.Met.met;
-            ends = λ c. varint_ends (stored_signed (length c.args.0.now) (of_z w32 c.args.1.0)) c.args.0.now (signed_in_table _ (of_z w32 c.args.1.0)) c.result _ c.meets;
+            ends = λ c. tabled_varint_ends (stored_signed (length c.args.0.now) (of_z w32 c.args.1.0)) c.args.0.now (signed_in_table _ (of_z w32 c.args.1.0)) c.result _ c.meets;
           };
       sill_write_varint_be =
           record {
             asks_nothing = λ κs a. tt;
             returns = λ M. sillgarland.varints.sill_write_varint_be.Met.met;
-            ends = λ c. varint_ends (stored (length c.args.0.now) (big_endian c.args.1.0)) c.args.0.now (stored_in_table _ (big_endian c.args.1.0)) c.result _ c.meets;
+            ends = λ c. tabled_varint_ends (stored (length c.args.0.now) (big_endian c.args.1.0)) c.args.0.now (stored_in_table _ (big_endian c.args.1.0)) c.result _ c.meets;
           };
       sill_write_varint_with_start =
           record {
             asks_nothing = λ κs a. tt;
             returns = λ M. sillgarland.varints.sill_write_varint_with_start.Met.met;
-            ends = λ c. varint_ends (stored (length c.args.0.now) (big_endian_with_start c.args.1.0)) c.args.0.now (stored_in_table _ (big_endian_with_start c.args.1.0)) c.result _ c.meets;
+            ends = λ c. tabled_varint_ends (stored (length c.args.0.now) (big_endian_with_start c.args.1.0)) c.args.0.now (stored_in_table _ (big_endian_with_start c.args.1.0)) c.result _ c.meets;
           };
       sill_read_exceptions =
           record {
@@ -304,7 +304,7 @@ demand_1 =
             ends =
                 λ c.
                 let room = length c.args.1.0.now in
-                decoded_ends (decoded_of c.args.0.now room) c.args.1.0.now (decoded_in_table c.args.0.now room) c.result _ c.meets;
+                tabled_decoded_ends (decoded_of c.args.0.now room) c.args.1.0.now (decoded_in_table c.args.0.now room) c.result _ c.meets;
           };
       sill_write_exceptions =
           record {
@@ -313,7 +313,7 @@ demand_1 =
             ends =
                 λ c.
                 let room = length c.args.1.0.now in
-                varint_ends (encoded_of c.args.0.now room) c.args.1.0.now (encoded_in_table c.args.0.now room) c.result _ c.meets;
+                tabled_varint_ends (encoded_of c.args.0.now room) c.args.1.0.now (encoded_in_table c.args.0.now room) c.result _ c.meets;
           };
       sill_totals =
           record {
@@ -322,7 +322,7 @@ demand_1 =
             ends =
                 λ c.
                 let room = length c.args.1.1.0.now in
-                totalled_ends (totals_of c.args.0.now c.args.1.0.now room) c.args.1.1.0.now (totals_in_table c.args.0.now c.args.1.0.now room) c.result _ c.meets;
+                tabled_totalled_ends (totals_of c.args.0.now c.args.1.0.now room) c.args.1.1.0.now (totals_in_table c.args.0.now c.args.1.0.now room) c.result _ c.meets;
           };
       sill_add-totals =
           record {
@@ -331,7 +331,7 @@ demand_1 =
             ends =
                 λ c.
                 let room = length c.args.1.1.0.now in
-                totalled_ends (added_of c.args.0.now c.args.1.0.now room) c.args.1.1.0.now (added_in_table c.args.0.now c.args.1.0.now room) c.result _ c.meets;
+                tabled_totalled_ends (added_of c.args.0.now c.args.1.0.now room) c.args.1.1.0.now (added_in_table c.args.0.now c.args.1.0.now room) c.result _ c.meets;
           };
       sill_print_totals =
           record {
@@ -340,7 +340,7 @@ demand_1 =
             ends =
                 λ c.
                 let room = length c.args.1.0.now in
-                varint_ends (printed_of c.args.0.now room) c.args.1.0.now (printed_in_table c.args.0.now room) c.result _ c.meets;
+                tabled_varint_ends (printed_of c.args.0.now room) c.args.1.0.now (printed_in_table c.args.0.now room) c.result _ c.meets;
           };
       sill_read_varint =
           record {

@@ -46,7 +46,12 @@ pub encoded_in_table : (store : List ℕ) (room : ℕ) → TabledStore room (enc
 encoded_in_table store room = tabled room (encoded_of store room) (encoded_cleared store room)
 
 -- what the contract says of an outcome gives the end
-pub decoded_ends : (o : Result ℕ Fault × List ℕ) (lent : List ℕ) → TabledStore (length lent) o → (r : SillExceptions) (left : List ℕ) → (r, left) ≡ decoded_as o
+pub tabled_decoded_ends : (o : Result ℕ Fault × List ℕ) (lent : List ℕ) → TabledStore (length lent) o → (r : SillExceptions) (left : List ℕ) → (r, left) ≡ decoded_as o
     → Ends r (λ count. decoded_struct (Ok count)) (λ number place. record { refusal = number; place = place; count = 0 }) (Zero lent left)
-decoded_ends (Ok count, xs) lent t r left e = answers count (ap (λ x. x.0) e)
-decoded_ends (Err f, xs) lent t r left e = refuses (number_of f.refusal) f.place t.0 (ap (λ x. x.0) e) (ap (λ x. x.1) e ∙ t.1)
+tabled_decoded_ends (Ok count, xs) lent t r left e = answers count (ap (λ x. x.0) e)
+tabled_decoded_ends (Err f, xs) lent t r left e = refuses (number_of f.refusal) f.place t.0 (ap (λ x. x.0) e) (ap (λ x. x.1) e ∙ t.1)
+
+-- that the store is zero is enough
+pub decoded_ends : (o : Result ℕ Fault × List ℕ) (lent : List ℕ) → Cleared (length lent) o → (r : SillExceptions) (left : List ℕ) → (r, left) ≡ decoded_as o
+    → Ends r (λ count. decoded_struct (Ok count)) (λ number place. record { refusal = number; place = place; count = 0 }) (Zero lent left)
+decoded_ends o lent z = tabled_decoded_ends o lent (tabled (length lent) o z)

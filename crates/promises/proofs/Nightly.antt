@@ -42,7 +42,12 @@ pub printed_in_table : (store : List ℕ) (room : ℕ) → TabledStore room (pri
 printed_in_table store room = tabled room (printed_of store room) (printed_cleared store room)
 
 -- what a contract says of an outcome gives the end
-pub totalled_ends : (o : Outcome) (lent : List ℕ) → TabledStore (length lent) o → (r : SillTotalled) (left : List ℕ) → (r, left) ≡ totalled_as o
+pub tabled_totalled_ends : (o : Outcome) (lent : List ℕ) → TabledStore (length lent) o → (r : SillTotalled) (left : List ℕ) → (r, left) ≡ totalled_as o
     → Ends r (λ (done : Unit {0}). totalled_struct (Ok done)) (λ number place. record { refusal = number; place = place }) (Zero lent left)
-totalled_ends (Ok done, xs) lent t r left e = answers tt (ap (λ x. x.0) e)
-totalled_ends (Err f, xs) lent t r left e = refuses (number_of f.refusal) f.place t.0 (ap (λ x. x.0) e) (ap (λ x. x.1) e ∙ t.1)
+tabled_totalled_ends (Ok done, xs) lent t r left e = answers tt (ap (λ x. x.0) e)
+tabled_totalled_ends (Err f, xs) lent t r left e = refuses (number_of f.refusal) f.place t.0 (ap (λ x. x.0) e) (ap (λ x. x.1) e ∙ t.1)
+
+-- that the store is zero is enough
+pub totalled_ends : (o : Outcome) (lent : List ℕ) → Cleared (length lent) o → (r : SillTotalled) (left : List ℕ) → (r, left) ≡ totalled_as o
+    → Ends r (λ (done : Unit {0}). totalled_struct (Ok done)) (λ number place. record { refusal = number; place = place }) (Zero lent left)
+totalled_ends o lent z = tabled_totalled_ends o lent (tabled (length lent) o z)

@@ -27,7 +27,7 @@ use Rattle.sillgarland.specs.declared.values.SillRead.{SillRead}
 use Rattle.sillgarland.specs.declared.varints.SillWritten.{SillWritten}
 use Rattle.sillgarland.specs.declared.varints.SillFound.{SillFound}
 use Rattle.promises.specs.Demand1.{Ends, answers, refuses, Zero, VarintEnds, FoundEnds}
-use Rattle.promises.proofs.Numbers.{Tabled, reading_in_table, TabledStore}
+use Rattle.promises.proofs.Numbers.{Tabled, reading_in_table, Cleared, TabledStore, tabled}
 
 -- Each kind of definition: what its contract says of an outcome gives the end.
 pub read-ends : (s : List ℕ) (nodes entries slots : List ℕ) (nesting : ℕ) (r : SillRead) (ns es ss : List ℕ)
@@ -52,9 +52,13 @@ pub leaf_ends : (a : Answer Leaf) → Tabled a → (r : SillLeaf) → r ≡ leaf
 leaf_ends (gives l) t r h = answers (told_of l) h
 leaf_ends (stops n p) t r h = refuses n p t h tt
 
-pub varint_ends : (o : Result ℕ Fault × List ℕ) (lent : List ℕ) → TabledStore (length lent) o → (r : SillWritten) (left : List ℕ) → (r, left) ≡ written_as o → VarintEnds r (Zero lent left)
-varint_ends (Ok count, xs) lent t r left e = answers count (ap (λ x. x.0) e)
-varint_ends (Err f, xs) lent t r left e = refuses (number_of f.refusal) f.place t.0 (ap (λ x. x.0) e) (ap (λ x. x.1) e ∙ t.1)
+pub tabled_varint_ends : (o : Result ℕ Fault × List ℕ) (lent : List ℕ) → TabledStore (length lent) o → (r : SillWritten) (left : List ℕ) → (r, left) ≡ written_as o → VarintEnds r (Zero lent left)
+tabled_varint_ends (Ok count, xs) lent t r left e = answers count (ap (λ x. x.0) e)
+tabled_varint_ends (Err f, xs) lent t r left e = refuses (number_of f.refusal) f.place t.0 (ap (λ x. x.0) e) (ap (λ x. x.1) e ∙ t.1)
+
+-- that the store is zero is enough
+pub varint_ends : (o : Result ℕ Fault × List ℕ) (lent : List ℕ) → Cleared (length lent) o → (r : SillWritten) (left : List ℕ) → (r, left) ≡ written_as o → VarintEnds r (Zero lent left)
+varint_ends o lent z = tabled_varint_ends o lent (tabled (length lent) o z)
 
 pub split_ends : (x : Result Split Fault) → (r : SillSplit) → r ≡ split_struct x → (l c f m a l' c' f' m' a' ls cs fs ms bs : List ℕ)
     → l' ≡ stored_of x (length l) ls → c' ≡ stored_of x (length c) cs → f' ≡ stored_of x (length f) fs → m' ≡ stored_of x (length m) ms → a' ≡ stored_of x (length a) bs
