@@ -1,6 +1,6 @@
 -- What is copied so far is the front of the bytes. Assumes nothing.
-use mathlib.Core.Path.{◌≡◌, sym, ◌∙◌}
-use mathlib.Core.List.{List, [], ◌∷◌, ◌++◌}
+use mathlib.Core.Path.{◌≡◌, ◌∙◌}
+use mathlib.Core.List.{List}
 use Prim.Native.Nat.{ℕ, ◌+◌, ◌<◌}
 use lib.ListN.{length, set, get_or, take, length-set}
 use Rattle.std.proofs.lemmas.List.{take_more, take_more_set}

@@ -1,6 +1,6 @@
-// Bytes of one slice, one after another, into another: for files that are put together of parts of others.
-// A loop, and not std's `copy_from_slice`, which the compiler makes a call of memmove: the archive for C needs no more from elsewhere than memset and
-// memcpy, and a short run of bytes is copied faster without a call.
+// Bytes of one slice, one after another, into another: for what is put together of parts of others.
+// A loop, and not std's `copy_from_slice`, which between two lent slices becomes a call of memmove: the archive for C needs no more from elsewhere than
+// memset and memcpy.
 #![tactic(auto)]
 
 ghost use Rattle.std.specs.Prelude.{◌≡◌, length};

@@ -1,5 +1,5 @@
--- The file of an edition: each way out of `find_edition`. Assumes nothing.
-use mathlib.Core.Path.{◌≡◌, refl, sym, ap, ◌∙◌, subst}
+-- The file of an edition: each way out of `find_edition`; and an archive's fault has a number of at most a repeated tag's. Assumes nothing.
+use mathlib.Core.Path.{◌≡◌, refl, sym, ap, ◌∙◌}
 use mathlib.Core.Bool.{Bool, true, false, cond}
 use mathlib.Core.List.{List}
 use mathlib.Core.Option.{Option, none, some}
@@ -11,7 +11,6 @@ use borrow.Author.Tests.{lt-ltb, le-ltb}
 use Rattle.std.specs.Prelude.{Result, Ok, Err}
 use Rattle.std.specs.Prelude as rust
 use Rattle.refusals.specs.declared.Fault.{Fault}
-use Rattle.refusals.specs.declared.Refusal.{Refusal}
 use Rattle.refusals.specs.declared.Refusal.TheVariants.{DataTooShort, InputTooLong, NoSuchField}
 use Rattle.refusals.specs.Numbers.{repeated_tag}
 use Rattle.std.specs.Option.{ok_or}
@@ -19,12 +18,12 @@ use Rattle.refusals.specs.Faults.{fault, refused, number_of}
 use Rattle.refusals.specs.Limits.{nothing}
 use Rattle.taggedfields.specs.declared.Span.{Span}
 use Rattle.taggedfields.specs.Fields.{reading}
-use Rattle.taggedfields.proofs.Parts.{none-some, fault-most}
+use Rattle.taggedfields.proofs.Parts.{none-some, stop-most, fault-most}
 use Rattle.editions.specs.Archive.{Saved, Archive, ended, stopped, if_sound, le32, archive_from, archive_of, find_edition}
 use Rattle.editions.specs.Answers.{edition_from, edition_of}
 use Rattle.editions.specs.Meeting.{found_as, searched_from, searched}
 
--- a fault's number is one of the two that a file may have
+-- a fault's number is at most a repeated tag's, as a file's is
 number_in : (bound at : ℕ) (bytes : List ℕ) (x : Fault) → (archive_from bound at bytes).fault ≡ some x → number_of x.refusal ≤ repeated_tag
 unfolding archive_from
 number_in zero at bytes x e = absurd (none-some e)
@@ -38,19 +37,13 @@ number_in (suc bound) at bytes x e =
     this : Saved
     this = record { start = at + 4; file = take (le32 bytes) (drop 4 bytes) }
 
-    stop : (why : Refusal) (place : ℕ) → number_of why ≤ repeated_tag → some (fault why place) ≡ some x → number_of x.refusal ≤ repeated_tag
-    stop why place h q = subst (λ (y : Fault). number_of y.refusal ≤ repeated_tag) (here q) h
-      where
-        here : some (fault why place) ≡ some x → fault why place ≡ x
-        here y = cc
-
     go : (behind.fault ≡ some x → number_of x.refusal ≤ repeated_tag) → (p q r : Bool) (o : Option Fault) → (reading (take (le32 bytes) (drop 4 bytes))).fault ≡ o
         → (cond p ended (cond q (stopped DataTooShort at) (cond r (stopped DataTooShort at) (if_sound this o behind)))).fault ≡ some x → number_of x.refusal ≤ repeated_tag
     go again true q r o d z = absurd (none-some z)
-    go again false true r o d z = stop DataTooShort at (omega arith) z
-    go again false false true o d z = stop DataTooShort at (omega arith) z
+    go again false true r o d z = stop-most DataTooShort at (omega arith) z
+    go again false false true o d z = stop-most DataTooShort at (omega arith) z
     go again false false false none d z = again z
-    go again false false false (some y) d z = stop y.refusal (at + 4 + y.place) (fault-most (take (le32 bytes) (drop 4 bytes)) y d) z
+    go again false false false (some y) d z = stop-most y.refusal (at + 4 + y.place) (fault-most (take (le32 bytes) (drop 4 bytes)) y d) z
 
 pub archive_most : (archive : List ℕ) (x : Fault) → (archive_of archive).fault ≡ some x → number_of x.refusal ≤ repeated_tag
 unfolding archive_of

@@ -333,7 +333,8 @@ pub fn digit_count(count: u32) -> u32
     }
 }
 
-// So many digits, each judged as it is read. Those that are there are counted first: a test of the end at each digit takes half as much time again.
+// So many digits, each judged as it is read. Those that are there are counted first: with the end tested at each digit, by a place made anew, LLVM made both
+// refusals ready there.
 fn read_digits(from: Cursor, count: u32) -> Result<(), Fault>
     ensures { Judges from.entry.input.now (from.entry.at + 2 * count) (Fields.digits from.entry.input.now count from.entry.at) result }
 {

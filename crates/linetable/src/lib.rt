@@ -21,7 +21,7 @@ pub struct Located {
     pub whole: bool,
 }
 
-// A refusal leaves the whole store zero. What it says is of any type: a fault, or numbers that are none's.
+// A refusal leaves the whole store zero. It answers what it is given, of any type.
 pub fn refuse<E>(records: &mut [u32], why: E) -> Result<Located, E>
     ensures { (result ≡ Err why) × (records.new ≡ zeros (length records.old)) }
 {

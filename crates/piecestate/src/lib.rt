@@ -207,7 +207,7 @@ pub fn look(state: &[u32], k: Kept, room: usize) -> Gate
     Gate::Open
 }
 
-// A refusal leaves the records zero. What it says is of any type: a fault, or numbers that are none's.
+// A refusal leaves the records zero. It answers what it is given, of any type.
 pub fn refuse<E>(records: &mut [u32], why: E) -> Result<Pieced, E>
     ensures { (result ≡ Err why) × (records.new ≡ zeros (length records.old)) }
 {
@@ -215,9 +215,9 @@ pub fn refuse<E>(records: &mut [u32], why: E) -> Result<Pieced, E>
     Err(why)
 }
 
-// One that the state keeps, by any number and place. The two stores are two parameters, here and in pieces and bypiece. A struct of both is no plainer: passed by `&mut`, it would
-// have each contract say besides that its two references are the same ones; by value, `lent.exit.0.now` and `lent.exit.1.0.now` for `state.new` and
-// `records.new`.
+// One that the state keeps, by any number and place.
+// The two stores are two parameters, here and in pieces and bypiece. A struct of both is no plainer: passed by `&mut`, it would have each contract say
+// besides that its two references are the same ones; by value, `lent.exit.0.now` and `lent.exit.1.0.now` for `state.new` and `records.new`.
 pub fn stick<E>(
     state: &mut [u32],
     records: &mut [u32],

@@ -1,9 +1,9 @@
--- What the reading finds stands in the file: each field is a part of it with the length that its header says, and a fault is inside it
--- and one of two. Assumes nothing.
+-- What the reading finds stands in the file: each field is a part of it with the length that its header says, and a fault is inside it,
+-- with a number of at most a repeated tag's. Assumes nothing.
 use mathlib.Core.Path.{◌≡◌, refl, sym, ap, ◌∙◌, subst}
 use mathlib.Core.Bool.{Bool, true, false, cond}
 use mathlib.Core.List.{List, [], ◌∷◌}
-use mathlib.Core.Option.{Option, none, some}
+use mathlib.Core.Option.{Option, none, some, some-injective}
 use Prim.Native.Nat.{ℕ, zero, suc, ◌+◌, ◌*◌, ◌≤◌, ◌<◌}
 use native.Mathlib.Omega.{arith}
 use lib.Dec.{ltb, eqb}
@@ -84,31 +84,29 @@ pub fault-within : (file : List ℕ) (x : Fault) → (reading file).fault ≡ so
 unfolding reading
 fault-within file x e = fault_in_lem (length file) file [] 0 x e
 
--- a fault's number is one of two
+-- a fault is of a number of at most a repeated tag's where its refusal is
+pub stop-most : (why : Refusal) (place : ℕ) {x : Fault} → number_of why ≤ repeated_tag → some (fault why place) ≡ some x → number_of x.refusal ≤ repeated_tag
+stop-most why place {x} h q = subst (λ (y : Fault). number_of y.refusal ≤ repeated_tag) (some-injective (fault why place) x q) h
+
+-- a fault's number is at most a repeated tag's
 number-most : (bound : ℕ) (tags : List ℕ) (at : ℕ) (bytes : List ℕ) (x : Fault) → (read_from bound tags at bytes).fault ≡ some x → number_of x.refusal ≤ repeated_tag
 unfolding read_from
 number-most zero tags at bytes x e = absurd (none-some e)
 number-most (suc bound) tags at [] x e = absurd (none-some e)
 number-most (suc bound) tags at (tag ∷ bytes) x e = go bytes (λ size rest. number-most bound (tag ∷ tags) (at + 3 + size) (drop size rest) x) (among tag tags) e
   where
-    stop : (why : Refusal) → number_of why ≤ repeated_tag → some (fault why at) ≡ some x → number_of x.refusal ≤ repeated_tag
-    stop why h q = subst (λ (y : Fault). number_of y.refusal ≤ repeated_tag) (here q) h
-      where
-        here : some (fault why at) ≡ some x → fault why at ≡ x
-        here y = cc
-
     fits : (size : ℕ) (rest : List ℕ) → ((read_from bound (tag ∷ tags) (at + 3 + size) (drop size rest)).fault ≡ some x → number_of x.refusal ≤ repeated_tag) → (c : Bool)
         → (cond c (stopped DataTooShort at) (with_field (record { tag = tag; place = at; contents = take size rest }) (read_from bound (tag ∷ tags) (at + 3 + size)
         (drop size rest)))).fault ≡ some x
         → number_of x.refusal ≤ repeated_tag
-    fits size rest again true q = stop DataTooShort (omega arith) q
+    fits size rest again true q = stop-most DataTooShort at (omega arith) q
     fits size rest again false q = again q
 
     go : (l : List ℕ) → ((size : ℕ) (rest : List ℕ) → (read_from bound (tag ∷ tags) (at + 3 + size) (drop size rest)).fault ≡ some x → number_of x.refusal ≤ repeated_tag)
         → (c : Bool) → (cond c (stopped RepeatedTag at) (headed tag at l (read_from bound (tag ∷ tags)))).fault ≡ some x → number_of x.refusal ≤ repeated_tag
-    go l again true q = stop RepeatedTag (omega arith) q
-    go [] again false q = stop DataTooShort (omega arith) q
-    go (low ∷ []) again false q = stop DataTooShort (omega arith) q
+    go l again true q = stop-most RepeatedTag at (omega arith) q
+    go [] again false q = stop-most DataTooShort at (omega arith) q
+    go (low ∷ []) again false q = stop-most DataTooShort at (omega arith) q
     go (low ∷ high ∷ rest) again false q = fits (low + 256 * high) rest (again (low + 256 * high) rest) (ltb (length rest) (low + 256 * high)) q
 
 pub fault-most : (file : List ℕ) (x : Fault) → (reading file).fault ≡ some x → number_of x.refusal ≤ repeated_tag
